@@ -1,0 +1,13 @@
+pub mod Kept
+pub mod Turns
+pub mod Attempts
+pub mod Selections
+pub mod Sizes
+pub mod Phases
+pub mod Promotion
+pub mod Requests
+pub mod Marks
+pub mod Deadlines
+pub mod Templates
+pub mod Allowed
+pub mod Steps

@@ -1,0 +1,52 @@
+-- Which revisions exist, and their sizes.
+use Rattle.std.specs.Prelude.{ℕ, Bool, false, not, max, cond, ◌==◌, ◌&&◌, nat_lt, nat_le, List, [], ◌∷◌, filter}
+use Rattle.bg_history.specs.declared.entry.Entry.{Entry}
+use Rattle.bg_history.specs.declared.entry.Entry.TheVariants.{Deploy, Available, Retry, Outcome}
+use Rattle.bg_history.specs.declared.entry.Outcome.TheVariants.{Resumed, ScaledDown, Removed}
+use Rattle.bg_strategy.specs.declared.strategy.Strategy.{Strategy}
+use Rattle.bg_history.specs.Turns.{stable_of, newest_of}
+
+-- puts a number into an ascending list, once
+abbrev pub put : ℕ → List ℕ → List ℕ
+put r [] = r ∷ []
+put r (q ∷ rest) = cond (r == q) (q ∷ rest) (cond (nat_lt r q) (r ∷ q ∷ rest) (q ∷ put r rest))
+
+-- the revisions that exist, ascending: 1 and each deployed one, but those removed since
+abbrev pub existing : List Entry → List ℕ
+existing [] = 1 ∷ []
+existing (Deploy r name ports ∷ before) = put r (existing before)
+existing (Outcome (Removed r) ∷ before) = filter (λ q. not (q == r)) (existing before)
+existing (_ ∷ before) = existing before
+
+-- the greatest number that a revision was given
+abbrev pub last_number : List Entry → ℕ
+last_number [] = 1
+last_number (Deploy r name ports ∷ before) = max r (last_number before)
+last_number (_ ∷ before) = last_number before
+
+-- the entry begins an attempt of r
+abbrev pub begins : ℕ → Entry → List Entry → Bool
+begins r Retry before = r == newest_of before
+begins r (Deploy q name ports) before = (q == r) && not (r == stable_of before)
+begins r _ before = false
+
+-- n where the test holds and n is greater, else the size
+abbrev pub at_least : Bool → ℕ → ℕ → ℕ
+at_least test n size = cond test (max n size) size
+
+-- the size that is wanted of r
+abbrev pub desired : Strategy → ℕ → List Entry → ℕ
+desired s r [] = cond (r == 1) s.replicas 0
+desired s r (Outcome (ScaledDown q) ∷ before) = cond (q == r) 0 (desired s r before)
+desired s r (Outcome (Resumed q) ∷ before) = at_least (q == r) s.replicas (desired s r before)
+desired s r (e ∷ before) = at_least (begins r e before) s.preview_replicas (desired s r before)
+
+-- the size that r last reported since it was scaled down
+abbrev pub available : ℕ → List Entry → ℕ
+available r [] = 0
+available r (Available q n ∷ before) = cond (q == r) n (available r before)
+available r (Outcome (ScaledDown q) ∷ before) = cond (q == r) 0 (available r before)
+available r (_ ∷ before) = available r before
+
+abbrev pub is_scaled : Strategy → ℕ → List Entry → Bool
+is_scaled s r past = nat_le 1 (desired s r past)

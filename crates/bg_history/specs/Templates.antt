@@ -1,0 +1,27 @@
+-- The name and the ports of each revision.
+use Rattle.std.specs.Prelude.{ℕ, Bool, false, cond, ◌==◌, List, [], ◌∷◌, find, Option, Some, None}
+use Rattle.std.specs.Option.{option_or}
+use Rattle.std.specs.Str.{bytes_eq}
+use Rattle.bg_history.specs.declared.entry.Entry.{Entry}
+use Rattle.bg_history.specs.declared.entry.Entry.TheVariants.{Deploy}
+use Rattle.bg_history.specs.Sizes.{existing}
+use Rattle.bg_history.specs.Kept.{Template, Opening}
+
+-- the template of r's first deploy, or for revision 1 that of the opening
+abbrev pub template : Opening → ℕ → List Entry → Option Template
+template o r [] = cond (r == 1) (Some o.template) None
+template o r (Deploy q name ports ∷ before) =
+    option_or (template o r before) (cond (q == r) (Some (record { name = name; ports = ports })) None)
+template o r (_ ∷ before) = template o r before
+
+abbrev pub is_named : List ℕ → Option Template → Bool
+is_named name None = false
+is_named name (Some t) = bytes_eq t.name name
+
+abbrev pub has_ports : List ℕ → Option Template → Bool
+has_ports ports None = false
+has_ports ports (Some t) = bytes_eq t.ports ports
+
+-- the existing revision of that name
+abbrev pub owner : Opening → List ℕ → List Entry → Option ℕ
+owner o name past = find (λ q. is_named name (template o q past)) (existing past)

@@ -1,0 +1,99 @@
+//! The list of entries.
+ghost use Rattle.std.specs.Prelude.{◌≡◌, ◌+◌, ◌<◌, ◌≤◌, ◌∷◌, [], IfOk, OnOk, OnErr, slice_get, slice_index, length, reverse, option_map, replicate};
+
+#[cfg(test)]
+mod tests;
+
+use crate::entry::Entry;
+use bg_revisions::{Name, Ports};
+use std::alloc::{AllocError, Global};
+use std::marker::Model;
+
+/// The entries of a book since its opening, which only grow.
+///
+/// Contracts see the past newest first, the revision and the seats of the opening, the closed requests of
+/// each seat, and `spare`: the places that are reserved for further entries.
+#[derive(Drop)]
+pub struct History {
+    name: Name,
+    ports: Ports,
+    closed: Vec<u64>,
+    entries: Vec<Entry>,
+    spare: usize,
+}
+
+impl Model for History {
+    ghost use Rattle.std.specs.Prelude.{◌+◌, ◌≤◌, reverse, vec_len, vec_capacity};
+    ghost use Rattle.bg_history.specs.Kept.{Kept};
+
+    ghost Value = { Kept };
+
+    ghost view = { λ h. record { opening = record { seats = vec_len h.closed; template = record { name = h.name; ports = h.ports } }; closed = h.closed.items; past = reverse h.entries.items; spare = h.spare } };
+
+    ghost invariant = { λ h. vec_len h.entries + h.spare ≤ vec_capacity h.entries };
+}
+
+impl History {
+    /// A history of no entry, whose first revision has this name and these ports, for as many seats.
+    /// Refused only where memory is.
+    pub fn new(alloc: Global, seats: u32, name: &str, ports: &[u16]) -> Result<History, AllocError>
+        ensures { IfOk result (λ h. h ≡ record { opening = record { seats = seats; template = record { name = name.now; ports = ports.now } }; closed = replicate seats 0; past = []; spare = 0 }) }
+    {
+        let closed = vec![in alloc; 0u64; seats as usize]?;
+        Ok(History {
+            name: Name::new(alloc, name)?,
+            ports: Ports::new(alloc, ports)?,
+            closed,
+            entries: Vec::new(alloc),
+            spare: 0,
+        })
+    }
+
+    /// Makes `spare` at least `n`, and takes the memory for it: at least as much as there is already, where
+    /// it takes any. Refused only where memory is, and then nothing changes.
+    pub fn reserve(&mut self, n: u32) -> Result<(), AllocError>
+        ensures ok { OnOk result (n ≤ self.new.spare) }
+        ensures spare { self.old.spare ≤ self.new.spare }
+        ensures rest { record self.new { spare = self.old.spare } ≡ self.old }
+        ensures err { OnErr result (self.new ≡ self.old) }
+    {
+        let n = n as usize;
+        if n > self.spare {
+            self.entries.reserve(n)?;
+            self.spare = n;
+        }
+        Ok(())
+    }
+
+    /// Appends an entry, which takes no memory.
+    pub fn push_reserved(&mut self, entry: Entry)
+        requires { 1 ≤ self.old.spare }
+        ensures entry { self.new ≡ record self.old { past = entry ∷ self.old.past; spare = self.new.spare } }
+        ensures spare { self.new.spare + 1 ≡ self.old.spare }
+    {
+        self.entries.push_reserved(entry);
+        self.spare -= 1;
+    }
+
+    /// The number of entries.
+    pub fn len(&self) -> u64
+        ensures { result ≡ length self.now.past }
+    {
+        self.entries.len() as u64
+    }
+
+    /// The entry at a place, counted from the oldest one, which is 0; none past the newest.
+    pub fn get(&self, place: u64) -> Option<&Entry>
+        ensures { option_map (λ e. e.now) result ≡ slice_get (reverse self.now.past) place }
+    {
+        self.entries.get(place as usize)
+    }
+
+    /// The number of a seat's requests whose entries were dropped.
+    pub fn closed(&self, seat: u32) -> u64
+        requires { seat < self.now.opening.seats }
+        ensures { result ≡ slice_index self.now.closed seat }
+    {
+        self.closed[seat as usize]
+    }
+}

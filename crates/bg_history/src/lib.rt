@@ -1,0 +1,11 @@
+//! The history of a rollout: its entries, and what they say.
+//!
+//! A history only grows. Everything that the switch keeps running, as a phase, a size or an open request, is
+//! defined in `specs/` as a question about the history, by cases on its newest entry.
+#![tactic(auto)]
+
+mod entry;
+mod history;
+
+pub use entry::{Analysis, Entry, Finding, Outcome};
+pub use history::History;

@@ -1,0 +1,62 @@
+-- What follows from what stands in an attempt.
+use Rattle.std.proofs.Common.{◌≡◌, ℕ, Bool, true, false, ◌&&◌, ◌||◌, List, [], ◌∷◌, Option, None, refl, arith, is_some}
+use Rattle.std.proofs.lemmas.Grind.{common_steps}
+use Rattle.bg_history.specs.declared.entry.Entry.{Entry}
+use Rattle.bg_history.specs.declared.entry.Entry.TheVariants.{Tick, Deploy, Available, Verdict, Promote, PromoteFull, Abort, Retry, Enter, Leave, Outcome}
+use Rattle.bg_history.specs.declared.entry.Outcome.TheVariants.{Ready, Resumed, Switched, Promoted, ScaledDown, Removed}
+use Rattle.bg_history.specs.declared.entry.Finding.TheVariants.{Successful, Failed, Error}
+use Rattle.bg_history.specs.declared.entry.Analysis.TheVariants.{Pre}
+use Rattle.bg_strategy.specs.declared.strategy.Strategy.{Strategy}
+use Rattle.bg_history.specs.Turns.{moment, is_turn, is_running}
+use Rattle.bg_history.specs.Attempts.{in_attempt, has_ready, is_ready, first_at, is_passed, pass_moment, passes}
+
+-- only a turn begins or ends an attempt
+is_running-turnless : (e : Entry) (before : List Entry) → is_turn e ≡ false → is_running (e ∷ before) ≡ is_running before
+is_running-turnless (Tick m) before h = refl
+is_running-turnless (Deploy r name ports) before h = grind arith
+is_running-turnless (Available r n) before h = refl
+is_running-turnless (Verdict analysis Successful) before h = refl
+is_running-turnless (Verdict analysis Failed) before h = grind arith
+is_running-turnless (Verdict analysis Error) before h = grind arith
+is_running-turnless Promote before h = refl
+is_running-turnless PromoteFull before h = refl
+is_running-turnless Abort before h = grind arith
+is_running-turnless Retry before h = grind arith
+is_running-turnless (Enter seat service number r port) before h = refl
+is_running-turnless (Leave seat number r) before h = refl
+is_running-turnless (Outcome (Ready r)) before h = refl
+is_running-turnless (Outcome (Resumed r)) before h = refl
+is_running-turnless (Outcome (Switched r)) before h = refl
+is_running-turnless (Outcome (Promoted r)) before h = grind arith
+is_running-turnless (Outcome (ScaledDown r)) before h = refl
+is_running-turnless (Outcome (Removed r)) before h = refl
+
+-- where an entry stands in the running attempt, an attempt runs
+pub in_attempt_runs : (test : Entry → Bool) (past : List Entry) → in_attempt test past ≡ true → is_running past ≡ true
+in_attempt_runs test [] h = grind arith
+in_attempt_runs test (e ∷ before) h = grind (arith, common_steps, is_running-turnless e before, in_attempt_runs test before)
+
+-- an entry that passes the attempt is its Ready, or comes after it
+passes-ready : (s : Strategy) (e : Entry) (before : List Entry) → passes s e before ≡ true → ((is_ready e && is_running before) || has_ready before) ≡ true
+passes-ready s (Outcome (Ready r)) before h = grind (arith, common_steps)
+passes-ready s (Verdict Pre Successful) before h = grind (arith, common_steps)
+passes-ready s e before h = grind arith
+
+-- what is first at a moment was kept, or comes now
+first_at-some : (now : Bool) (at : ℕ) (kept : Option ℕ) → is_some (first_at now at kept) ≡ true → (now || is_some kept) ≡ true
+first_at-some true at kept h = refl
+first_at-some false at kept h = h
+
+-- where the attempt has passed, its revision is ready
+passed_is_ready : (s : Strategy) (past : List Entry) → is_passed s past ≡ true → has_ready past ≡ true
+passed_is_ready s [] h = grind arith
+passed_is_ready s (e ∷ before) h =
+    grind (arith, common_steps, passes-ready s e before, first_at-some (passes s e before) (moment before) (pass_moment s before), passed_is_ready s before)
+
+-- where the attempt has passed, an attempt runs
+pub passed_runs : (s : Strategy) (past : List Entry) → is_passed s past ≡ true → is_running past ≡ true
+passed_runs s past h = in_attempt_runs is_ready past (passed_is_ready s past h)
+
+-- where the revision isn't ready, the attempt hasn't passed
+pub unready_unpassed : (s : Strategy) (past : List Entry) → has_ready past ≡ false → pass_moment s past ≡ None
+unready_unpassed s past h = grind (arith, common_steps, passed_is_ready s past)

@@ -1,0 +1,2 @@
+mod Attempts
+pub mod Neutral

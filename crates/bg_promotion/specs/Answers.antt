@@ -1,0 +1,63 @@
+-- What each command is answered, and what the services select.
+use Rattle.std.specs.Prelude.{Bool, true, false, cond, not, List, Result, Ok, Err}
+use Rattle.bg_history.specs.declared.entry.Entry.{Entry}
+use Rattle.bg_history.specs.declared.entry.Analysis.{Analysis}
+use Rattle.bg_history.specs.declared.entry.Outcome.{Outcome}
+use Rattle.bg_history.specs.declared.entry.Outcome.TheVariants.{Ready, Resumed, Switched, Promoted, ScaledDown, Removed}
+use Rattle.bg_strategy.specs.declared.strategy.Strategy.{Strategy}
+use Rattle.bg_revisions.specs.declared.revision.Selectors.{Selectors}
+use Rattle.bg_history.specs.Turns.{stable_of, newest_of, is_running, is_halted}
+use Rattle.bg_history.specs.Attempts.{has_promote_full}
+use Rattle.bg_history.specs.Phases.{is_paused}
+use Rattle.bg_history.specs.Selections.{active_of, preview_of}
+use Rattle.bg_history.specs.Allowed.{awaits}
+use Rattle.bg_promotion.specs.declared.faults.AbortFault as abort
+use Rattle.bg_promotion.specs.declared.faults.AbortFault.TheVariants as abort_fault
+use Rattle.bg_promotion.specs.declared.faults.RetryFault as retry
+use Rattle.bg_promotion.specs.declared.faults.RetryFault.TheVariants as retry_fault
+use Rattle.bg_promotion.specs.declared.faults.PromoteFault as promote
+use Rattle.bg_promotion.specs.declared.faults.PromoteFault.TheVariants as promote_fault
+use Rattle.bg_promotion.specs.declared.faults.PromoteFullFault as full
+use Rattle.bg_promotion.specs.declared.faults.PromoteFullFault.TheVariants as full_fault
+use Rattle.bg_promotion.specs.declared.faults.VerdictFault as verdict
+use Rattle.bg_promotion.specs.declared.faults.VerdictFault.TheVariants as verdict_fault
+
+-- the revisions that are active, preview, stable and newest
+abbrev pub selectors_of : List Entry → Selectors
+selectors_of past = record { active = active_of past; preview = preview_of past; stable = stable_of past; newest = newest_of past }
+
+-- an abort is refused where the last attempt is stopped already, and where none runs
+abbrev pub abort_answer : List Entry → Result (Unit {0}) abort.AbortFault
+abort_answer past =
+    cond (is_halted past) (Err abort_fault.AlreadyAborted)
+    (cond (is_running past) (Ok tt) (Err abort_fault.NothingToAbort))
+
+-- a retry is refused where the last attempt isn't stopped
+abbrev pub retry_answer : List Entry → Result (Unit {0}) retry.RetryFault
+retry_answer past = cond (is_halted past) (Ok tt) (Err retry_fault.NotAborted)
+
+-- a promotion is accepted in a pause alone; elsewhere it is told whether the last attempt is stopped
+abbrev pub promote_answer : Strategy → List Entry → Result (Unit {0}) promote.PromoteFault
+promote_answer s past =
+    cond (is_paused s past) (Ok tt)
+    (cond (is_halted past) (Err promote_fault.Aborted) (Err promote_fault.NotPaused))
+
+-- a full promotion is refused where the last attempt is stopped, where none runs, and where one was given in this attempt
+abbrev pub promote_full_answer : List Entry → Result (Unit {0}) full.PromoteFullFault
+promote_full_answer past =
+    cond (is_halted past) (Err full_fault.Aborted)
+    (cond (not (is_running past)) (Err full_fault.NothingToPromote)
+    (cond (has_promote_full past) (Err full_fault.AlreadyFull) (Ok tt)))
+
+-- a verdict is refused where its analysis isn't awaited
+abbrev pub verdict_answer : Analysis → Strategy → List Entry → Result (Unit {0}) verdict.VerdictFault
+verdict_answer analysis s past = cond (awaits analysis s past) (Ok tt) (Err verdict_fault.NoAnalysis)
+
+-- the outcome is a step of an attempt
+abbrev pub is_step : Outcome → Bool
+is_step (Ready r) = true
+is_step (Resumed r) = true
+is_step (Switched r) = true
+is_step (Promoted r) = true
+is_step (ScaledDown r) = false
+is_step (Removed r) = false

@@ -1,0 +1,4 @@
+pub mod Standing
+pub mod Stands
+pub mod Phases
+pub mod Answers

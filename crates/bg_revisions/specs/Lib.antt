@@ -1,0 +1,2 @@
+pub mod PortLists
+pub mod Rosters

@@ -1,0 +1,84 @@
+-- The revisions that exist, by ascending number.
+use Rattle.std.specs.Prelude.{◌≡◌, ◌≤◌, ◌<◌, ℕ, Bool, true, false, cond, ◌==◌, ◌&&◌, nat_le, List, [], ◌∷◌, length, find, Option, Some, None, Result, Ok, Err}
+use Rattle.std.specs.Str.{bytes_eq}
+use Rattle.bg_strategy.specs.Label.{is_label}
+use Rattle.bg_revisions.specs.PortLists.{are_ports}
+use Rattle.bg_revisions.specs.declared.revision.Revision.{Revision}
+use Rattle.bg_revisions.specs.declared.revision_fault.RevisionFault.{RevisionFault}
+use Rattle.bg_revisions.specs.declared.revision_fault.RevisionFault.TheVariants.{BadName, BadPorts, SameTemplate, PortsDiffer, TooManyRevisions, NoSuchRevision, MoreThanDesired, OutOfMemory}
+
+-- the endpoints of a revision at full size, the revisions, and the greatest number ever given
+pub record Listing : Type 0 where
+  pub replicas : ℕ
+  pub revisions : List Revision
+  pub last : ℕ
+
+-- the revision of that number
+abbrev pub numbered : ℕ → List Revision → Option Revision
+numbered number revisions = find (λ v. v.number == number) revisions
+
+-- the revision of that name
+abbrev pub named : List ℕ → List Revision → Option Revision
+named name revisions = find (λ v. bytes_eq v.name name) revisions
+
+-- the name is a label and the ports are those of a revision
+abbrev pub has_form : ℕ → List ℕ → List ℕ → Bool
+has_form replicas name ports = is_label name && are_ports replicas ports
+
+-- a name that is no label is refused first, then wrong ports
+abbrev pub form_of : ℕ → List ℕ → List ℕ → Result (Unit {0}) RevisionFault
+form_of replicas name ports = cond (is_label name) (cond (are_ports replicas ports) (Ok tt) (Err BadPorts)) (Err BadName)
+
+-- there is a revision, and it has this name and these ports
+abbrev pub is_template : List ℕ → List ℕ → Option Revision → Bool
+is_template name ports None = false
+is_template name ports (Some v) = bytes_eq v.name name && bytes_eq v.ports ports
+
+-- the number of a revision with these ports, or none where there is no revision
+abbrev pub owner_of : List ℕ → Option Revision → Result (Option ℕ) RevisionFault
+owner_of ports None = Ok None
+owner_of ports (Some v) = cond (bytes_eq v.ports ports) (Ok (Some v.number)) (Err PortsDiffer)
+
+-- the newest revision's template is refused first, then other ports under the name of a revision
+abbrev pub template_of : ℕ → List ℕ → List ℕ → List Revision → Result (Option ℕ) RevisionFault
+template_of newest name ports revisions =
+    cond (is_template name ports (numbered newest revisions)) (Err SameTemplate) (owner_of ports (named name revisions))
+
+-- why a revision isn't added
+abbrev pub refused_by : List Revision → RevisionFault
+refused_by revisions = cond (nat_le 64 (length revisions)) TooManyRevisions OutOfMemory
+
+-- the revision of that number wants n endpoints; where it wants none, none is available
+abbrev pub resized : ℕ → ℕ → Revision → Revision
+resized number n v = cond (v.number == number) (record v { desired = n; available = cond (n == 0) 0 v.available }) v
+
+-- the revision of that number has n endpoints available
+abbrev pub reported : ℕ → ℕ → Revision → Revision
+reported number n v = cond (v.number == number) (record v { available = n }) v
+
+-- a report of n endpoints is of a revision that wants as many
+abbrev pub report_of : ℕ → Option Revision → Result (Unit {0}) RevisionFault
+report_of n None = Err NoSuchRevision
+report_of n (Some v) = cond (nat_le n v.desired) (Ok tt) (Err MoreThanDesired)
+
+-- each number is above the one before it, the first above `low`, and none is above `last`
+abbrev pub Ascends : ℕ → ℕ → List Revision → Type 0
+Ascends low last [] = low ≤ last
+Ascends low last (v ∷ more) = (low < v.number) × Ascends v.number last more
+
+-- no two revisions have one name
+abbrev pub HasOwnNames : List Revision → Type 0
+HasOwnNames [] = Unit {0}
+HasOwnNames (v ∷ more) = (named v.name more ≡ None) × HasOwnNames more
+
+-- each revision's name is a label, and each has the ports of a revision
+abbrev pub HasForms : ℕ → List Revision → Type 0
+HasForms replicas [] = Unit {0}
+HasForms replicas (v ∷ more) = (has_form replicas v.name v.ports ≡ true) × HasForms replicas more
+
+-- what holds of every roster
+pub record IsRoster (r : Listing) : Type 0 where
+  pub few : length r.revisions ≤ 64
+  pub ascends : Ascends 0 r.last r.revisions
+  pub own_names : HasOwnNames r.revisions
+  pub forms : HasForms r.replicas r.revisions

@@ -1,0 +1,18 @@
+//! The revisions of a rollout, and which of them the services select.
+#![tactic(auto)]
+
+mod form;
+mod name;
+mod ports;
+mod revision;
+mod revision_fault;
+mod roster;
+#[cfg(test)]
+mod tests;
+
+pub use form::has_ports_form;
+pub use name::Name;
+pub use ports::Ports;
+pub use revision::{Revision, Selectors, Service};
+pub use revision_fault::RevisionFault;
+pub use roster::{MOST_REVISIONS, Roster};

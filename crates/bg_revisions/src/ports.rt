@@ -1,0 +1,36 @@
+//! The ports of a revision.
+ghost use Rattle.std.specs.Prelude.{◌≡◌, IfOk};
+
+use std::alloc::{AllocError, Global};
+use std::marker::Model;
+
+/// The ports at which a revision's endpoints listen, in order, which contracts see as a list.
+#[derive(Drop, Debug)]
+pub struct Ports {
+    numbers: Vec<u16>,
+}
+
+impl Model for Ports {
+    ghost use Rattle.std.specs.Prelude.{List, ℕ};
+
+    ghost Value = { List ℕ };
+
+    ghost view = { λ p. p.numbers.items };
+}
+
+impl Ports {
+    /// Copies `numbers`; refused only where memory is.
+    pub fn new(alloc: Global, numbers: &[u16]) -> Result<Ports, AllocError>
+        ensures { IfOk result (λ p. p ≡ numbers.now) }
+    {
+        let copy = numbers.to_vec(alloc)?;
+        Ok(Ports { numbers: copy })
+    }
+
+    /// The ports in order.
+    pub fn get(&self) -> &[u16]
+        ensures { result.now ≡ self.now }
+    {
+        self.numbers.as_slice()
+    }
+}

@@ -1,0 +1,226 @@
+//! The revisions that exist.
+ghost use Rattle.std.specs.Prelude.{◌≡◌, ◌<◌, ◌≤◌, ◌+◌, ◌^◌, true, [], ◌∷◌, ◌++◌, ◌==◌, not, length, map, filter, slice_get, IsNone, IsSome, IsErr, IfSome, IfOk, IfErr, OnOk, OnErr};
+ghost use Rattle.std.specs.Option.{option_copied, IsSomeAnd};
+ghost use Rattle.bg_revisions.specs.Rosters.{numbered, named, has_form, form_of, template_of, refused_by, resized, reported, report_of, IsRoster};
+
+use crate::form::has_ports_form;
+use crate::name::Name;
+use crate::ports::Ports;
+use crate::revision::Revision;
+use crate::revision_fault::RevisionFault;
+use bg_strategy::is_dns_label;
+use std::alloc::{AllocError, Global};
+use std::marker::Model;
+
+/// The most revisions that exist at one time.
+pub const MOST_REVISIONS: usize = 64;
+
+/// The revisions that exist, by ascending number, and the greatest number ever given.
+#[derive(Drop)]
+pub struct Roster {
+    alloc: Global,
+    replicas: u32,
+    last: u64,
+    revisions: Vec<Revision>,
+}
+
+impl Model for Roster {
+    ghost use Rattle.bg_revisions.specs.Rosters.{Listing, IsRoster};
+
+    ghost Value = { Listing };
+
+    ghost view = { λ r. record { replicas = r.replicas; revisions = r.revisions.items; last = r.last } };
+
+    ghost invariant = { λ r. IsRoster (record { replicas = r.replicas; revisions = r.revisions.items; last = r.last }) };
+}
+
+impl Roster {
+    /// A roster with no revision, for revisions of `replicas` endpoints at full size; refused only
+    /// where memory is.
+    pub fn new(alloc: Global, replicas: u32) -> Result<Roster, AllocError>
+        ensures { IfOk result (λ r. r ≡ record { replicas = replicas; revisions = []; last = 0 }) }
+    {
+        Ok(Roster {
+            alloc,
+            replicas,
+            last: 0,
+            revisions: Vec::with_capacity(alloc, MOST_REVISIONS)?,
+        })
+    }
+
+    /// Whether a revision may have this name and these ports: `BadName` where the name is no DNS
+    /// label, then `BadPorts` where they aren't distinct numbers from 1, one for each replica.
+    pub fn fits(&self, name: &str, ports: &[u16]) -> Result<(), RevisionFault>
+        ensures { result ≡ form_of self.now.replicas name.now ports.now }
+    {
+        if !is_dns_label(name) {
+            return Err(RevisionFault::BadName);
+        }
+        if !has_ports_form(self.replicas, ports) {
+            return Err(RevisionFault::BadPorts);
+        }
+        Ok(())
+    }
+
+    /// The number of the revision with this name and these ports, or none where the name is new.
+    /// `SameTemplate` where the revision numbered `newest` has both, then `PortsDiffer` where a
+    /// revision of this name has other ports; their order counts.
+    pub fn find_template(
+        &self,
+        newest: u64,
+        name: &str,
+        ports: &[u16],
+    ) -> Result<Option<u64>, RevisionFault>
+        ensures { result ≡ template_of newest name.now ports.now self.now.revisions }
+    {
+        if let Some(revision) = self.find_number(newest) {
+            if revision.name.get() == name && revision.ports.get() == ports {
+                return Err(RevisionFault::SameTemplate);
+            }
+        }
+        match self.find_name(name) {
+            None => Ok(None),
+            Some(revision) if revision.ports.get() == ports => Ok(Some(revision.number)),
+            Some(_) => Err(RevisionFault::PortsDiffer),
+        }
+    }
+
+    /// Adds a revision that wants `desired` endpoints and has none available, and answers its
+    /// number, one above all numbers ever given. `TooManyRevisions` where 64 exist.
+    pub fn add(&mut self, name: &str, ports: &[u16], desired: u32) -> Result<u64, RevisionFault>
+        requires fits { has_form self.old.replicas name.now ports.now ≡ true }
+        requires is_new { IsNone (named name.now self.old.revisions) }
+        requires numbers { self.old.last < 2 ^ 53 }
+        ensures number { IfOk result (λ n. n ≡ self.old.last + 1) }
+        ensures added { IfOk result (λ n. self.new ≡ record self.old {
+          revisions = self.old.revisions ++ record {
+            number = n;
+            name = name.now;
+            ports = ports.now;
+            desired = desired;
+            available = 0;
+          } ∷ [];
+          last = n;
+        }) }
+        ensures full { 64 ≤ length self.old.revisions → IsErr result }
+        ensures fault { IfErr result (λ e. e ≡ refused_by self.old.revisions) }
+        ensures unchanged { OnErr result (self.new ≡ self.old) }
+    {
+        if self.revisions.len() >= MOST_REVISIONS {
+            return Err(RevisionFault::TooManyRevisions);
+        }
+        let name = Name::new(self.alloc, name)?;
+        let ports = Ports::new(self.alloc, ports)?;
+        let number = self.last + 1;
+        self.revisions.push(Revision {
+            number,
+            name,
+            ports,
+            desired,
+            available: 0,
+        })?;
+        self.last = number;
+        Ok(number)
+    }
+
+    /// The greatest number ever given, at first 0.
+    pub fn last(&self) -> u64
+        ensures { result ≡ self.now.last }
+    {
+        self.last
+    }
+
+    /// The revision of this name.
+    pub fn find_name(&self, name: &str) -> Option<&Revision>
+        ensures { option_copied result ≡ named name.now self.now.revisions }
+    {
+        self.revisions
+            .iter()
+            .find(|revision| revision.name.get() == name)
+    }
+
+    /// The revision of this number.
+    pub fn find_number(&self, number: u64) -> Option<&Revision>
+        ensures { option_copied result ≡ numbered number self.now.revisions }
+    {
+        self.revisions
+            .iter()
+            .find(|revision| revision.number == number)
+    }
+
+    /// How many revisions exist, at most 64.
+    pub fn count(&self) -> usize
+        ensures count { result ≡ length self.now.revisions }
+        ensures every_roster { IsRoster self.now }
+    {
+        self.revisions.len()
+    }
+
+    /// The revision at a place, from 0, in the order of numbers.
+    pub fn at(&self, place: usize) -> Option<&Revision>
+        ensures { option_copied result ≡ slice_get self.now.revisions place }
+    {
+        self.revisions.get(place)
+    }
+
+    /// Sets how many endpoints a revision wants; where it wants none, none is available.
+    pub fn set_desired(&mut self, number: u64, desired: u32)
+        requires { IsSome (numbered number self.old.revisions) }
+        ensures { self.new ≡ record self.old { revisions = map (resized number desired) self.old.revisions } }
+    {
+        for revision in self.revisions.iter_mut() {
+            resize(revision, number, desired);
+        }
+    }
+
+    /// Takes in a report of how many endpoints of a revision are available. `NoSuchRevision` where
+    /// none has this number, then `MoreThanDesired` where it wants fewer.
+    pub fn set_available(&mut self, number: u64, available: u32) -> Result<(), RevisionFault>
+        ensures result { result ≡ report_of available (numbered number self.old.revisions) }
+        ensures reported { OnOk result
+            (self.new ≡ record self.old { revisions = map (reported number available) self.old.revisions }) }
+        ensures unchanged { OnErr result (self.new ≡ self.old) }
+    {
+        match self.find_number(number) {
+            None => return Err(RevisionFault::NoSuchRevision),
+            Some(revision) if revision.desired < available => {
+                return Err(RevisionFault::MoreThanDesired);
+            }
+            Some(_) => {}
+        }
+        for revision in self.revisions.iter_mut() {
+            report(revision, number, available);
+        }
+        Ok(())
+    }
+
+    /// Removes a revision, which wants no endpoint. Its number isn't given again.
+    pub fn remove(&mut self, number: u64)
+        requires { IsSomeAnd (numbered number self.old.revisions) (λ v. v.desired ≡ 0) }
+        ensures { self.new ≡ record self.old
+            { revisions = filter (λ v. not (v.number == number)) self.old.revisions } }
+    {
+        self.revisions.retain(|revision| revision.number != number);
+    }
+}
+
+/// Sets how many endpoints the revision wants, where it has this number.
+fn resize(revision: &mut Revision, number: u64, desired: u32)
+    ensures { revision.new ≡ resized number desired revision.old }
+{
+    if revision.number == number {
+        revision.desired = desired;
+        if desired == 0 {
+            revision.available = 0;
+        }
+    }
+}
+
+/// Sets how many endpoints of the revision are available, where it has this number.
+fn report(revision: &mut Revision, number: u64, available: u32)
+    ensures { revision.new ≡ reported number available revision.old }
+{
+    if revision.number == number {
+        revision.available = available;
+    }
+}

@@ -1,0 +1,2 @@
+pub mod NoFault
+pub mod SomeBytes

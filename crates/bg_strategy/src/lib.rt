@@ -1,0 +1,28 @@
+//! The strategy of a blue-green rollout, and how it is read from a Rollout's JSON.
+#![tactic(auto)]
+
+mod fault;
+mod first_fault;
+mod label;
+mod lookup;
+mod reading;
+mod service_name;
+mod strategy;
+mod table;
+mod values;
+
+pub use fault::StrategyFault;
+pub use label::is_dns_label;
+pub use reading::read;
+pub use service_name::ServiceName;
+pub use strategy::Strategy;
+pub use table::Field;
+
+#[cfg(test)]
+mod copy_tests;
+#[cfg(test)]
+mod document_tests;
+#[cfg(test)]
+mod part_tests;
+#[cfg(test)]
+mod samples;

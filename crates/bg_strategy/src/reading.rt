@@ -1,0 +1,67 @@
+//! Reads a strategy.
+ghost use Rattle.std.specs.Prelude.{◌≡◌, ◌⊎◌, ◌<◌, length, None, Err, IfOk, IfErr};
+ghost use Rattle.serde_json.specs.View.{view};
+ghost use Rattle.bg_strategy.specs.Lookup.{text_of as text_in};
+ghost use Rattle.bg_strategy.specs.Faults.{strategy_fault_of as strategy_fault_in};
+ghost use Rattle.bg_strategy.specs.Settings.{IsStrategyOf};
+ghost use Rattle.bg_strategy.specs.Reading.{IsStrategyIn, IsFaultIn};
+
+use crate::fault::StrategyFault;
+use crate::first_fault::strategy_fault_of;
+use crate::lookup::{boolean_of, is_set, number_of, number_or, text_of};
+use crate::service_name::ServiceName;
+use crate::strategy::Strategy;
+use crate::table::Field;
+use serde_json::Value;
+use std::alloc::{AllocError, Global};
+
+/// Reads the strategy of a Rollout from the bytes of its JSON text, as `kubectl get -o json` writes
+/// it (Argo Rollouts, "Rollout Specification" and "BlueGreen Deployment Strategy").
+///
+/// A field that is null counts as absent, and so does an empty name of a service; unknown fields are
+/// passed over. The error is the first fault: `NotJson`; then for the fields in the order of `Field`
+/// `Missing`, after all of these `WrongType`, then `OutOfRange`; then `SameService`. `OutOfMemory`
+/// comes where memory is refused, which may be before another fault is seen.
+pub fn read(alloc: Global, bytes: &[u8]) -> Result<Strategy, StrategyFault>
+    ensures ok { IfOk result (IsStrategyIn bytes.now) }
+    ensures fault { IfErr result (λ e. (e ≡ StrategyFault.OutOfMemory) ⊎ IsFaultIn bytes.now e) }
+    ensures out_of_memory { result ≡ Err StrategyFault.OutOfMemory → 0 < length bytes.now }
+{
+    let document = Value::from_slice(alloc, bytes)?;
+    if let Some(fault) = strategy_fault_of(&document) {
+        return Err(fault);
+    }
+    Ok(strategy_of(alloc, &document)?)
+}
+
+fn strategy_of(alloc: Global, document: &Value) -> Result<Strategy, AllocError>
+    requires { strategy_fault_in (view document.now) ≡ None }
+    ensures { IfOk result (IsStrategyOf (view document.now)) }
+{
+    let active_service = name_of(alloc, Field::ActiveService, document)?.unwrap();
+    let preview_service = name_of(alloc, Field::PreviewService, document)?;
+    let replicas = number_or(Field::Replicas, document, 1);
+    let preview_replicas = number_or(Field::PreviewReplicaCount, document, replicas);
+    Ok(Strategy {
+        active_service,
+        preview_service,
+        replicas,
+        preview_replicas: preview_replicas.min(replicas),
+        auto_promotion: boolean_of(Field::AutoPromotionEnabled, document).unwrap_or(true),
+        auto_seconds: number_or(Field::AutoPromotionSeconds, document, 0),
+        pre: is_set(Field::PrePromotionAnalysis, document),
+        post: is_set(Field::PostPromotionAnalysis, document),
+        delay: number_or(Field::ScaleDownDelaySeconds, document, 30),
+        revision_limit: number_of(Field::ScaleDownDelayRevisionLimit, document),
+        history_limit: number_or(Field::RevisionHistoryLimit, document, 10),
+    })
+}
+
+fn name_of(alloc: Global, field: Field, document: &Value) -> Result<Option<ServiceName>, AllocError>
+    ensures { IfOk result (λ o. text_in field (view document.now) ≡ o) }
+{
+    match text_of(field, document) {
+        Some(text) => Ok(Some(ServiceName::new(alloc, text)?)),
+        None => Ok(None),
+    }
+}

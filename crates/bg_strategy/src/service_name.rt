@@ -1,0 +1,45 @@
+//! The name of a service.
+ghost use Rattle.std.specs.Prelude.{◌≡◌, ℕ, List, IfOk, string_bytes};
+
+use std::alloc::{AllocError, Global};
+use std::marker::Model;
+
+/// The name of a Kubernetes Service, which contracts see as the list of its bytes.
+#[derive(Drop, Debug)]
+pub struct ServiceName {
+    text: String,
+}
+
+impl Model for ServiceName {
+    ghost Value = { List ℕ };
+
+    ghost view = { λ n. string_bytes n.text };
+}
+
+impl ServiceName {
+    /// Copies `text`; refused only where memory is.
+    pub fn new(alloc: Global, text: &str) -> Result<ServiceName, AllocError>
+        ensures { IfOk result (λ n. n ≡ text.now) }
+    {
+        let copy = String::from_str(alloc, text)?;
+        Ok(ServiceName { text: copy })
+    }
+
+    /// The text.
+    pub fn get(&self) -> &str
+        ensures { result.now ≡ self.now }
+    {
+        self.text.as_str()
+    }
+}
+
+/// The copy has the same text; refused only where memory is.
+impl Clone for ServiceName {
+    ghost is_clone = { λ name copy. copy ≡ name };
+
+    fn clone(&self) -> Result<ServiceName, AllocError> {
+        Ok(ServiceName {
+            text: self.text.clone()?,
+        })
+    }
+}
