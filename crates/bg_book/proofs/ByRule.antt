@@ -1,0 +1,69 @@
+-- Of every legal history: the active service was moved by the documented rule alone.
+use Rattle.std.proofs.Common.{◌≡◌, ℕ, Bool, true, false, cond, ◌==◌, ◌&&◌, ◌||◌, List, [], ◌∷◌, refl, ap, ◌∙◌}
+use Rattle.bg_strategy.specs.declared.strategy.Strategy.{Strategy}
+use Rattle.bg_history.specs.declared.entry.Entry.{Entry}
+use Rattle.bg_history.specs.declared.entry.Entry.TheVariants.{Tick, Deploy, Available, Verdict, Promote, PromoteFull, Abort, Retry, Enter, Leave, Outcome}
+use Rattle.bg_history.specs.declared.entry.Outcome.TheVariants.{Ready, Resumed, Switched, Promoted, ScaledDown, Removed}
+use Rattle.bg_history.specs.declared.entry.Finding.TheVariants.{Successful, Failed, Error}
+use Rattle.bg_history.specs.Kept.{Opening}
+use Rattle.bg_history.specs.Turns.{stable_of}
+use Rattle.bg_history.specs.Selections.{active_of}
+use Rattle.bg_history.specs.Allowed.{is_allowed}
+use Rattle.bg_history.specs.Steps.{all_allowed}
+use Rattle.bg_book.specs.Headline.{switches_by_rule, goes_back, moves_by_rule, is_reached_by_rule}
+use Rattle.bg_book.proofs.Requests.{and_parts, and_both, eq_refl, eq_from}
+
+or_true : (a : Bool) → (a || true) ≡ true
+or_true true = refl
+or_true false = refl
+
+-- the active service keeps its revision
+stays : (s : Strategy) (e : Entry) (before : List Entry) → active_of (e ∷ before) ≡ active_of before → moves_by_rule s e before ≡ true
+stays s e before same =
+    ap (λ (n : ℕ). (n == active_of before) || switches_by_rule s e before || (goes_back e before && (active_of (e ∷ before) == stable_of before))) same
+    ∙ ap (λ b. b || switches_by_rule s e before || (goes_back e before && (active_of (e ∷ before) == stable_of before))) (eq_refl (active_of before))
+
+-- it goes back to the stable revision
+returns_to_stable : (s : Strategy) (e : Entry) (before : List Entry) → goes_back e before ≡ true → active_of (e ∷ before) ≡ stable_of before → moves_by_rule s e before ≡ true
+returns_to_stable s e before back same =
+    ap (λ b. (active_of (e ∷ before) == active_of before) || switches_by_rule s e before || b)
+    (and_both (goes_back e before) (active_of (e ∷ before) == stable_of before) back (ap (λ (n : ℕ). n == stable_of before) same ∙ eq_refl (stable_of before)))
+    ∙ or_true ((active_of (e ∷ before) == active_of before) || switches_by_rule s e before)
+
+-- it is switched by the rule
+switches : (s : Strategy) (e : Entry) (before : List Entry) → switches_by_rule s e before ≡ true → moves_by_rule s e before ≡ true
+switches s e before allowed =
+    ap (λ b. (active_of (e ∷ before) == active_of before) || b || (goes_back e before && (active_of (e ∷ before) == stable_of before))) allowed
+    ∙ ap (λ b. b || (goes_back e before && (active_of (e ∷ before) == stable_of before))) (or_true (active_of (e ∷ before) == active_of before))
+
+deploys : (s : Strategy) (r : ℕ) (name ports : List ℕ) (before : List Entry) (b : Bool) → (r == stable_of before) ≡ b → moves_by_rule s (Deploy r name ports) before ≡ true
+deploys s r name ports before true e =
+    returns_to_stable s (Deploy r name ports) before e (ap (λ b. cond b r (active_of before)) e ∙ eq_from r (stable_of before) e)
+deploys s r name ports before false e = stays s (Deploy r name ports) before (ap (λ b. cond b r (active_of before)) e)
+
+pub moves : (s : Strategy) (o : Opening) (e : Entry) (before : List Entry) → is_allowed s o e before ≡ true → moves_by_rule s e before ≡ true
+moves s o (Tick m) before h = stays s (Tick m) before refl
+moves s o (Deploy r name ports) before h = deploys s r name ports before (r == stable_of before) refl
+moves s o (Available r n) before h = stays s (Available r n) before refl
+moves s o (Verdict analysis Successful) before h = stays s (Verdict analysis Successful) before refl
+moves s o (Verdict analysis Failed) before h = returns_to_stable s (Verdict analysis Failed) before refl refl
+moves s o (Verdict analysis Error) before h = returns_to_stable s (Verdict analysis Error) before refl refl
+moves s o Promote before h = stays s Promote before refl
+moves s o PromoteFull before h = stays s PromoteFull before refl
+moves s o Abort before h = returns_to_stable s Abort before refl refl
+moves s o Retry before h = stays s Retry before refl
+moves s o (Enter seat service number r port) before h = stays s (Enter seat service number r port) before refl
+moves s o (Leave seat number r) before h = stays s (Leave seat number r) before refl
+moves s o (Outcome (Ready r)) before h = stays s (Outcome (Ready r)) before refl
+moves s o (Outcome (Resumed r)) before h = stays s (Outcome (Resumed r)) before refl
+moves s o (Outcome (Switched r)) before h = switches s (Outcome (Switched r)) before h
+moves s o (Outcome (Promoted r)) before h = stays s (Outcome (Promoted r)) before refl
+moves s o (Outcome (ScaledDown r)) before h = stays s (Outcome (ScaledDown r)) before refl
+moves s o (Outcome (Removed r)) before h = stays s (Outcome (Removed r)) before refl
+
+-- each entry of a legal history moves the active service by the rule, or not at all
+pub reached_by_rule : (s : Strategy) (o : Opening) (past : List Entry) → all_allowed s o past ≡ true → is_reached_by_rule s past ≡ true
+reached_by_rule s o [] h = refl
+reached_by_rule s o (e ∷ before) h =
+    let both = and_parts (is_allowed s o e before) (all_allowed s o before) h in
+    and_both (moves_by_rule s e before) (is_reached_by_rule s before) (moves s o e before both.0) (reached_by_rule s o before both.1)

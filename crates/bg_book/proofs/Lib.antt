@@ -1,0 +1,15 @@
+pub mod Quiet
+pub mod Requests
+pub mod Seats
+pub mod Seating
+pub mod Legal
+pub mod Lists
+pub mod Unmarked
+pub mod ByRule
+pub mod Headlines
+pub mod Offers
+pub mod Events
+pub mod Entering
+pub mod Leaving
+pub mod Openings
+pub mod Running

@@ -1,0 +1,112 @@
+-- What stands in a book that was just opened.
+use Rattle.std.proofs.Common.{◌≡◌, ℕ, suc, ◌+◌, ◌*◌, ◌<◌, ◌≤◌, ◌^◌, Bool, true, false, not, ◌&&◌, ◌||◌, nat_lt, nat_le, List, [], ◌∷◌, length, slice_get, replicate, sum, Option, Some, None, Result, Ok, Err, refl, sym, ap, ◌∙◌, arith}
+use Rattle.std.specs.Prelude.{IfErr}
+use Rattle.std.proofs.Common.{inr}
+use Rattle.std.proofs.lemmas.List.{get_or-replicate}
+use Rattle.std.proofs.lemmas.List.Folds.{sum_by-replicate}
+use Rattle.bg_strategy.specs.declared.strategy.Strategy.{Strategy}
+use Rattle.bg_strategy.specs.Label.{is_label}
+use Rattle.bg_revisions.specs.PortLists.{are_ports}
+use Rattle.bg_promotion.specs.Standing.{Standing}
+use Rattle.bg_promotion.specs.Stands.{StandsFor}
+use Rattle.bg_book.specs.declared.limits.Limits.{Limits}
+use Rattle.bg_book.specs.declared.seat.Seat.{Seat}
+use Rattle.bg_book.specs.declared.fault.OpenFault as opening
+use Rattle.bg_book.specs.declared.fault.OpenFault.TheVariants as fault
+use Rattle.bg_book.specs.Refusals.{is_above_usual, open_refusal, AnswersBy}
+use Rattle.bg_book.specs.Replies.{NewSeats, opened}
+use Rattle.bg_book.specs.States.{seat_of}
+use Rattle.bg_book.specs.Stands.{Stands}
+use Rattle.bg_book.proofs.Events.{passed, within}
+use Rattle.bg_book.proofs.Quiet.{quiet-opening}
+use Rattle.bg_book.proofs.Requests.{and_both, some_is}
+
+it_is : (t : Bool) → not t ≡ false → t ≡ true
+it_is true h = refl
+it_is false h = absurd (cc)
+
+neither : (s t : Bool) → (s || t) ≡ false → (s ≡ false) × (t ≡ false)
+neither false t h = (refl, h)
+neither true t h = absurd (cc)
+
+-- what an opening without a fault meets
+pub record Fits (s : Strategy) (name ports : List ℕ) (seats : ℕ) (limits : Limits) : Type 0 where
+  pub name_fits : is_label name ≡ true
+  pub ports_fit : are_ports s.replicas ports ≡ true
+  pub seats_fit : (nat_le 1 seats && nat_le seats 8) ≡ true
+  pub entries_fit : limits.entries ≤ 1000000
+  pub numbers_fit : limits.numbers ≤ 2 ^ 53
+
+pub fits : (s : Strategy) (name ports : List ℕ) (seats : ℕ) (limits : Limits) → open_refusal s name ports seats limits ≡ None → Fits s name ports seats limits
+fits s name ports seats limits h =
+    let one = passed (not (is_label name)) fault.BadName _ h in
+    let two = passed (not (are_ports s.replicas ports)) fault.BadPorts _ one.1 in
+    let three = passed (not (nat_le 1 seats && nat_le seats 8)) fault.BadSeats _ two.1 in
+    let four = passed (is_above_usual limits) fault.BadLimits None three.1 in
+    let usual = neither (nat_lt 1000000 limits.entries) (nat_lt (2 ^ 53) limits.numbers) four.0 in
+    record {
+      name_fits = it_is (is_label name) one.0;
+      ports_fit = it_is (are_ports s.replicas ports) two.0;
+      seats_fit = it_is (nat_le 1 seats && nat_le seats 8) three.0;
+      entries_fit = within 1000000 limits.entries usual.0;
+      numbers_fit = within (2 ^ 53) limits.numbers usual.1;
+    }
+
+and_three : (a b c : Bool) → a ≡ true → (b && c) ≡ true → (a && b && c) ≡ true
+and_three true b c h k = k
+and_three false b c h k = absurd (cc)
+
+none_closed : (n : ℕ) → sum (replicate n 0) ≡ 0
+none_closed n = omega (arith, sum_by-replicate (λ (x : ℕ). x) n 0)
+
+new_seat : (n i : ℕ) → i < n → seat_of (replicate n 0) i [] ≡ record { index = i; calls = 0; number = 0; revision = 0; port = 0 }
+new_seat n i h = ap (λ (c : ℕ). record { index = i; calls = 0 + 2 * c; number = 0; revision = 0; port = 0 }) (get_or-replicate n i 0 0 h)
+
+-- a book that was just opened
+pub stands-opened : (s : Strategy) (name ports : List ℕ) (count : ℕ) (limits : Limits) (seats : List Seat) (core : Standing) (spare : ℕ) → Fits s name ports count limits
+    → StandsFor s core [] → NewSeats count seats
+    → Stands (opened s name ports count limits seats)
+    (record { core = core; roster = record { replicas = s.replicas; revisions = record { number = 1; name = name; ports = ports; desired = s.replicas; available = 0 } ∷ []; last = 1 }; moment = 0; given = 0; open_requests = 0; spare = spare })
+stands-opened s name ports count limits seats core spare fit stand new = record {
+  core = stand;
+  revisions = refl;
+  replicas = refl;
+  lists = refl;
+  seats = record { count = new.count_is; each = λ i h. new.each i h ∙ ap Some (sym (new_seat count i h)) };
+  moment = refl;
+  given = omega (arith, none_closed count);
+  open_is = refl;
+  legal = record {
+    opening = and_three (is_label name && are_ports s.replicas ports) (nat_le 1 count) (nat_le count 8) (and_both (is_label name) (are_ports s.replicas ports) fit.name_fits fit.ports_fit) fit.seats_fit;
+    allowed = refl;
+    numbers = refl;
+  };
+  quiet = quiet-opening s (record { seats = count; template = record { name = name; ports = ports } });
+  available = omega arith;
+  requests = record { differ = tt; first = refl; given = refl };
+  spare = omega arith;
+  room = omega arith;
+  entries = fit.entries_fit;
+  numbers = fit.numbers_fit;
+  spent = omega arith;
+}
+
+-- an answer of which want of memory is the only fault
+pub answers_by_memory : {A : Type 0} (refusal : Option opening.OpenFault) (r : Result A opening.OpenFault) → refusal ≡ None → IfErr r (λ e. e ≡ fault.OutOfMemory)
+    → AnswersBy refusal fault.OutOfMemory r
+answers_by_memory refusal (Ok a) h e = h
+answers_by_memory refusal (Err x) h e = inr (h, e)
+
+same_lists_of : {X : Type 0} (xs ys : List X) → length xs ≡ length ys → ((i : ℕ) → i < length xs → slice_get xs i ≡ slice_get ys i) → xs ≡ ys
+same_lists_of [] [] l h = refl
+same_lists_of [] (y ∷ ys) l h = absurd (omega (arith, l))
+same_lists_of (x ∷ xs) [] l h = absurd (omega (arith, l))
+same_lists_of {X = X} (x ∷ xs) (y ∷ ys) l h =
+    let head : x ≡ y = some_is x y (h 0 (omega arith)) in
+    let rest : xs ≡ ys = same_lists_of xs ys (omega (arith, l)) (λ i k. h (suc i) (omega (arith, k))) in
+    ap (λ (z : X). z ∷ xs) head ∙ ap (λ (zs : List X). y ∷ zs) rest
+
+-- two lists of as many new seats are the same
+pub new_seats_same : (n : ℕ) (xs ys : List Seat) → NewSeats n xs → NewSeats n ys → xs ≡ ys
+new_seats_same n xs ys a b =
+    same_lists_of xs ys (a.count_is ∙ sym b.count_is) (λ i h. let few : i < n = omega (arith, h, a.count_is) in a.each i few ∙ sym (b.each i few))

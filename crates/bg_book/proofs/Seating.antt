@@ -1,0 +1,105 @@
+-- What the record of a seat says of the past.
+use Rattle.std.proofs.Common.{◌≡◌, ◌≢◌, ℕ, zero, suc, ◌+◌, ◌<◌, ◌≤◌, ◌^◌, Bool, true, false, cond, ◌==◌, List, [], ◌∷◌, length, slice_get, get_or, slice_index, sum, Option, Some, None, refl, sym, ap, ◌∙◌, arith}
+use Rattle.std.proofs.lemmas.Bool.Decides.{nat_tests}
+use Rattle.std.proofs.lemmas.List.Sums.{sum_by-cons}
+use Rattle.std.proofs.lemmas.Option.{slice_get_within, get_or_from_slice_get}
+use Rattle.bg_history.specs.declared.entry.Entry.{Entry}
+use Rattle.bg_history.specs.declared.entry.Entry.TheVariants.{Tick, Deploy, Available, Verdict, Promote, PromoteFull, Abort, Retry, Enter, Leave, Outcome}
+use Rattle.bg_history.specs.Requests.{Request, open_requests, held_by, entered, given, calls_in, calls_of}
+use Rattle.bg_book.specs.declared.seat.Seat.{Seat}
+use Rattle.bg_book.specs.Routing.{Routing}
+use Rattle.bg_book.specs.States.{seated, seat_of}
+use Rattle.bg_book.specs.Stands.{Running, Stands, has_number}
+use Rattle.bg_book.proofs.Requests.{found_passes, some_is, eq_from}
+
+-- the record of a seat is what the past says
+pub record Seated (b : Routing) (seat : Seat) : Type 0 where
+  pub within : seat.index < b.opening.seats
+  pub is : seat_of b.closed seat.index b.past ≡ seat
+
+pub seated_of : (b : Routing) (k : Running) (seat : Seat) → Stands b k → slice_get b.seats seat.index ≡ Some seat → Seated b seat
+seated_of b k seat stand known =
+    let within : seat.index < b.opening.seats = omega (arith, slice_get_within b.seats seat.index seat known, stand.seats.count) in
+    record { within = within; is = some_is _ _ (sym (stand.seats.each seat.index within) ∙ known) }
+
+held_number : (b : Routing) (k : Running) (i : ℕ) (x : Request) → Stands b k → held_by i b.past ≡ Some x → has_number (given b.closed b.past) x ≡ true
+held_number b k i x stand held = found_passes (λ q. q.seat == i) (has_number (given b.closed b.past)) (open_requests b.past) x held stand.requests.given
+
+-- a seat that is out holds no request
+pub out_holds_none : (b : Routing) (k : Running) (seat : Seat) → Stands b k → slice_get b.seats seat.index ≡ Some seat → seat.number ≡ 0 → held_by seat.index b.past ≡ None
+out_holds_none b k seat stand known zero_number = go (held_by seat.index b.past) refl where
+  go : (h : Option Request) → held_by seat.index b.past ≡ h → h ≡ None
+  go None e = refl
+  go (Some x) e =
+      let is : seated seat.index (calls_of b.closed seat.index b.past) (Some x) ≡ seat =
+      ap (seated seat.index (calls_of b.closed seat.index b.past)) (sym e) ∙ (seated_of b k seat stand known).is in
+      let none : x.number ≡ 0 = ap (λ (v : Seat). v.number) is ∙ zero_number in
+      let some : has_number (given b.closed b.past) x ≡ true = held_number b k seat.index x stand e in
+      absurd (grind (arith, nat_tests))
+
+-- a seat that is in holds the request of its record
+pub record Holds (b : Routing) (seat : Seat) (x : Request) : Type 0 where
+  pub held : held_by seat.index b.past ≡ Some x
+  pub number : x.number ≡ seat.number
+  pub revision : x.revision ≡ seat.revision
+  pub first : x.revision ≡ 1
+  pub is_given : has_number (given b.closed b.past) x ≡ true
+
+pub in_holds : (b : Routing) (k : Running) (seat : Seat) → Stands b k → slice_get b.seats seat.index ≡ Some seat → seat.number ≢ 0 → (x : Request) × Holds b seat x
+in_holds b k seat stand known some = go (held_by seat.index b.past) refl where
+  go : (h : Option Request) → held_by seat.index b.past ≡ h → (x : Request) × Holds b seat x
+  go None e =
+      absurd (some (sym (ap (λ (v : Seat). v.number) (ap (seated seat.index (calls_of b.closed seat.index b.past)) (sym e) ∙ (seated_of b k seat stand known).is))))
+  go (Some x) e =
+      let is : seated seat.index (calls_of b.closed seat.index b.past) (Some x) ≡ seat =
+      ap (seated seat.index (calls_of b.closed seat.index b.past)) (sym e) ∙ (seated_of b k seat stand known).is in (
+        x,
+        record {
+          held = e;
+          number = ap (λ (v : Seat). v.number) is;
+          revision = ap (λ (v : Seat). v.revision) is;
+          first = eq_from x.revision 1 (found_passes (λ q. q.seat == seat.index) (λ q. q.revision == 1) (open_requests b.past) x e stand.requests.first);
+          is_given = held_number b k seat.index x stand e;
+        },
+      )
+
+one_or_none : (t : Bool) (n m : ℕ) → n ≤ m → cond t 1 0 + n ≤ m + 1
+one_or_none true n m h = omega (arith, h)
+one_or_none false n m h = omega (arith, h)
+
+-- a seat has made few calls
+calls_few : (i : ℕ) (past : List Entry) → calls_in i past ≤ length past
+calls_few i [] = omega arith
+calls_few i (Tick m ∷ past) = omega (arith, calls_few i past)
+calls_few i (Deploy r name ports ∷ past) = omega (arith, calls_few i past)
+calls_few i (Available r n ∷ past) = omega (arith, calls_few i past)
+calls_few i (Verdict a f ∷ past) = omega (arith, calls_few i past)
+calls_few i (Promote ∷ past) = omega (arith, calls_few i past)
+calls_few i (PromoteFull ∷ past) = omega (arith, calls_few i past)
+calls_few i (Abort ∷ past) = omega (arith, calls_few i past)
+calls_few i (Retry ∷ past) = omega (arith, calls_few i past)
+calls_few i (Enter seat service number r port ∷ past) = omega (arith, one_or_none (seat == i) (calls_in i past) (length past) (calls_few i past))
+calls_few i (Leave seat number r ∷ past) = omega (arith, one_or_none (seat == i) (calls_in i past) (length past) (calls_few i past))
+calls_few i (Outcome x ∷ past) = omega (arith, calls_few i past)
+
+part_of_sum : (xs : List ℕ) (i : ℕ) → slice_index xs i ≤ sum xs
+part_of_sum [] i = omega arith
+part_of_sum (x ∷ xs) zero = omega (arith, sum_by-cons (λ (n : ℕ). n) x xs)
+part_of_sum (x ∷ xs) (suc i) = let rest : slice_index (x ∷ xs) (suc i) ≤ sum xs = part_of_sum xs i in omega (arith, rest, sum_by-cons (λ (n : ℕ). n) x xs)
+
+pub few_calls : (b : Routing) (k : Running) (seat : Seat) → Stands b k → slice_get b.seats seat.index ≡ Some seat → seat.calls < 2 ^ 60
+few_calls b k seat stand known =
+    let calls : calls_of b.closed seat.index b.past ≡ seat.calls = calls_is (held_by seat.index b.past) (seated_of b k seat stand known).is in
+    let few = calls_few seat.index b.past in
+    let part = part_of_sum b.closed seat.index in
+    let total : entered b.past + sum b.closed ≤ 2 ^ 53 = omega (arith, stand.given, stand.spent, stand.numbers) in
+    let short : length b.past ≤ 1000000 = omega (arith, stand.room, stand.entries) in
+    omega (arith, calls, few, part, total, short)
+  where
+    calls_is : (h : Option Request) → seated seat.index (calls_of b.closed seat.index b.past) h ≡ seat → calls_of b.closed seat.index b.past ≡ seat.calls
+    calls_is None e = ap (λ (v : Seat). v.calls) e
+    calls_is (Some x) e = ap (λ (v : Seat). v.calls) e
+
+-- the record that was read at a seat's index
+pub seat_read : (seats : List Seat) (i n : ℕ) (seat v : Seat) → slice_get seats i ≡ Some seat → n ≡ i → v ≡ get_or seats n v → v ≡ seat
+seat_read seats i n seat v known same read = read ∙ ap (λ (m : ℕ). get_or seats m v) same ∙ get_or_from_slice_get seats i seat v known

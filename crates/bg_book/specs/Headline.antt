@@ -1,0 +1,63 @@
+-- What holds of a book between its calls.
+use Rattle.std.specs.Prelude.{◌≡◌, ℕ, Bool, false, ◌==◌, ◌&&◌, ◌||◌, IsTrue, List, [], ◌∷◌, length, find, map, Option, Some, None}
+use Rattle.bg_strategy.specs.declared.strategy.Strategy.{Strategy}
+use Rattle.bg_history.specs.declared.entry.Entry.{Entry}
+use Rattle.bg_history.specs.declared.entry.Entry.TheVariants.{Deploy, Outcome}
+use Rattle.bg_history.specs.declared.entry.Outcome.TheVariants.{Switched}
+use Rattle.bg_history.specs.Turns.{is_halt, stable_of}
+use Rattle.bg_history.specs.Selections.{active_of, preview_of}
+use Rattle.bg_history.specs.Sizes.{is_scaled}
+use Rattle.bg_history.specs.Promotion.{may_switch}
+use Rattle.bg_history.specs.Deadlines.{exists_in}
+use Rattle.bg_history.specs.Requests.{open_at}
+use Rattle.bg_history.specs.Steps.{IsLegal, is_settled}
+use Rattle.bg_book.specs.declared.open_list.OpenRequest.{OpenRequest}
+use Rattle.bg_book.specs.OpenLists.{OpenAt, lists_of}
+use Rattle.bg_book.specs.Routing.{Routing}
+use Rattle.bg_book.specs.States.{SeatsStand}
+
+-- the entry is a switch that is allowed
+abbrev pub switches_by_rule : Strategy → Entry → List Entry → Bool
+switches_by_rule s (Outcome (Switched r)) before = may_switch s r before
+switches_by_rule s _ before = false
+
+-- the entry stops an attempt, or deploys the stable revision again
+abbrev pub goes_back : Entry → List Entry → Bool
+goes_back (Deploy r name ports) before = r == stable_of before
+goes_back e before = is_halt e
+
+-- the active service keeps its revision at the entry, or is switched by the rule, or goes back to the stable revision
+abbrev pub moves_by_rule : Strategy → Entry → List Entry → Bool
+moves_by_rule s e before =
+    (active_of (e ∷ before) == active_of before) || switches_by_rule s e before
+    || (goes_back e before && (active_of (e ∷ before) == stable_of before))
+
+-- at the opening the active service selects revision 1, and each later move is by the rule
+abbrev pub is_reached_by_rule : Strategy → List Entry → Bool
+is_reached_by_rule s [] = active_of [] == 1
+is_reached_by_rule s (e ∷ before) = moves_by_rule s e before && is_reached_by_rule s before
+
+-- r exists and is scaled
+abbrev pub stands_scaled : Strategy → ℕ → List Entry → Bool
+stands_scaled s r past = exists_in r past && is_scaled s r past
+
+abbrev pub requests_in : Option OpenAt → List OpenRequest
+requests_in None = []
+requests_in (Some l) = l.requests
+
+-- the requests in the list of r; none where it has no list
+abbrev pub list_of : ℕ → List OpenAt → List OpenRequest
+list_of r lists = requests_in (find (λ l. l.revision == r) lists)
+
+-- the headline
+pub record Headline (b : Routing) : Type 0 where
+  pub legal : IsLegal b.strategy b.opening b.closed b.past
+  pub settled : IsTrue (is_settled b.strategy b.past)
+  pub active : IsTrue (stands_scaled b.strategy (active_of b.past) b.past)
+  pub preview : IsTrue (stands_scaled b.strategy (preview_of b.past) b.past)
+  pub by_rule : IsTrue (is_reached_by_rule b.strategy b.past)
+  pub lists : b.lists ≡ lists_of b.past
+  pub listed : (r : ℕ) → map (λ q. q.number) (list_of r b.lists) ≡ open_at r b.past
+  pub counted : (r : ℕ) → length (list_of r b.lists) ≡ length (open_at r b.past)
+  pub seats : SeatsStand b.opening b.closed b.past b.seats
+  pub unscaled : (r : ℕ) → is_scaled b.strategy r b.past ≡ false → open_at r b.past ≡ []

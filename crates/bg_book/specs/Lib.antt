@@ -1,0 +1,9 @@
+pub mod OpenLists
+pub mod Routing
+pub mod States
+pub mod Refusals
+pub mod Replies
+pub mod Headline
+pub mod Quiet
+pub mod Stands
+pub mod Runs

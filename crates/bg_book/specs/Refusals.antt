@@ -1,0 +1,99 @@
+-- Which call is refused, by which fault: the first that applies, want of memory aside.
+use Rattle.std.specs.Prelude.{◌≡◌, ℕ, ◌+◌, ◌*◌, ◌^◌, ◌==◌, ◌⊎◌, Bool, ◌&&◌, ◌||◌, not, cond, nat_lt, nat_le, List, length, Option, Some, None, Result, Ok, Err}
+use Rattle.std.specs.Option.{option_or}
+use Rattle.bg_strategy.specs.declared.strategy.Strategy.{Strategy}
+use Rattle.bg_strategy.specs.Label.{is_label}
+use Rattle.bg_revisions.specs.PortLists.{are_ports}
+use Rattle.bg_revisions.specs.declared.revision.Service.{Service}
+use Rattle.bg_history.specs.declared.entry.Entry.{Entry}
+use Rattle.bg_history.specs.declared.entry.Entry.TheVariants as event
+use Rattle.bg_history.specs.Turns.{moment}
+use Rattle.bg_history.specs.Sizes.{desired, available}
+use Rattle.bg_history.specs.Deadlines.{exists_in}
+use Rattle.bg_history.specs.Requests.{open_requests, given}
+use Rattle.bg_history.specs.Allowed.{selection, port_of}
+use Rattle.bg_book.specs.declared.limits.Limits.{Limits}
+use Rattle.bg_book.specs.declared.calls.Control.{Control}
+use Rattle.bg_book.specs.declared.calls.Control.TheVariants.{Tick, Available}
+use Rattle.bg_book.specs.declared.calls.Ticket.{Ticket}
+use Rattle.bg_book.specs.declared.fault.OpenFault as opening
+use Rattle.bg_book.specs.declared.fault.OpenFault.TheVariants as open_fault
+use Rattle.bg_book.specs.declared.fault.EnterFault as enter
+use Rattle.bg_book.specs.declared.fault.EnterFault.TheVariants as enter_fault
+use Rattle.bg_book.specs.declared.fault.ControlFault as control
+use Rattle.bg_book.specs.declared.fault.ControlFault.TheVariants as control_fault
+use Rattle.bg_book.specs.Routing.{Routing}
+
+-- the fault where the test holds, else the next one
+abbrev pub fault_if : {F : Type 0} → Bool → F → Option F → Option F
+fault_if test fault next = cond test (Some fault) next
+
+-- the answer of a test: refused by the fault, where there is one
+abbrev pub refuse : {F : Type 0} → Option F → Result (Unit {0}) F
+refuse None = Ok tt
+refuse (Some e) = Err e
+
+-- the usual limits, above which no book is opened
+abbrev pub is_above_usual : Limits → Bool
+is_above_usual l = nat_lt 1000000 l.entries || nat_lt (2 ^ 53) l.numbers
+
+-- why no book is opened
+abbrev pub open_refusal : Strategy → List ℕ → List ℕ → ℕ → Limits → Option opening.OpenFault
+open_refusal s name ports seats limits =
+    fault_if (not (is_label name)) open_fault.BadName
+    (fault_if (not (are_ports s.replicas ports)) open_fault.BadPorts
+    (fault_if (not (nat_le 1 seats && nat_le seats 8)) open_fault.BadSeats
+    (fault_if (is_above_usual limits) open_fault.BadLimits None)))
+
+-- the number of open requests
+abbrev pub open_count : List Entry → ℕ
+open_count past = length (open_requests past)
+
+-- an entry more, and three places for each open request with the new one, are more than the limit
+abbrev pub is_full_for_enter : Limits → List Entry → Bool
+is_full_for_enter l past = nat_lt l.entries (length past + 1 + 3 * (open_count past + 1))
+
+-- 141 entries more, and three places for each open request, are more than the limit
+abbrev pub is_full_for_control : Limits → List Entry → Bool
+is_full_for_control l past = nat_lt l.entries (length past + 141 + 3 * open_count past)
+
+abbrev pub enter_refusal_at : Routing → Option ℕ → Option enter.EnterFault
+enter_refusal_at b None = Some enter_fault.NoPreview
+enter_refusal_at b (Some r) =
+    fault_if (available r b.past == 0) enter_fault.NoEndpoints
+    (fault_if (nat_le b.limits.numbers (given b.closed b.past)) enter_fault.NumbersSpent
+    (fault_if (is_full_for_enter b.limits b.past) enter_fault.HistoryFull None))
+
+-- why a request doesn't enter at a service
+abbrev pub enter_refusal : Routing → Service → Option enter.EnterFault
+enter_refusal b service = enter_refusal_at b (selection b.strategy service b.past)
+
+-- the event that a control is
+abbrev pub event_of : Control → Entry
+event_of (Tick m) = event.Tick m
+event_of (Available r n) = event.Available r n
+
+-- the fault of the event itself
+abbrev pub event_fault : Routing → Control → Option control.ControlFault
+event_fault b (Tick m) =
+    fault_if (nat_lt (2 ^ 53) m) control_fault.MomentTooLarge
+    (fault_if (nat_lt m (moment b.past)) control_fault.MomentBack None)
+event_fault b (Available r n) =
+    fault_if (not (exists_in r b.past)) control_fault.NoSuchRevision
+    (fault_if (nat_lt (desired b.strategy r b.past) n) control_fault.MoreThanDesired None)
+
+-- why an event is refused
+abbrev pub control_refusal : Routing → Control → Option control.ControlFault
+control_refusal b c =
+    option_or (event_fault b c) (fault_if (is_full_for_control b.limits b.past) control_fault.HistoryFull None)
+
+-- An answer by a refusal: accepted only where there is none, refused by it, or for want of memory where there is none.
+abbrev pub AnswersBy : {A F : Type 0} → Option F → F → Result A F → Type 0
+AnswersBy refusal out_of_memory (Ok a) = refusal ≡ None
+AnswersBy refusal out_of_memory (Err e) = (refusal ≡ Some e) ⊎ ((refusal ≡ None) × (e ≡ out_of_memory))
+
+-- the ticket of a request that enters at a service: the next number, the selected revision, and its port in turn
+pub record IsTicket (b : Routing) (service : Service) (t : Ticket) : Type 0 where
+  pub number_is : t.number ≡ given b.closed b.past + 1
+  pub revision_is : selection b.strategy service b.past ≡ Some t.revision
+  pub port_is : port_of b.opening t.revision t.number b.past ≡ Some t.port

@@ -1,0 +1,19 @@
+-- What contracts see of a book.
+use Rattle.std.specs.Prelude.{ℕ, List}
+use Rattle.bg_strategy.specs.declared.strategy.Strategy.{Strategy}
+use Rattle.bg_history.specs.declared.entry.Entry.{Entry}
+use Rattle.bg_history.specs.Kept.{Opening}
+use Rattle.bg_book.specs.declared.limits.Limits.{Limits}
+use Rattle.bg_book.specs.declared.seat.Seat.{Seat}
+use Rattle.bg_book.specs.OpenLists.{OpenAt}
+
+-- the settings, the history (opening, closed requests of each seat, entries newest first), the list of each existing
+-- revision, and the book's record of each seat
+pub record Routing : Type 0 where
+  pub strategy : Strategy
+  pub limits : Limits
+  pub opening : Opening
+  pub closed : List ℕ
+  pub past : List Entry
+  pub lists : List OpenAt
+  pub seats : List Seat

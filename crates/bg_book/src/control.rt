@@ -1,0 +1,79 @@
+//! How an event is recorded that no seat makes.
+ghost use Rattle.std.specs.Prelude.{◌≡◌, ◌≤◌, ◌+◌, ℕ, IfOk, OnErr};
+ghost use Rattle.bg_book.specs.Refusals.{control_refusal, event_of, refuse, AnswersBy};
+ghost use Rattle.bg_book.specs.Replies.{Stepped, with_past};
+ghost use Rattle.bg_book.specs.declared.fault.ControlFault.TheVariants.{OutOfMemory};
+
+use crate::book::Book;
+use crate::calls::Control;
+use crate::enter::PLACES_OF_A_REQUEST;
+use crate::fault::ControlFault;
+use bg_history::Entry;
+
+/// The greatest moment, in seconds from the start.
+const LAST_MOMENT: u64 = 1 << 53;
+
+/// The most entries that an event makes: its own, and 140 outcomes.
+const MOST_ENTRIES: u64 = 141;
+
+impl Book {
+    /// Records an event, and answers the number of outcomes that it allowed, which are recorded after it.
+    ///
+    /// Refused, in this order, and then nothing changes. A tick: `MomentTooLarge` above 2^53, `MomentBack` below
+    /// the moment. Availability: `NoSuchRevision`, `MoreThanDesired` above the size that the revision wants. Then
+    /// `HistoryFull` where the history has no room for the event, for the most outcomes and for the leaving of each
+    /// open request, and `OutOfMemory`.
+    pub fn control(&mut self, control: &Control) -> Result<u64, ControlFault>
+        ensures refusal { AnswersBy (control_refusal self.old control.now) OutOfMemory result }
+        ensures step { IfOk result (λ n. Stepped self.old.strategy (event_of control.now) self.old.past self.new.past n) }
+        ensures few { IfOk result (λ n. n ≤ 140) }
+        ensures book { IfOk result (λ n. self.new ≡ with_past self.old self.new.past self.old.seats) }
+        ensures unchanged { OnErr result (self.new ≡ self.old) }
+    {
+        self.check(control)?;
+        let reserved = MOST_ENTRIES + PLACES_OF_A_REQUEST * self.open;
+        self.history.reserve(reserved as u32)?;
+        match control {
+            Control::Tick(moment) => {
+                self.moment = *moment;
+                self.history.push_reserved(Entry::Tick(*moment));
+            }
+            Control::Available { revision, size } => {
+                // The check has found that the revision exists and wants as many.
+                let _accepted = self.roster.set_available(*revision, *size);
+                self.history.push_reserved(Entry::Available {
+                    revision: *revision,
+                    size: *size,
+                });
+            }
+        }
+        Ok(0)
+    }
+
+    /// Finds the first fault of an event but want of memory.
+    fn check(&self, control: &Control) -> Result<(), ControlFault>
+        ensures { result ≡ refuse (control_refusal self.now control.now) }
+    {
+        match control {
+            Control::Tick(moment) => {
+                if *moment > LAST_MOMENT {
+                    return Err(ControlFault::MomentTooLarge);
+                }
+                if *moment < self.moment {
+                    return Err(ControlFault::MomentBack);
+                }
+            }
+            Control::Available { revision, size } => match self.roster.find_number(*revision) {
+                None => return Err(ControlFault::NoSuchRevision),
+                Some(found) if found.desired < *size => return Err(ControlFault::MoreThanDesired),
+                Some(_) => {}
+            },
+        }
+        if self.history.len() + MOST_ENTRIES + PLACES_OF_A_REQUEST * self.open
+            > self.limits.entries
+        {
+            return Err(ControlFault::HistoryFull);
+        }
+        Ok(())
+    }
+}

@@ -1,0 +1,100 @@
+//! How a request enters.
+ghost use Rattle.std.specs.Prelude.{◌≡◌, ◌+◌, ◌∷◌, IfOk, OnErr, Some, slice_get, slice_set, MatchResult, None};
+ghost use Rattle.bg_book.specs.Refusals.{enter_refusal, AnswersBy, IsTicket};
+ghost use Rattle.bg_book.specs.Replies.{Stepped, with_past, enter_entry};
+ghost use Rattle.bg_history.specs.Allowed.{selection};
+ghost use Rattle.bg_book.specs.declared.fault.EnterFault.TheVariants.{OutOfMemory, NoPreview};
+
+use crate::book::Book;
+use crate::calls::Ticket;
+use crate::fault::EnterFault;
+use crate::open_list::{OpenRequest, place_of};
+use crate::seat::Seat;
+use bg_history::Entry;
+use bg_revisions::Service;
+
+/// The places that are kept for each open request: one for its leaving, and two for the outcomes after it.
+pub(crate) const PLACES_OF_A_REQUEST: u64 = 3;
+
+impl Book {
+    /// Lets a request enter at a service: it gets the next number, from 1, the revision that the service selects,
+    /// and one of that revision's available ports in turn.
+    ///
+    /// Refused, in this order, and then nothing changes: `NoPreview` where the service is the preview service and
+    /// none is set, `NoEndpoints` where the revision has none available, `NumbersSpent` where all numbers are
+    /// given, `HistoryFull` where the history has no room for it and for the leaving of each open request,
+    /// `OutOfMemory`.
+    pub fn enter(&mut self, seat: &mut Seat, service: Service) -> Result<Ticket, EnterFault>
+        requires known { slice_get self.old.seats seat.old.index ≡ Some seat.old }
+        requires out { seat.old.number ≡ 0 }
+        ensures refusal { AnswersBy (enter_refusal self.old service) OutOfMemory result }
+        ensures ticket { IfOk result (IsTicket self.old service) }
+        ensures seat { IfOk result (λ t. seat.new ≡ record seat.old { calls = seat.old.calls + 1; number = t.number; revision = t.revision; port = t.port }) }
+        ensures step { IfOk result (λ t. Stepped self.old.strategy (enter_entry seat.old.index service t) self.old.past self.new.past 0) }
+        ensures book { IfOk result (λ t. self.new ≡ with_past self.old self.new.past (slice_set self.old.seats seat.old.index seat.new)) }
+        ensures unchanged { OnErr result (self.new ≡ self.old) }
+        ensures seat_unchanged { OnErr result (seat.new ≡ seat.old) }
+    {
+        let index = seat.index();
+        let ticket = self.offer(service)?;
+        let reserved = 1 + PLACES_OF_A_REQUEST * (self.open + 1);
+        self.history.reserve(reserved as u32)?;
+        let place = place_of(&self.lists, ticket.revision).unwrap();
+        self.lists[place].append(OpenRequest {
+            seat: index,
+            number: ticket.number,
+        })?;
+        self.given = ticket.number;
+        self.open += 1;
+        self.seats[index as usize].take(ticket);
+        seat.take(ticket);
+        self.history.push_reserved(Entry::Enter {
+            seat: index,
+            service,
+            number: ticket.number,
+            revision: ticket.revision,
+            port: ticket.port,
+        });
+        Ok(ticket)
+    }
+
+    /// The revision that a service selects; `NoPreview` where the service is the preview service and none is set.
+    fn selected(&self, service: Service) -> Result<u64, EnterFault>
+        ensures { MatchResult result (λ r. selection self.now.strategy service self.now.past ≡ Some r) (λ e. (selection self.now.strategy service self.now.past ≡ None) × (e ≡ NoPreview)) }
+    {
+        let selectors = self.core.selectors();
+        match service {
+            Service::Active => Ok(selectors.active),
+            Service::Preview => {
+                if self.strategy.preview_service.is_none() {
+                    return Err(EnterFault::NoPreview);
+                }
+                Ok(selectors.preview)
+            }
+        }
+    }
+
+    /// The ticket of a request at a service, or the first fault but want of memory.
+    fn offer(&self, service: Service) -> Result<Ticket, EnterFault>
+        ensures { MatchResult result (λ t. (enter_refusal self.now service ≡ None) × IsTicket self.now service t) (λ e. enter_refusal self.now service ≡ Some e) }
+    {
+        let selected = self.selected(service)?;
+        let revision = self.roster.find_number(selected).unwrap();
+        if revision.available == 0 {
+            return Err(EnterFault::NoEndpoints);
+        }
+        if self.given >= self.limits.numbers {
+            return Err(EnterFault::NumbersSpent);
+        }
+        if self.history.len() + 1 + PLACES_OF_A_REQUEST * (self.open + 1) > self.limits.entries {
+            return Err(EnterFault::HistoryFull);
+        }
+        let number = self.given + 1;
+        let turn = number % u64::from(revision.available);
+        Ok(Ticket {
+            number,
+            revision: selected,
+            port: revision.ports.get()[turn as usize],
+        })
+    }
+}

@@ -1,0 +1,102 @@
+//! Why a call of a book is refused.
+
+use std::alloc::{AllocError, AllocFailed};
+use thiserror::Error;
+
+/// Why no book is opened, in the order in which the faults are looked for.
+#[derive(Clone, Copy, PartialEq, Eq, Debug, Drop, Error)]
+pub enum OpenFault {
+    #[error("the name is no DNS label")]
+    BadName,
+    #[error("the ports are not distinct numbers from 1, one for each replica")]
+    BadPorts,
+    #[error("there are 1 to 8 seats")]
+    BadSeats,
+    #[error("the limits are above the usual ones")]
+    BadLimits,
+    #[error("out of memory")]
+    OutOfMemory,
+}
+
+/// Why a request doesn't enter, in the order in which the faults are looked for.
+#[derive(Clone, Copy, PartialEq, Eq, Debug, Drop, Error)]
+pub enum EnterFault {
+    #[error("no preview service is set")]
+    NoPreview,
+    #[error("the selected revision has no endpoint")]
+    NoEndpoints,
+    #[error("all request numbers are given")]
+    NumbersSpent,
+    #[error("the history has no room")]
+    HistoryFull,
+    #[error("out of memory")]
+    OutOfMemory,
+}
+
+/// Why an event is refused, in the order in which the faults are looked for.
+#[derive(Clone, Copy, PartialEq, Eq, Debug, Drop, Error)]
+pub enum ControlFault {
+    #[error("a moment is at most 2^53 seconds")]
+    MomentTooLarge,
+    #[error("the moment is over")]
+    MomentBack,
+    #[error("no revision has this number")]
+    NoSuchRevision,
+    #[error("the revision wants fewer endpoints")]
+    MoreThanDesired,
+    #[error("the history has no room")]
+    HistoryFull,
+    #[error("out of memory")]
+    OutOfMemory,
+}
+
+/// Why a list of calls wasn't begun.
+#[derive(Clone, Copy, PartialEq, Eq, Debug, Drop, Error)]
+pub enum RunFault {
+    #[error("out of memory")]
+    OutOfMemory,
+}
+
+impl From<AllocError> for OpenFault {
+    ghost use Rattle.std.specs.Prelude.{◌≡◌};
+    ghost use Rattle.bg_book.specs.declared.fault.OpenFault.TheVariants.{OutOfMemory};
+
+    ghost from_gives = { λ _ e. e ≡ OutOfMemory };
+
+    fn from(_refused: AllocError) -> OpenFault {
+        OpenFault::OutOfMemory
+    }
+}
+
+impl From<AllocError> for EnterFault {
+    ghost use Rattle.std.specs.Prelude.{◌≡◌};
+    ghost use Rattle.bg_book.specs.declared.fault.EnterFault.TheVariants.{OutOfMemory};
+
+    ghost from_gives = { λ _ e. e ≡ OutOfMemory };
+
+    fn from(_refused: AllocError) -> EnterFault {
+        EnterFault::OutOfMemory
+    }
+}
+
+impl From<AllocError> for ControlFault {
+    ghost use Rattle.std.specs.Prelude.{◌≡◌};
+    ghost use Rattle.bg_book.specs.declared.fault.ControlFault.TheVariants.{OutOfMemory};
+
+    ghost from_gives = { λ _ e. e ≡ OutOfMemory };
+
+    fn from(_refused: AllocError) -> ControlFault {
+        ControlFault::OutOfMemory
+    }
+}
+
+impl From<AllocError> for RunFault {
+    ghost use Rattle.std.specs.Prelude.{◌≡◌};
+    ghost use Rattle.bg_book.specs.declared.fault.RunFault.TheVariants.{OutOfMemory};
+
+    ghost from_gives = { λ _ e. e ≡ OutOfMemory };
+
+    fn from(_refused: AllocError) -> RunFault {
+        RunFault::OutOfMemory
+    }
+}

@@ -1,0 +1,15 @@
+//! What holds of every book, whatever calls it was made by.
+ghost use Rattle.bg_book.specs.Headline.{Headline};
+
+use crate::book::Book;
+
+/// The headline: the book's history is legal, nothing allowed is left undone, both services select existing
+/// scaled revisions, the active one was reached only by the documented rule (Argo Rollouts, "BlueGreen
+/// Deployment Strategy"), the list of each revision has just its open requests, the record of each seat is what
+/// the history says, and no revision that is scaled down holds an open request.
+pub fn headline(book: &Book)
+    ensures { Headline book.now }
+{
+    // The invariant of the type is known once a field is looked at.
+    let _ = &book.strategy;
+}

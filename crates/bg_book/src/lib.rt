@@ -1,0 +1,25 @@
+//! The routing book: which revision each service selects, and which requests are open.
+//!
+//! One event is one call of [`Book::enter`], [`Book::leave`] or [`Book::control`]; nothing else changes the
+//! book. What it keeps running is what its history says (`specs/`), after every call.
+#![tactic(auto)]
+
+mod book;
+mod calls;
+mod control;
+mod enter;
+mod fault;
+pub mod laws;
+mod leave;
+mod limits;
+mod open_list;
+mod opening;
+mod readers;
+mod run;
+mod seat;
+
+pub use book::Book;
+pub use calls::{Call, Control, Left, Reply, Ticket};
+pub use fault::{ControlFault, EnterFault, OpenFault, RunFault};
+pub use limits::Limits;
+pub use seat::Seat;

@@ -1,0 +1,23 @@
+//! How much a book takes.
+ghost use Rattle.std.specs.Prelude.{◌≡◌, ◌^◌};
+
+/// The most entries that a history may have, and the most requests that may be given a number.
+#[derive(Clone, Copy, PartialEq, Eq, Debug, Drop)]
+pub struct Limits {
+    /// At most 1,000,000.
+    pub entries: u64,
+    /// At most 2^53.
+    pub numbers: u64,
+}
+
+impl Limits {
+    /// 1,000,000 entries and 2^53 numbers, above which no book is opened.
+    pub fn usual() -> Limits
+        ensures { result ≡ record { entries = 1000000; numbers = 2 ^ 53 } }
+    {
+        Limits {
+            entries: 1_000_000,
+            numbers: 1 << 53,
+        }
+    }
+}
