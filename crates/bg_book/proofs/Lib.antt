@@ -13,3 +13,4 @@ pub mod Entering
 pub mod Leaving
 pub mod Openings
 pub mod Running
+pub mod FirstSeats

@@ -17,6 +17,8 @@ mod opening;
 mod readers;
 mod run;
 mod seat;
+#[cfg(test)]
+mod tests;
 
 pub use book::Book;
 pub use calls::{Call, Control, Left, Reply, Ticket};
