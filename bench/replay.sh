@@ -30,7 +30,7 @@ replay_ms() {
 "$top/bin/bg_switch" check < "$top/examples/direct.json" > /dev/null
 script 40000 > "$work/small"
 script 400000 > "$work/large"
-{ printf '%s\n---\n' "$strategy"; yes 'report' | head -c 31457272; echo; } > "$work/long"
+{ printf '%s\n---\n' "$strategy"; yes 'report' | head -c 31457272; } > "$work/long"
 small=$(replay_ms "$work/small" 'left 40000 revision 1')
 large=$(replay_ms "$work/large" 'left 400000 revision 1')
 long=$(replay_ms "$work/long" 'refused NotOpen')

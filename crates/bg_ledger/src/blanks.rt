@@ -1,0 +1,77 @@
+// New ledgers, with which a function over `Names` is called.
+ghost use Rattle.std.specs.Prelude.{◌≡◌, ◌≢◌, ◌<◌, ℕ};
+
+use std::mem::replace;
+use std::sync::ledger::Blank;
+
+/// New ledgers for the four quantities of one index. Each has two parts, one for each side.
+#[derive(Drop)]
+pub struct SeatBlanks {
+    pub calls: Blank,
+    pub number: Blank,
+    pub revision: Blank,
+    pub port: Blank,
+    pub ghost two_parts: { (calls.parts ≡ 2) × (number.parts ≡ 2) × (revision.parts ≡ 2) × (port.parts ≡ 2) },
+}
+
+/// New ledgers for all eight indices, first to eighth. They take no bytes.
+#[derive(Drop)]
+pub struct Blanks {
+    pub first: SeatBlanks,
+    pub second: SeatBlanks,
+    pub third: SeatBlanks,
+    pub fourth: SeatBlanks,
+    pub fifth: SeatBlanks,
+    pub sixth: SeatBlanks,
+    pub seventh: SeatBlanks,
+    pub eighth: SeatBlanks,
+}
+
+impl SeatBlanks {
+    /// Four new ledgers.
+    pub fn new() -> SeatBlanks {
+        SeatBlanks {
+            calls: Blank::new(2),
+            number: Blank::new(2),
+            revision: Blank::new(2),
+            port: Blank::new(2),
+        }
+    }
+}
+
+impl Blanks {
+    ghost use Rattle.bg_ledger.specs.Blanks.{blanks_at};
+
+    /// 32 new ledgers.
+    pub fn new() -> Blanks {
+        Blanks {
+            first: SeatBlanks::new(),
+            second: SeatBlanks::new(),
+            third: SeatBlanks::new(),
+            fourth: SeatBlanks::new(),
+            fifth: SeatBlanks::new(),
+            sixth: SeatBlanks::new(),
+            seventh: SeatBlanks::new(),
+            eighth: SeatBlanks::new(),
+        }
+    }
+
+    /// Takes out the blanks of this index, and leaves new ones in their place.
+    pub fn take(&mut self, index: u32) -> SeatBlanks
+        requires { index < 8 }
+        ensures taken { result ≡ blanks_at index self.old }
+        ensures others { (i : ℕ) → i ≢ index → i < 8 → blanks_at i self.new ≡ blanks_at i self.old }
+    {
+        let fresh = SeatBlanks::new();
+        match index {
+            0 => replace(&mut self.first, fresh),
+            1 => replace(&mut self.second, fresh),
+            2 => replace(&mut self.third, fresh),
+            3 => replace(&mut self.fourth, fresh),
+            4 => replace(&mut self.fifth, fresh),
+            5 => replace(&mut self.sixth, fresh),
+            6 => replace(&mut self.seventh, fresh),
+            _ => replace(&mut self.eighth, fresh),
+        }
+    }
+}

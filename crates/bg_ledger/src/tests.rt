@@ -1,0 +1,3 @@
+mod each_index;
+mod four_seats;
+mod sizes;

@@ -1,0 +1,16 @@
+pub mod Blocks
+pub mod Callers
+pub mod Cases
+pub mod Counting
+pub mod Link
+pub mod Lists
+pub mod Loops
+pub mod Names
+pub mod New
+pub mod Pairs
+pub mod Placing
+pub mod Rings
+pub mod Seen
+pub mod Strides
+pub mod Tables
+pub mod Unlink

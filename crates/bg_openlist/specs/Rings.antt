@@ -1,0 +1,22 @@
+-- A list of nodes as a ring: from its head through the nodes and back to the head, forward along nx and backward along pv.
+use Rattle.std.specs.Prelude.{◌≡◌, ℕ, zero, suc, List, [], ◌∷◌, get_or}
+
+-- each step from a through ks to b goes forward along nx, and backward along pv
+abbrev pub Path : List ℕ → List ℕ → ℕ → List ℕ → ℕ → Type 0
+Path nx pv a [] b = (get_or nx a 0 ≡ b) × (get_or pv b 0 ≡ a)
+Path nx pv a (k ∷ ks) b = (get_or nx a 0 ≡ k) × (get_or pv k 0 ≡ a) × Path nx pv k ks b
+
+-- the last of the nodes, or a where there is none
+abbrev pub last_from : ℕ → List ℕ → ℕ
+last_from a [] = a
+last_from a (k ∷ ks) = last_from k ks
+
+-- the first of the nodes, or b where there is none
+abbrev pub first_of : List ℕ → ℕ → ℕ
+first_of [] b = b
+first_of (k ∷ ks) b = k
+
+-- the n nodes after a
+abbrev pub walk : List ℕ → ℕ → ℕ → List ℕ
+walk nx zero a = []
+walk nx (suc n) a = get_or nx a 0 ∷ walk nx n (get_or nx a 0)

@@ -1,0 +1,31 @@
+//! Sixty-four lists over one block of nodes, linked by raw pointers, so that a node leaves the
+//! middle of its list with no search and no memory.
+//!
+//! The block is one vector of cells. The first sixty-four are the heads of the lists, and behind
+//! them lie the nodes; node k is cell 64 + k. Each list is a ring through its own head, so that a
+//! link always leads to a cell: there is no null, and the first and the last node are no special
+//! cases. Here node 4 and then node 0 are in list 1, node 2 is in list 2, and nodes 1 and 3 are
+//! free. The arrows are the links to the next cell; each cell has one back, too.
+//!
+//! ```text
+//! cell      0      1      2     ..    63  |   64     65     66     67     68
+//!         head   head   head        head  | node 0 node 1 node 2 node 3 node 4
+//!         list 0 list 1 list 2     list 63| in 1    free  in 2    free  in 1
+//!
+//! list 1:  cell 1 ──► cell 68 ──► cell 64 ──► cell 1
+//! list 2:  cell 2 ──► cell 66 ──► cell 2
+//! list 0:  cell 0 ──► cell 0
+//! ```
+//!
+//! Callers see a family of lists of (node, value), in which no node stands twice.
+#![tactic(auto)]
+
+mod nodes;
+mod open_lists;
+mod pointers;
+#[cfg(test)]
+mod seats;
+#[cfg(test)]
+mod tests;
+
+pub use open_lists::OpenLists;

@@ -1,0 +1,70 @@
+-- Counting the numbers of a list that pass a test.
+use Rattle.std.proofs.Common.{◌≡◌, ◌+◌, ℕ, Bool, true, false, not, ◌==◌, ◌&&◌, List, [], ◌∷◌, refl, arith, sym}
+use Rattle.std.specs.List.{list_any}
+use Rattle.std.proofs.lemmas.Bool.Decides.{nat_tests}
+use Rattle.bg_scaledown.specs.Due.{one_if}
+
+-- how many pass it
+abbrev pub count : (ℕ → Bool) → List ℕ → ℕ
+count p [] = 0
+count p (x ∷ xs) = one_if (p x) + count p xs
+
+-- the list has the number
+abbrev pub member : ℕ → List ℕ → Bool
+member q xs = list_any (λ x. x == q) xs
+
+-- no number twice
+abbrev pub Distinct : List ℕ → Type 0
+Distinct [] = Unit {0}
+Distinct (x ∷ xs) = (member x xs ≡ false) × Distinct xs
+
+-- the test, but for x
+abbrev pub except : (ℕ → Bool) → ℕ → ℕ → Bool
+except p x q = p q && not (q == x)
+
+-- none passes a test that is never true
+count-none : (p : ℕ → Bool) (xs : List ℕ) → ((q : ℕ) → p q ≡ false) → count p xs ≡ 0
+count-none p [] never = refl
+count-none p (x ∷ xs) never = grind (arith, never x, count-none p xs never)
+
+-- to leave out a number that isn't in the list, or fails the test, changes nothing
+count-except_absent : (p : ℕ → Bool) (x : ℕ) (ys : List ℕ) → member x ys ≡ false → count (except p x) ys ≡ count p ys
+count-except_absent p x [] out = refl
+count-except_absent p x (y ∷ ys) out = grind (arith, nat_tests, count-except_absent p x ys)
+
+count-except_false : (p : ℕ → Bool) (x : ℕ) (ys : List ℕ) → p x ≡ false → count (except p x) ys ≡ count p ys
+count-except_false p x [] fails = refl
+count-except_false p x (y ∷ ys) fails = grind (arith, nat_tests, count-except_false p x ys fails)
+
+-- to leave out one that is in the list drops it from the count
+count-except_member : (p : ℕ → Bool) (x : ℕ) (ys : List ℕ) → Distinct ys → member x ys ≡ true → count p ys ≡ one_if (p x) + count (except p x) ys
+count-except_member p x [] distinct within = cc
+count-except_member p x (y ∷ ys) distinct within =
+    grind (arith, nat_tests, count-except_absent p x ys, count-except_member p x ys distinct.1, distinct.0)
+
+-- what is never true is false
+is_false : (b : Bool) → (b ≡ true → ⊥) → b ≡ false
+is_false true never = absurd (never refl)
+is_false false never = refl
+
+-- what still passes passed before, and is another number
+kept : (p : ℕ → Bool) (x q : ℕ) → except p x q ≡ true → (p q ≡ true) × ((x == q) ≡ false)
+kept p x q h = (grind (arith, nat_tests), grind (arith, nat_tests))
+
+-- so it is in the rest of a list that begins with x
+kept_in : (p : ℕ → Bool) (x : ℕ) (xs : List ℕ) → ((q : ℕ) → p q ≡ true → member q (x ∷ xs) ≡ true) → (q : ℕ) → except p x q ≡ true → member q xs ≡ true
+kept_in p x xs within q h = grind (arith, nat_tests, within q, kept p x q h)
+
+-- one more number, by whether it passes
+count-same_cons : (p : ℕ → Bool) (x : ℕ) (xs ys : List ℕ) (b : Bool) → p x ≡ b → Distinct ys → member x xs ≡ false
+    → ((q : ℕ) → p q ≡ true → member q ys ≡ true) → count (except p x) xs ≡ count (except p x) ys → count p (x ∷ xs) ≡ count p ys
+count-same_cons p x xs ys true is dy out iny rest = omega (arith, count-except_absent p x xs out, rest, count-except_member p x ys dy (iny x is))
+count-same_cons p x xs ys false is dy out iny rest = rw (is, ← count-except_absent p x xs out, rest, count-except_false p x ys is) (omega arith)
+
+-- two lists without repetition that both have all that pass a test have equally many of them
+pub count-same : (p : ℕ → Bool) (xs ys : List ℕ) → Distinct xs → Distinct ys
+    → ((q : ℕ) → p q ≡ true → member q xs ≡ true) → ((q : ℕ) → p q ≡ true → member q ys ≡ true) → count p xs ≡ count p ys
+count-same p [] ys dx dy inx iny = sym (count-none p ys (λ q. is_false (p q) (λ t. let e : false ≡ true = inx q t in cc)))
+count-same p (x ∷ xs) ys dx dy inx iny =
+    count-same_cons p x xs ys (p x) refl dy dx.0 iny
+    (count-same (except p x) xs ys dx.1 dy (kept_in p x xs inx) (λ q h. iny q (kept p x q h).0))

@@ -1,0 +1,12 @@
+pub mod Smaller
+pub mod Room
+pub mod Filters
+pub mod Counts
+pub mod Lookups
+pub mod Orders
+pub mod Once
+pub mod Ranks
+pub mod PastRanks
+pub mod PastDue
+pub mod PastTables
+pub mod Aborts

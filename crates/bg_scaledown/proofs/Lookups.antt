@@ -1,0 +1,128 @@
+-- The stamp of a revision after a past.
+use Rattle.std.proofs.Common.{◌≡◌, ℕ, Bool, true, false, cond, ◌==◌, List, [], ◌∷◌, length, Option, Some, None, refl, arith, ◌∙◌, ap, sym, inl, inr}
+use Rattle.std.specs.List.{list_any}
+use Rattle.std.specs.Option.{option_or, option_map}
+use Rattle.std.proofs.lemmas.Bool.Decides.{nat_tests, eqb_tells}
+use Rattle.bg_history.specs.declared.entry.Entry.{Entry}
+use Rattle.bg_history.specs.declared.entry.Entry.TheVariants.{Deploy, Verdict, Abort, Retry, Outcome}
+use Rattle.bg_history.specs.declared.entry.Outcome.TheVariants.{Switched, ScaledDown}
+use Rattle.bg_history.specs.declared.entry.Finding.TheVariants.{Successful, Failed, Error}
+use Rattle.bg_history.specs.Turns.{moment}
+use Rattle.bg_history.specs.Marks.{Kind, Left, Superseded, Cleared, Mark, kind_of, mark}
+use Rattle.bg_scaledown.specs.declared.mark.Cause.TheVariants as cause
+use Rattle.bg_scaledown.specs.Past.{Stamp, stamp_at, others, stamp_of, stamped, touched, stamp_all, stamps_of}
+
+-- the stamp of r after a mark of that kind
+abbrev pub after : Option Kind → ℕ → ℕ → ℕ → Option Stamp → Option Stamp
+after None r at stood stamp = stamp
+after (Some Left) r at stood stamp = Some (stamp_at r cause.Left at stood)
+after (Some Superseded) r at stood stamp = Some (stamp_at r cause.Superseded at stood)
+after (Some Cleared) r at stood stamp = None
+
+-- the stamp that the newest mark of r makes
+abbrev pub live : ℕ → Option Mark → Option Stamp
+live r None = None
+live r (Some m) = after (Some m.kind) r m.moment m.stood None
+
+-- among the stamps of other revisions there is none of r
+stamp_of-others_same : (r : ℕ) (stamps : List Stamp) → stamp_of r (others r stamps) ≡ None
+stamp_of-others_same r [] = refl
+stamp_of-others_same r (stamp ∷ stamps) = grind (arith, nat_tests, stamp_of-others_same r stamps)
+
+-- among those that aren't of q another revision has its own
+stamp_of-others_other : (q r : ℕ) (stamps : List Stamp) → (q == r) ≡ false → stamp_of r (others q stamps) ≡ stamp_of r stamps
+stamp_of-others_other q r [] ne = refl
+stamp_of-others_other q r (stamp ∷ stamps) ne = grind (arith, nat_tests, stamp_of-others_other q r stamps ne)
+
+-- a mark for r changes the stamp of r, and that of no other revision
+stamp_of-stamped_same : (k : Option Kind) (r at stood : ℕ) (stamps : List Stamp) → stamp_of r (stamped k r at stood stamps) ≡ after k r at stood (stamp_of r stamps)
+stamp_of-stamped_same None r at stood stamps = refl
+stamp_of-stamped_same (Some Left) r at stood stamps = grind (arith, nat_tests)
+stamp_of-stamped_same (Some Superseded) r at stood stamps = grind (arith, nat_tests)
+stamp_of-stamped_same (Some Cleared) r at stood stamps = stamp_of-others_same r stamps
+
+stamp_of-stamped_other : (k : Option Kind) (q r at stood : ℕ) (stamps : List Stamp) → (q == r) ≡ false → stamp_of r (stamped k q at stood stamps) ≡ stamp_of r stamps
+stamp_of-stamped_other None q r at stood stamps ne = refl
+stamp_of-stamped_other (Some Left) q r at stood stamps ne = grind (arith, nat_tests, stamp_of-others_other q r stamps ne)
+stamp_of-stamped_other (Some Superseded) q r at stood stamps ne = grind (arith, nat_tests, stamp_of-others_other q r stamps ne)
+stamp_of-stamped_other (Some Cleared) q r at stood stamps ne = stamp_of-others_other q r stamps ne
+
+-- an entry marks no revision but those that it touches
+untouched : (r : ℕ) (e : Entry) (before : List Entry) → list_any (λ q. q == r) (touched e before) ≡ false → kind_of r e before ≡ None
+untouched r (Deploy q name ports) before out = grind (arith, nat_tests)
+untouched r Retry before out = grind (arith, nat_tests)
+untouched r (Outcome (Switched q)) before out = grind (arith, nat_tests)
+untouched r (Outcome (ScaledDown q)) before out = grind (arith, nat_tests)
+untouched r Abort before out = grind (arith, nat_tests)
+untouched r (Verdict analysis Failed) before out = grind (arith, nat_tests)
+untouched r (Verdict analysis Error) before out = grind (arith, nat_tests)
+untouched r (Verdict analysis Successful) before out = grind (arith, nat_tests)
+untouched r _ before out = grind (arith, nat_tests)
+
+-- a mark that comes twice counts once
+after_twice : (k : Option Kind) (r at stood : ℕ) (stamp : Option Stamp) → after k r at stood (after k r at stood stamp) ≡ after k r at stood stamp
+after_twice None r at stood stamp = refl
+after_twice (Some Left) r at stood stamp = refl
+after_twice (Some Superseded) r at stood stamp = refl
+after_twice (Some Cleared) r at stood stamp = refl
+
+after_cond : (b : Bool) (k : Option Kind) (r at stood : ℕ) (stamp : Option Stamp) → after k r at stood (cond b (after k r at stood stamp) stamp) ≡ after k r at stood stamp
+after_cond true k r at stood stamp = after_twice k r at stood stamp
+after_cond false k r at stood stamp = refl
+
+-- the stamp of r after an entry, as far as it marks these revisions
+abbrev renewed : ℕ → Entry → List Entry → List ℕ → Option Stamp → Option Stamp
+renewed r e before qs stamp = cond (list_any (λ q. q == r) qs) (after (kind_of r e before) r (moment (e ∷ before)) (length before) stamp) stamp
+
+-- one more revision that is marked, r itself or another
+stamp_of-stamp_here : (r : ℕ) (e : Entry) (before : List Entry) (q : ℕ) (qs : List ℕ) (stamps : List Stamp) → (q == r) ≡ true → q ≡ r
+    → stamp_of r (stamp_all e before qs stamps) ≡ renewed r e before qs (stamp_of r stamps)
+    → stamp_of r (stamp_all e before (q ∷ qs) stamps) ≡ renewed r e before (q ∷ qs) (stamp_of r stamps)
+stamp_of-stamp_here r e before q qs stamps same is below =
+    rw (same, is, stamp_of-stamped_same (kind_of r e before) r (moment (e ∷ before)) (length before) (stamp_all e before qs stamps), below)
+    (after_cond (list_any (λ q. q == r) qs) (kind_of r e before) r (moment (e ∷ before)) (length before) (stamp_of r stamps))
+
+stamp_of-stamp_there : (r : ℕ) (e : Entry) (before : List Entry) (q : ℕ) (qs : List ℕ) (stamps : List Stamp) → (q == r) ≡ false
+    → stamp_of r (stamp_all e before qs stamps) ≡ renewed r e before qs (stamp_of r stamps)
+    → stamp_of r (stamp_all e before (q ∷ qs) stamps) ≡ renewed r e before (q ∷ qs) (stamp_of r stamps)
+stamp_of-stamp_there r e before q qs stamps other below =
+    rw (other, stamp_of-stamped_other (kind_of q e before) q r (moment (e ∷ before)) (length before) (stamp_all e before qs stamps) other) below
+
+-- the stamp of r after several marks of one entry
+stamp_of-stamp_all : (r : ℕ) (e : Entry) (before : List Entry) (qs : List ℕ) (stamps : List Stamp)
+    → stamp_of r (stamp_all e before qs stamps)
+    ≡ renewed r e before qs (stamp_of r stamps)
+stamp_of-stamp_all r e before [] stamps = refl
+stamp_of-stamp_all r e before (q ∷ qs) stamps =
+    elim (eqb_tells q r) [
+      | inl h ↦ stamp_of-stamp_here r e before q qs stamps h.0 h.1 (stamp_of-stamp_all r e before qs stamps)
+      | inr h ↦ stamp_of-stamp_there r e before q qs stamps h.0 (stamp_of-stamp_all r e before qs stamps)
+    ]
+
+-- the stamp of r after one more entry
+stamp_of-step : (r : ℕ) (e : Entry) (before : List Entry)
+    → stamp_of r (stamps_of (e ∷ before)) ≡ after (kind_of r e before) r (moment (e ∷ before)) (length before) (stamp_of r (stamps_of before))
+stamp_of-step r e before =
+    stamp_of-stamp_all r e before (touched e before) (stamps_of before)
+    ∙ settled r e before (list_any (λ q. q == r) (touched e before)) (untouched r e before) where
+      settled : (r : ℕ) (e : Entry) (before : List Entry) (b : Bool) → (b ≡ false → kind_of r e before ≡ None)
+          → cond b (after (kind_of r e before) r (moment (e ∷ before)) (length before) (stamp_of r (stamps_of before))) (stamp_of r (stamps_of before))
+          ≡ after (kind_of r e before) r (moment (e ∷ before)) (length before) (stamp_of r (stamps_of before))
+      settled r e before true none = refl
+      settled r e before false none = rw (none refl) refl
+
+-- one more mark is the newest
+live_step : (k : Option Kind) (r at stood : ℕ) (m : Option Mark)
+    → live r (option_or (option_map (λ kind. record { kind = kind; moment = at; stood = stood }) k) m) ≡ after k r at stood (live r m)
+live_step None r at stood m = refl
+live_step (Some Left) r at stood m = refl
+live_step (Some Superseded) r at stood m = refl
+live_step (Some Cleared) r at stood m = refl
+
+-- a past has of each revision the stamp that its newest mark makes
+pub stamp_of-past : (r : ℕ) (past : List Entry) → stamp_of r (stamps_of past) ≡ live r (mark r past)
+stamp_of-past r [] = refl
+stamp_of-past r (e ∷ before) =
+    stamp_of-step r e before
+    ∙ ap (λ stamp. after (kind_of r e before) r (moment (e ∷ before)) (length before) stamp) (stamp_of-past r before)
+    ∙ sym (live_step (kind_of r e before) r (moment (e ∷ before)) (length before) (mark r before))

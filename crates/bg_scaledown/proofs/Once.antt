@@ -1,0 +1,55 @@
+-- The stamps of a past name each revision once.
+use Rattle.std.proofs.Common.{◌≡◌, ℕ, Bool, true, false, not, cond, ◌==◌, List, [], ◌∷◌, length, Option, Some, None, refl, arith}
+use Rattle.std.proofs.lemmas.Bool.Decides.{nat_tests}
+use Rattle.bg_history.specs.declared.entry.Entry.{Entry}
+use Rattle.bg_history.specs.Turns.{moment}
+use Rattle.bg_history.specs.Marks.{Kind, Left, Superseded, Cleared, kind_of}
+use Rattle.bg_scaledown.specs.Past.{Stamp, others, stamped, touched, stamp_all, stamps_of}
+use Rattle.bg_scaledown.proofs.Counts.{member, Distinct}
+
+-- the revisions that stamps are of
+abbrev pub revisions : List Stamp → List ℕ
+revisions [] = []
+revisions (stamp ∷ stamps) = stamp.mark.revision ∷ revisions stamps
+
+-- a revision without a stamp has none when stamps are dropped
+member-cond : (b : Bool) (q : ℕ) (stamp : Stamp) (stamps : List Stamp) → (b ≡ true → (stamp.mark.revision == q) ≡ false) → member q (revisions stamps) ≡ false → member q (revisions (cond b (stamp ∷ stamps) stamps)) ≡ false
+member-cond true q stamp stamps here h = grind (arith, here refl)
+member-cond false q stamp stamps here h = h
+
+member-others : (q r : ℕ) (stamps : List Stamp) → member q (revisions stamps) ≡ false → member q (revisions (others r stamps)) ≡ false
+member-others q r [] h = refl
+member-others q r (stamp ∷ stamps) h =
+    member-cond (not (stamp.mark.revision == r)) q stamp (others r stamps) (λ _. grind (arith, nat_tests)) (member-others q r stamps (grind (arith, nat_tests)))
+
+-- a revision has none among the stamps of others
+member-others_same : (q : ℕ) (stamps : List Stamp) → member q (revisions (others q stamps)) ≡ false
+member-others_same q [] = refl
+member-others_same q (stamp ∷ stamps) =
+    member-cond (not (stamp.mark.revision == q)) q stamp (others q stamps) (λ b. grind (arith, nat_tests)) (member-others_same q stamps)
+
+-- stamps of different revisions stay so when some are dropped
+distinct-cond : (b : Bool) (stamp : Stamp) (stamps : List Stamp) → member stamp.mark.revision (revisions stamps) ≡ false → Distinct (revisions stamps) → Distinct (revisions (cond b (stamp ∷ stamps) stamps))
+distinct-cond true stamp stamps here h = (here, h)
+distinct-cond false stamp stamps here h = h
+
+distinct-others : (q : ℕ) (stamps : List Stamp) → Distinct (revisions stamps) → Distinct (revisions (others q stamps))
+distinct-others q [] h = tt
+distinct-others q (stamp ∷ stamps) h =
+    distinct-cond (not (stamp.mark.revision == q)) stamp (others q stamps) (member-others stamp.mark.revision q stamps h.0) (distinct-others q stamps h.1)
+
+-- and over an entry's marks
+distinct-stamped : (k : Option Kind) (q at stood : ℕ) (stamps : List Stamp) → Distinct (revisions stamps) → Distinct (revisions (stamped k q at stood stamps))
+distinct-stamped None q at stood stamps h = h
+distinct-stamped (Some Left) q at stood stamps h = (member-others_same q stamps, distinct-others q stamps h)
+distinct-stamped (Some Superseded) q at stood stamps h = (member-others_same q stamps, distinct-others q stamps h)
+distinct-stamped (Some Cleared) q at stood stamps h = distinct-others q stamps h
+
+distinct-stamp_all : (e : Entry) (before : List Entry) (qs : List ℕ) (stamps : List Stamp) → Distinct (revisions stamps) → Distinct (revisions (stamp_all e before qs stamps))
+distinct-stamp_all e before [] stamps h = h
+distinct-stamp_all e before (q ∷ qs) stamps h = distinct-stamped (kind_of q e before) q (moment (e ∷ before)) (length before) (stamp_all e before qs stamps) (distinct-stamp_all e before qs stamps h)
+
+-- a past's stamps name each revision once
+pub stamps-distinct : (past : List Entry) → Distinct (revisions (stamps_of past))
+stamps-distinct [] = tt
+stamps-distinct (e ∷ before) = distinct-stamp_all e before (touched e before) (stamps_of before) (stamps-distinct before)

@@ -1,0 +1,125 @@
+-- The order in which the revisions of a past left the active service.
+use Rattle.std.proofs.Common.{◌≡◌, ◌<◌, ◌≤◌, ℕ, suc, Bool, true, false, not, cond, ◌==◌, List, [], ◌∷◌, length, Option, Some, None, refl, arith}
+use Rattle.std.proofs.lemmas.Bool.Decides.{nat_tests}
+use Rattle.bg_history.specs.declared.entry.Entry.{Entry}
+use Rattle.bg_history.specs.Turns.{moment}
+use Rattle.bg_history.specs.Selections.{active_of}
+use Rattle.bg_history.specs.Marks.{Kind, Left, Superseded, Cleared, kind_of}
+use Rattle.bg_scaledown.specs.declared.mark.Cause.TheVariants as cause
+use Rattle.bg_scaledown.specs.Due.{is_left}
+use Rattle.bg_scaledown.specs.Past.{Stamp, stamp_at, others, stamped, touched, stamp_all, stamps_of}
+use Rattle.bg_scaledown.proofs.Filters.{filter-swap, filter-twice}
+
+-- the stamp is of a revision that left
+abbrev pub has_left : Stamp → Bool
+has_left stamp = is_left stamp.mark.cause
+
+-- of the stamps, each that left did so before that many entries stood
+abbrev pub LeftBefore : ℕ → List Stamp → Type 0
+LeftBefore stood [] = Unit {0}
+LeftBefore stood (stamp ∷ stamps) = (has_left stamp ≡ true → stamp.stood < stood) × LeftBefore stood stamps
+
+-- of the stamps that left, the later ones stand in front
+abbrev pub Ordered : List Stamp → Type 0
+Ordered [] = Unit {0}
+Ordered (stamp ∷ stamps) = (has_left stamp ≡ true → LeftBefore stamp.stood stamps) × Ordered stamps
+
+-- what left before fewer entries stood left before more did
+left_before-more : (low high : ℕ) (stamps : List Stamp) → low ≤ high → LeftBefore low stamps → LeftBefore high stamps
+left_before-more low high [] le h = tt
+left_before-more low high (stamp ∷ stamps) le h = ((λ left. let lt : stamp.stood < low = h.0 left in omega arith), left_before-more low high stamps le h.1)
+
+-- one more stamp, where a test holds
+left_before-cond : (b : Bool) (low : ℕ) (stamp : Stamp) (stamps : List Stamp) → (has_left stamp ≡ true → stamp.stood < low) → LeftBefore low stamps → LeftBefore low (cond b (stamp ∷ stamps) stamps)
+left_before-cond true low stamp stamps here h = (here, h)
+left_before-cond false low stamp stamps here h = h
+
+-- it stays so when stamps are dropped
+left_before-others : (low q : ℕ) (stamps : List Stamp) → LeftBefore low stamps → LeftBefore low (others q stamps)
+left_before-others low q [] h = tt
+left_before-others low q (stamp ∷ stamps) h = left_before-cond (not (stamp.mark.revision == q)) low stamp (others q stamps) h.0 (left_before-others low q stamps h.1)
+
+-- so does the order
+ordered-cond : (b : Bool) (stamp : Stamp) (stamps : List Stamp) → (has_left stamp ≡ true → LeftBefore stamp.stood stamps) → Ordered stamps → Ordered (cond b (stamp ∷ stamps) stamps)
+ordered-cond true stamp stamps here h = (here, h)
+ordered-cond false stamp stamps here h = h
+
+ordered-others : (q : ℕ) (stamps : List Stamp) → Ordered stamps → Ordered (others q stamps)
+ordered-others q [] h = tt
+ordered-others q (stamp ∷ stamps) h =
+    ordered-cond (not (stamp.mark.revision == q)) stamp (others q stamps) (λ left. left_before-others stamp.stood q stamps (h.0 left)) (ordered-others q stamps h.1)
+
+-- the order in which two revisions are dropped doesn't matter, nor does a second time
+others-swap : (a q : ℕ) (stamps : List Stamp) → others a (others q stamps) ≡ others q (others a stamps)
+others-swap a q stamps = filter-swap (λ stamp. not (stamp.mark.revision == a)) (λ stamp. not (stamp.mark.revision == q)) stamps
+
+others-twice : (a : ℕ) (stamps : List Stamp) → others a (others a stamps) ≡ others a stamps
+others-twice a stamps = filter-twice (λ stamp. not (stamp.mark.revision == a)) stamps
+
+-- what is kept while an entry stamps one revision after another: n entries stood before it and `a` was active,
+-- so that the one stamp that leaves now is that of `a`
+record Within (n a : ℕ) (stamps : List Stamp) : Type 0 where
+  all : LeftBefore (suc n) stamps
+  but : LeftBefore n (others a stamps)
+  ordered : Ordered stamps
+
+-- that is kept when a stamp is dropped
+within-others : (n a q : ℕ) (stamps : List Stamp) → Within n a stamps → Within n a (others q stamps)
+within-others n a q stamps h = record {
+  all = left_before-others (suc n) q stamps h.all;
+  but = rw (others-swap a q stamps) (left_before-others n q (others a stamps) h.but);
+  ordered = ordered-others q stamps h.ordered;
+}
+
+-- an entry makes no other revision leave than the active one
+left_is_active : (q : ℕ) (e : Entry) (before : List Entry) → kind_of q e before ≡ Some Left → active_of before ≡ q
+left_is_active q e before h = grind (arith, nat_tests)
+
+-- a stamp of the revision is dropped with its others
+others-drops : (a : ℕ) (stamp : Stamp) (stamps : List Stamp) → stamp.mark.revision ≡ a → others a (stamp ∷ stamps) ≡ others a stamps
+others-drops a stamp stamps is = grind (arith, nat_tests)
+
+-- when the active revision leaves
+within-left : (n a at : ℕ) (stamps : List Stamp) → Within n a stamps → Within n a (stamp_at a cause.Left at n ∷ others a stamps)
+within-left n a at stamps h = record {
+  all = ((λ _. omega arith), left_before-others (suc n) a stamps h.all);
+  but = rw (others-drops a (stamp_at a cause.Left at n) (others a stamps) refl, others-twice a stamps) h.but;
+  ordered = ((λ _. h.but), ordered-others a stamps h.ordered);
+}
+
+-- when a revision is superseded
+within-superseded : (n a q at : ℕ) (stamps : List Stamp) → Within n a stamps → Within n a (stamp_at q cause.Superseded at n ∷ others q stamps)
+within-superseded n a q at stamps h =
+    let stamp : Stamp = stamp_at q cause.Superseded at n in
+    let rest : Within n a (others q stamps) = within-others n a q stamps h in
+    record {
+      all = ((λ left. absurd (cc)), rest.all);
+      but = left_before-cond (not (q == a)) n stamp (others a (others q stamps)) (λ left. absurd (cc)) rest.but;
+      ordered = ((λ left. absurd (cc)), rest.ordered);
+    }
+
+-- over an entry's mark for one revision, and for several
+within-stamped : (q : ℕ) (e : Entry) (before : List Entry) (k : Option Kind) (at : ℕ) (stamps : List Stamp) → kind_of q e before ≡ k
+    → Within (length before) (active_of before) stamps → Within (length before) (active_of before) (stamped k q at (length before) stamps)
+within-stamped q e before None at stamps is h = h
+within-stamped q e before (Some Left) at stamps is h = rw (← left_is_active q e before is) (within-left (length before) (active_of before) at stamps h)
+within-stamped q e before (Some Superseded) at stamps is h = within-superseded (length before) (active_of before) q at stamps h
+within-stamped q e before (Some Cleared) at stamps is h = within-others (length before) (active_of before) q stamps h
+
+within-stamp_all : (e : Entry) (before : List Entry) (qs : List ℕ) (stamps : List Stamp)
+    → Within (length before) (active_of before) stamps → Within (length before) (active_of before) (stamp_all e before qs stamps)
+within-stamp_all e before [] stamps h = h
+within-stamp_all e before (q ∷ qs) stamps h =
+    within-stamped q e before (kind_of q e before) (moment (e ∷ before)) (stamp_all e before qs stamps) refl (within-stamp_all e before qs stamps h)
+
+-- in a past's stamps those that left later stand in front
+pub stamps-ordered : (past : List Entry) → LeftBefore (length past) (stamps_of past) × Ordered (stamps_of past)
+stamps-ordered [] = (tt, tt)
+stamps-ordered (e ∷ before) =
+    let h : LeftBefore (length before) (stamps_of before) × Ordered (stamps_of before) = stamps-ordered before in
+    let w : Within (length before) (active_of before) (stamps_of (e ∷ before)) = within-stamp_all e before (touched e before) (stamps_of before) (record {
+      all = left_before-more (length before) (suc (length before)) (stamps_of before) (omega arith) h.0;
+      but = left_before-others (length before) (active_of before) (stamps_of before) h.0;
+      ordered = h.1;
+    }) in
+    (w.all, w.ordered)

@@ -1,0 +1,92 @@
+-- The rank of a revision in the table of a past is its rank by that past.
+use Rattle.std.proofs.Common.{◌≡◌, ◌+◌, ℕ, Bool, true, false, not, cond, ◌&&◌, nat_lt, List, [], ◌∷◌, count_by, Option, Some, None, refl, arith, ◌∙◌, ap, sym}
+use Rattle.std.proofs.lemmas.Bool.Decides.{nat_tests}
+use Rattle.std.proofs.lemmas.List.Sums.{sum_by-cons}
+use Rattle.bg_history.specs.declared.entry.Entry.{Entry}
+use Rattle.bg_strategy.specs.declared.strategy.Strategy.{Strategy}
+use Rattle.bg_history.specs.Selections.{is_selected}
+use Rattle.bg_history.specs.Sizes.{existing, is_scaled}
+use Rattle.bg_history.specs.Marks.{Kind, Left, Superseded, Cleared, Mark, mark}
+use Rattle.bg_history.specs.Deadlines.{is_spare, left_later, rank_after}
+use Rattle.bg_scaledown.specs.Due.{one_if, rank_in}
+use Rattle.bg_scaledown.specs.Past.{Stamp, stamp_of, stamps_of, marks_of}
+use Rattle.bg_scaledown.proofs.Counts.{count, member, Distinct, count-same}
+use Rattle.bg_scaledown.proofs.Lookups.{live, stamp_of-past}
+use Rattle.bg_scaledown.proofs.Orders.{has_left, stamps-ordered}
+use Rattle.bg_scaledown.proofs.Once.{revisions, stamps-distinct}
+use Rattle.bg_scaledown.proofs.Ranks.{later, rank_in-is_later}
+
+-- the stamp left after that many entries
+abbrev pub stamp_later : ℕ → Option Stamp → Bool
+stamp_later stood None = false
+stamp_later stood (Some stamp) = has_left stamp && nat_lt stood stamp.stood
+
+-- the revision is counted, and its stamp left after that many entries
+abbrev pub by_stamp : (ℕ → Bool) → ℕ → List Stamp → ℕ → Bool
+by_stamp counted stood stamps q = counted q && stamp_later stood (stamp_of q stamps)
+
+-- tests that agree count alike
+count-ext : (p t : ℕ → Bool) (xs : List ℕ) → ((q : ℕ) → p q ≡ t q) → count p xs ≡ count t xs
+count-ext p t [] same = refl
+count-ext p t (x ∷ xs) same = rw (same x, count-ext p t xs same) refl
+
+-- a stamp of none of the numbers changes no count
+count-by_stamp_absent : (counted : ℕ → Bool) (stood : ℕ) (stamp : Stamp) (stamps : List Stamp) (xs : List ℕ) → member stamp.mark.revision xs ≡ false
+    → count (by_stamp counted stood (stamp ∷ stamps)) xs ≡ count (by_stamp counted stood stamps) xs
+count-by_stamp_absent counted stood stamp stamps [] out = refl
+count-by_stamp_absent counted stood stamp stamps (x ∷ xs) out = grind (arith, nat_tests, count-by_stamp_absent counted stood stamp stamps xs)
+
+-- the stamps that left later are counted by their revisions
+later-is_count : (counted : ℕ → Bool) (stood : ℕ) (stamps : List Stamp) → Distinct (revisions stamps) → later counted stood stamps ≡ count (by_stamp counted stood stamps) (revisions stamps)
+later-is_count counted stood [] distinct = refl
+later-is_count counted stood (stamp ∷ stamps) distinct =
+    grind (arith, nat_tests, later-is_count counted stood stamps distinct.1, count-by_stamp_absent counted stood stamp stamps (revisions stamps) distinct.0)
+
+-- a stamp left later where its mark did
+stamp_later-live : (stood q : ℕ) (m : Option Mark) → stamp_later stood (live q m) ≡ left_later stood m
+stamp_later-live stood q None = refl
+stamp_later-live stood q (Some m) = stamp_later-kind stood q m.kind m.moment m.stood where
+  stamp_later-kind : (stood q : ℕ) (k : Kind) (at n : ℕ) → stamp_later stood (live q (Some (record { kind = k; moment = at; stood = n }))) ≡ left_later stood (Some (record { kind = k; moment = at; stood = n }))
+  stamp_later-kind stood q Left at n = refl
+  stamp_later-kind stood q Superseded at n = refl
+  stamp_later-kind stood q Cleared at n = refl
+
+-- what is counted has a stamp
+by_stamp-member : (counted : ℕ → Bool) (stood q : ℕ) (stamps : List Stamp) → by_stamp counted stood stamps q ≡ true → member q (revisions stamps) ≡ true
+by_stamp-member counted stood q [] h = grind (arith, nat_tests)
+by_stamp-member counted stood q (stamp ∷ stamps) h = grind (arith, nat_tests, by_stamp-member counted stood q stamps)
+
+-- tests that agree on the stamps' revisions count alike
+later-ext : (p t : ℕ → Bool) (stood : ℕ) (stamps : List Stamp) → ((q : ℕ) → member q (revisions stamps) ≡ true → p q ≡ t q) → later p stood stamps ≡ later t stood stamps
+later-ext p t stood [] same = refl
+later-ext p t stood (stamp ∷ stamps) same =
+    let here : p stamp.mark.revision ≡ t stamp.mark.revision = same stamp.mark.revision (grind (arith, nat_tests)) in
+    let rest : later p stood stamps ≡ later t stood stamps = later-ext p t stood stamps (λ q h. same q (grind (arith, nat_tests))) in
+    rw (here, rest) refl
+
+-- std's count by a test is the same number
+count_by-is_count : (p : ℕ → Bool) (xs : List ℕ) → count_by p xs ≡ count p xs
+count_by-is_count p [] = refl
+count_by-is_count p (x ∷ xs) = sum_by-cons (λ y. cond (p y) 1 0) x xs ∙ ap (λ n. one_if (p x) + n) (count_by-is_count p xs)
+
+-- what a book knows of its past between calls: the revisions with a stamp exist and are scaled
+pub record StampsStand (s : Strategy) (past : List Entry) : Type 0 where
+  pub exist : (q : ℕ) → member q (revisions (stamps_of past)) ≡ true → member q (existing past) ≡ true
+  pub scaled : (q : ℕ) → member q (revisions (stamps_of past)) ≡ true → is_scaled s q past ≡ true
+  pub distinct : Distinct (existing past)
+
+-- the rank in the table is the number of spare revisions that left later
+pub rank_in-is_rank : (s : Strategy) (r : ℕ) (past : List Entry) (me : Stamp) → StampsStand s past → stamp_of r (stamps_of past) ≡ Some me → has_left me ≡ true
+    → rank_in (λ q. not (is_selected q past)) r (marks_of (stamps_of past)) ≡ rank_after s me.stood past
+rank_in-is_rank s r past me stands here left =
+    let spare : ℕ → Bool = λ q. is_spare s q past in
+    let by : ℕ → Bool = by_stamp spare me.stood (stamps_of past) in
+    rank_in-is_later (λ q. not (is_selected q past)) r (stamps_of past) me (stamps-ordered past).1 here left
+    ∙ later-ext (λ q. not (is_selected q past)) spare me.stood (stamps_of past) (λ q h. rw (stands.scaled q h) refl)
+    ∙ later-is_count spare me.stood (stamps_of past) (stamps-distinct past)
+    ∙ count-same by (revisions (stamps_of past)) (existing past) (stamps-distinct past) stands.distinct
+    (λ q h. by_stamp-member spare me.stood q (stamps_of past) h)
+    (λ q h. stands.exist q (by_stamp-member spare me.stood q (stamps_of past) h))
+    ∙ count-ext by (λ q. is_spare s q past && left_later me.stood (mark q past)) (existing past)
+    (λ q. ap (λ stamp. is_spare s q past && stamp_later me.stood stamp) (stamp_of-past q past) ∙ ap (λ b. is_spare s q past && b) (stamp_later-live me.stood q (mark q past)))
+    ∙ sym (count_by-is_count (λ q. is_spare s q past && left_later me.stood (mark q past)) (existing past))

@@ -1,0 +1,11 @@
+//! The deadlines after which an old revision may be scaled down.
+#![tactic(auto)]
+
+mod deadlines;
+mod mark;
+mod marks;
+#[cfg(test)]
+mod tests;
+
+pub use deadlines::Deadlines;
+pub use mark::{Cause, Mark, Selected};

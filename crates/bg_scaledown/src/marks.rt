@@ -1,0 +1,61 @@
+//! A fixed table of marks.
+ghost use Rattle.std.specs.Prelude.{◌≡◌, ◌<◌, ◌≤◌, [], ◌∷◌, ◌++◌, length};
+
+use crate::mark::{Cause, Mark};
+use std::marker::Model;
+
+/// The most marks that a table holds: one for each revision.
+pub const MOST_MARKS: usize = 64;
+
+const NO_MARK: Mark = Mark {
+    revision: 0,
+    cause: Cause::Superseded,
+    moment: 0,
+};
+
+/// At most 64 marks in a table of fixed size, which contracts see as a list.
+#[derive(Drop)]
+pub struct Marks {
+    table: [Mark; MOST_MARKS],
+    count: usize,
+}
+
+impl Model for Marks {
+    ghost use Rattle.std.specs.Prelude.{◌≤◌, List, take};
+    ghost use Rattle.bg_scaledown.specs.declared.mark.Mark.{Mark};
+
+    ghost Value = { List Mark };
+
+    ghost view = { λ m. take m.count m.table };
+
+    ghost invariant = { λ m. m.count ≤ 64 };
+}
+
+impl Marks {
+    /// No mark.
+    pub fn new() -> Marks
+        ensures { result ≡ [] }
+    {
+        Marks {
+            table: [NO_MARK; MOST_MARKS],
+            count: 0,
+        }
+    }
+
+    /// Adds a mark at the end.
+    pub fn push(&mut self, mark: Mark)
+        requires { length self.old < 64 }
+        ensures { self.new ≡ self.old ++ mark ∷ [] }
+    {
+        self.table[self.count] = mark;
+        self.count += 1;
+    }
+
+    /// The marks in order.
+    pub fn as_slice(&self) -> &[Mark]
+        ensures marks { result.now ≡ self.now }
+        ensures few { length result.now ≤ 64 }
+    {
+        &self.table[..self.count]
+    }
+}

@@ -1,0 +1,226 @@
+-- What holds of words that the program takes.
+use Rattle.std.proofs.Common.{◌≡◌, ◌≢◌, ◌⊎◌, inl, inr, arith, slice_index, List, [], ◌∷◌, refl, sym, ◌∙◌, ap, subst}
+use Rattle.std.specs.Prelude.{Bool, true, false, ◌&&◌, not, Option, Some, None, is_some, find, cond, codes, fold, length, option_map}
+use Rattle.std.specs.Option.{option_map_or}
+use Rattle.clap.specs.Takes.{value_passes}
+use Rattle.clap.specs.Walk.{Row, Text, Rule, arg_by_id, walk, nothing_held, rows_after, stop_after, walk_from, settled, used, with_default, has_row, answers_to, default_rows, reading_by}
+use Rattle.clap.specs.Simple.{Shape, App, built, built_leaf, argument_words, names_of, entered, subcommand_of, rows_at, inherited, with_leaf_noted, marked_built, label_of, with_index, filled, help_rule}
+use Rattle.clap.specs.Kinds.{check_kinds, range_kinds}
+use Rattle.clap.specs.Faults.{fault_of, built_fault, level_fault, use_fault, walk_fault, entered_fault, repeat_fault}
+use Rattle.clap.specs.Words.{HasMatchesOf, subcommand_name_of, is_simple, is_simple_and_free, subcommand_rows_of}
+use Rattle.clap.specs.declared.parser.matches.ArgMatches.{ArgMatches}
+use Rattle.clap.specs.declared.builder.value_parser.ValueParser.TheVariants as value_parser
+use Rattle.clap.specs.declared.builder.value_parser.Reading.TheVariants as reading
+use Rattle.clap.specs.declared.parser.matches.ValueSource.TheVariants as value_source
+use Rattle.clap.proofs.OnLiterals.{clap_on_literals}
+use Rattle.clap.proofs.ValueTestLemmas.{accepts-Accepts}
+use Rattle.bg_switch.specs.declared.orders.Order.{Order}
+use Rattle.bg_switch.specs.CommandLine.{IsOrderOf, IsIn, IsKnown, program, check_app, replay_app, seats_rule}
+use Rattle.bg_switch.proofs.WordsTaken.{none_else, walk_keeps, settled_keeps}
+use Rattle.bg_switch.proofs.ValuesPass.{AreGood, first_passes, use_keeps}
+
+-- ---- the subcommand that is entered
+
+check_has : (has a required w : Bool) → required ≡ true → check_kinds (not has && a) (not has && required) w ≡ [] → has ≡ true
+check_has true a required w r e = refl
+check_has false true required w r e = cc
+check_has false false true w r e = cc
+check_has false false false w r e = cc
+
+abbrev Among : Shape → List Shape → Type 0
+Among s [] = ⊥
+Among s (x ∷ xs) = (x ≡ s) ⊎ Among s xs
+
+-- the words enter one of the subcommands, and it takes the words that are left
+pub record Enters (a : App) (stop : Option (Text × List Text)) : Type 0 where
+  pub shape : Shape
+  pub among : Among shape a.subs
+  pub rest : List Text
+  pub is : entered a stop ≡ Some (rows_at shape rest)
+  pub passes : level_fault shape [] nothing_held rest false [] ≡ []
+
+-- what `find` found
+found_among : (p : Shape → Bool) (xs : List Shape) (s : Shape) → find p xs ≡ Some s → Among s xs
+found_among p [] s e = cc
+found_among p (x ∷ xs) s e = go (p x) e (λ h. found_among p xs s h)
+  where
+    go : (b : Bool) → cond b (Some x) (find p xs) ≡ Some s → (find p xs ≡ Some s → Among s xs) → Among s (x ∷ xs)
+    go true h rest = inl cc
+    go false h rest = inr (rest h)
+
+enters_at : (subs : List Shape) (p : Text × List Text) (o : Option Shape) → find (λ s. answers_to p.0 (label_of s)) subs ≡ o
+    → is_some (option_map (λ x. rows_at x p.1) o) ≡ true
+    → option_map_or (λ x. level_fault x [] nothing_held p.1 false []) o [] ≡ []
+    → (s : Shape) × Among s subs × (option_map (λ x. rows_at x p.1) o ≡ Some (rows_at s p.1)) × (level_fault s [] nothing_held p.1 false [] ≡ [])
+enters_at subs p None is h e = cc
+enters_at subs p (Some s) is h e = (s, found_among (λ s. answers_to p.0 (label_of s)) subs s is, refl, e)
+
+enters : (a : App) (stop : Option (Text × List Text)) → is_some (entered a stop) ≡ true → entered_fault a stop ≡ [] → Enters a stop
+enters a None h e = cc
+enters a (Some p) h e =
+    let x = enters_at a.subs p (find (λ s. answers_to p.0 (label_of s)) a.subs) refl h e in
+    record { shape = x.0; among = x.1; rest = p.1; is = x.2; passes = x.3 }
+
+one_entered : (a : App) (words : List Text) → a.top.subcommand_required ≡ true → built_fault a nothing_held words ≡ []
+    → Enters a (stop_after a.top.rules (names_of a) words)
+one_entered a words required e =
+    let f = none_else _ _ e in
+    let g = none_else _ _ f.1 in
+    let h = none_else _ _ g.1 in
+    let i = none_else _ _ h.1 in
+    enters a (stop_after a.top.rules (names_of a) words) (check_has _ _ a.top.subcommand_required _ required i.1) g.0
+
+-- ---- the rows of a subcommand whose arguments are options with one value, and `--help`
+
+abbrev Keeps : List Rule → Rule → Type 0
+Keeps c a = (values : List Text) (rows : List Row) → AreGood c rows → use_fault false a values rows ≡ [] → AreGood c (used a values rows)
+
+abbrev Each : (Rule → Type 0) → List Rule → Type 0
+Each K [] = Unit {0}
+Each K (a ∷ rest) = K a × Each K rest
+
+found_each : (K : Rule → Type 0) (p : Rule → Bool) (xs : List Rule) (a : Rule) → Each K xs → find p xs ≡ Some a → K a
+found_each K p [] a all e = cc
+found_each K p (x ∷ xs) a all e = go (p x) e (λ h. found_each K p xs a all.1 h)
+  where
+    go : (b : Bool) → cond b (Some x) (find p xs) ≡ Some a → (find p xs ≡ Some a → K a) → K a
+    go true h rest = let same : x ≡ a = cc in subst K same all.0
+    go false h rest = rest h
+
+-- the rule of `--seats` as `clap` holds it in the built command
+abbrev seats : Rule
+seats = with_index 1 (filled seats_rule)
+
+seats_keeps : (c : List Rule) → arg_by_id c (codes "seats") ≡ Some seats → Keeps c seats
+seats_keeps c own values rows g e =
+    let f = none_else (range_kinds 1 1 (length values)) _ e in
+    let h = none_else (repeat_fault false (codes "seats") rows) _ f.1 in
+    use_keeps c seats reading.AsWritten value_source.CommandLine values rows own f.0 h.1 g
+
+-- a use of `--help` adds no row
+help_keeps : (c : List Rule) → Keeps c (with_index 1 (filled help_rule))
+help_keeps c values rows g e = g
+
+default_one : (R : List Row → Type 0) (b : Bool) (rows : List Row) → R rows → R (cond b rows rows)
+default_one R true rows g = g
+default_one R false rows g = g
+
+default_keeps : (R : List Row → Type 0) (a : Rule) (defaults : List Text) (rows : List Row) → defaults ≡ [] → R rows
+    → R (cond (has_row a.id rows) rows (default_rows a.id (reading_by a) defaults rows))
+default_keeps R a [] rows e g = default_one R (has_row a.id rows) rows g
+default_keeps R a (x ∷ xs) rows e g = cc
+
+defaults_keep : (R : List Row → Type 0) (xs : List Rule) (rows : List Row) → Each (λ a. a.defaults ≡ []) xs → R rows → R (fold with_default rows xs)
+defaults_keep R [] rows all g = g
+defaults_keep R (x ∷ xs) rows all g = defaults_keep R xs (with_default rows x) all.1 (default_keeps R x x.defaults rows all.0 g)
+
+leaf_good : (s : Shape) (words : List Text) → s.args_override_self ≡ false → Each (Keeps s.rules) s.rules → Each (λ a. a.defaults ≡ []) s.rules
+    → level_fault s [] nothing_held words false [] ≡ [] → AreGood s.rules (rows_after s.rules [] words)
+leaf_good s words again keep plain e =
+    let f = none_else (walk_fault s [] (walk_from nothing_held) words) _ e in
+    let g = none_else _ _ f.1 in
+    let end = (walk s.rules [] nothing_held words).held in
+    let keeps : (p : Rule → Bool) (a : Rule) → find p s.rules ≡ Some a → (values : List Text) (rows : List Row) → AreGood s.rules rows
+    → use_fault s.args_override_self a values rows ≡ [] → AreGood s.rules (used a values rows) =
+    λ p a is values rows r u. found_each (Keeps s.rules) p s.rules a keep is values rows r (ap (λ (b : Bool). use_fault b a values rows) (sym again) ∙ u) in
+    let walked_good : AreGood s.rules end.rows = walk_keeps (AreGood s.rules) s keeps [] words (walk_from nothing_held) tt f.0 in
+    let settled_good : AreGood s.rules (settled s.rules end).rows = settled_keeps (AreGood s.rules) s keeps end walked_good g.0 in
+    defaults_keep (AreGood s.rules) s.rules (settled s.rules end).rows plain settled_good
+
+abbrev built_sub : Shape → Shape
+built_sub s = built_leaf (inherited (with_leaf_noted (marked_built program.top)) s)
+
+abbrev replay : Shape
+replay = built_sub replay_app.top
+
+replay_keeps : Each (Keeps replay.rules) replay.rules
+replay_keeps = (seats_keeps replay.rules refl, (help_keeps replay.rules, tt))
+
+-- `--seats` has a number from 1 to 8, where it is given
+replay_known : (words : List Text) → level_fault replay [] nothing_held words false [] ≡ [] → IsIn 1 8 (codes "seats") (rows_after replay.rules [] words)
+replay_known words e t at =
+    let rows = rows_after replay.rules [] words in
+    let good : AreGood replay.rules rows = leaf_good replay words refl replay_keeps (refl, (refl, tt)) e in
+    let pass : option_map_or (λ a. value_passes a t) (arg_by_id replay.rules (codes "seats")) true ≡ true = first_passes replay.rules (codes "seats") rows t good at in
+    accepts-Accepts false (value_parser.Unsigned 1 8) t pass
+
+-- ---- the matches
+
+differ : (xs ys : Text) → slice_index xs 0 ≢ slice_index ys 0 → xs ≡ ys → ⊥
+differ xs ys n e = n (ap (λ (t : Text). slice_index t 0) e)
+
+check_known : (rows : List Row) → IsKnown (codes "check") rows
+check_known rows = record { is_replay = λ n. absurd (n refl); seats = λ e. absurd (differ (codes "check") (codes "replay") (omega arith) e) }
+
+replay_is_known : (rows : List Row) → IsIn 1 8 (codes "seats") rows → IsKnown (codes "replay") rows
+replay_is_known rows h = record { is_replay = λ _. refl; seats = λ _. h }
+
+abbrev check : Shape
+check = built_sub check_app.top
+
+abbrev Knows : List Text → Shape → Type 0
+Knows rest s = level_fault s [] nothing_held rest false [] ≡ [] → IsKnown s.name (rows_after s.rules [] rest)
+
+known_of : (s : Shape) (rest : List Text) → Among s (check ∷ replay ∷ []) → Knows rest s
+known_of s rest among = elim among [
+  | inl is ↦ subst (Knows rest) is (λ e. check_known (rows_after check.rules [] rest))
+  | inr m ↦ elim m [
+    | inl is ↦ subst (Knows rest) is (λ e. replay_is_known (rows_after replay.rules [] rest) (replay_known rest e))
+    | inr never ↦ absurd never
+  ]
+]
+
+-- what the matches of the program's words are
+pub record IsMet (words : List Text) (m : ArgMatches) : Type 0 where
+  pub none : fault_of program words ≡ []
+  pub name : Text
+  pub rows : List Row
+  pub is : subcommand_of program words ≡ Some (name, rows)
+  pub same : subcommand_rows_of m ≡ Some (name, rows)
+  pub known : IsKnown name rows
+
+is_simple_program : is_simple program ≡ true
+unfolding clap_on_literals
+is_simple_program = refl
+
+is_free_program : is_simple_and_free program ≡ true
+unfolding clap_on_literals
+is_free_program = refl
+
+pub met : (app : App) (words : List Text) (m : ArgMatches) → app ≡ program → (is_simple_and_free app ≡ true → fault_of app words ≡ [])
+    → HasMatchesOf app words m → IsMet words m
+met app words m is none has =
+    let free : is_simple_and_free app ≡ true = ap is_simple_and_free is ∙ is_free_program in
+    let simple : is_simple app ≡ true = ap is_simple is ∙ is_simple_program in
+    let no_fault : fault_of program words ≡ [] = sym (ap (λ (a : App). fault_of a words) is) ∙ none free in
+    let x = one_entered (built program) (argument_words program words) refl no_fault in
+    record {
+      none = no_fault;
+      name = x.shape.name;
+      rows = rows_after x.shape.rules [] x.rest;
+      is = x.is;
+      same = (has simple).1 ∙ (ap (λ (a : App). subcommand_of a words) is ∙ x.is);
+      known = known_of x.shape x.rest x.among x.passes;
+    }
+
+pub inner_rows : {P : Type 0} (f : P → List Row) (o : Option P) (v : P) (q : Option (Text × List Row)) (x : Text × List Row)
+    → option_map f o ≡ option_map (λ p. p.1) q → q ≡ Some x → o ≡ Some v → f v ≡ x.1
+inner_rows f o v q x e eq is = let h = rw (is, eq) at e in cc
+
+name_of_rows : {B : Type 0} (f : B → Text) (g : B → List Row) (o : Option B) (x : Text × List Row) → option_map (λ b. (f b, g b)) o ≡ Some x → option_map f o ≡ Some x.0
+name_of_rows f g None x e = cc
+name_of_rows f g (Some b) x e = let same : (f b, g b) ≡ x = cc in ap (λ (p : Text × List Row). Some p.0) same
+
+pub inner_name : {P : Type 0} (f : P → Text) (o : Option P) (v : P) (m : ArgMatches) (x : Text × List Row)
+    → option_map f o ≡ subcommand_name_of m → subcommand_rows_of m ≡ Some x → o ≡ Some v → f v ≡ x.0
+inner_name f o v m x e same is =
+    let named : subcommand_name_of m ≡ Some x.0 = name_of_rows _ _ _ x same in
+    let h = rw is at e in
+    let k = h ∙ named in
+    cc
+
+pub known_as : (n name : Text) (r rows : List Row) → n ≡ name → r ≡ rows → IsKnown name rows → IsKnown n r
+known_as n name r rows e f h = rw (e, f) h
+
+pub order_as : (n name : Text) (r rows : List Row) (o : Order) → n ≡ name → r ≡ rows → IsOrderOf n r o → IsOrderOf name rows o
+order_as n name r rows o e f h = subst (λ (t : Text). IsOrderOf t rows o) e (subst (λ (x : List Row). IsOrderOf n x o) f h)

@@ -1,0 +1,29 @@
+-- Lemmas on the lines that are written for the elements of a list, one after the other.
+use Rattle.std.proofs.Common.{◌≡◌, ℕ, ◌+◌, ◌<◌, arith, inl, inr, None, List, [], ◌∷◌, ◌++◌, take, length, flat_map, slice_get, Option, Some, sym, ap, ◌∙◌, subst}
+use Rattle.std.proofs.lemmas.List.{take_more, flat_map_more}
+use Rattle.std.proofs.lemmas.Option.{none-some, slice_get_within, slice_get_cases, get_or_from_slice_get}
+use Rattle.std.specs.Io.KnownBytes.{Appends}
+use Rattle.std.proofs.KnownBytes.{Appends-trans}
+
+-- the elements up to a place, and the one there, are those up to the next place
+next_is : {X : Type 0} (xs : List X) (i : ℕ) (x : X) → slice_get xs i ≡ Some x → take (i + 1) xs ≡ take i xs ++ x ∷ []
+next_is xs i x here =
+    take_more xs i x (slice_get_within xs i x here)
+    ∙ ap (λ y. take i xs ++ y ∷ []) (get_or_from_slice_get xs i x x here)
+
+-- once more is written for the element at a place
+pub writes_next : {X : Type 0} (f : X → List ℕ) (xs : List X) (i : ℕ) (x : X) (first now new : Option (List ℕ))
+    → slice_get xs i ≡ Some x → Appends first now (flat_map f (take i xs)) → Appends now new (f x)
+    → Appends first new (flat_map f (take (i + 1) xs))
+writes_next f xs i x first now new here before written =
+    subst (λ (l : List ℕ). Appends first new l)
+    (flat_map_more f [] (take i xs) x ∙ ap (λ l. flat_map f l) (sym (next_is xs i x here)))
+    (Appends-trans first now new _ _ before written)
+
+-- each place before the end has an element
+pub has_element : {X : Type 0} (xs : List X) (i : ℕ) → i < length xs → slice_get xs i ≡ None → ⊥
+has_element xs i within none =
+    elim (slice_get_cases xs i).1 [
+      | inl w ↦ none-some w.0 (sym none ∙ w.2)
+      | inr w ↦ omega (arith, w.0)
+    ]

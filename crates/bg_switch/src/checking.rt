@@ -1,0 +1,42 @@
+//! `check`: what a strategy means.
+ghost use Rattle.std.specs.Prelude.{◌≡◌, IfOk, IfSome};
+ghost use Rattle.bg_switch.specs.Findings.{status_of};
+ghost use Rattle.bg_switch.specs.Checks.{Checks};
+
+use crate::finding::{Finding, finding_in};
+use crate::input::Input;
+use crate::run_end::RunEnd;
+use crate::strategy_part::whole_input;
+use crate::texts::finding_lines;
+use std::alloc::Global;
+use std::io::{Read, Write};
+
+/// Tells what the strategy means that the whole input is the JSON text of, by a line for each of its
+/// settings, or its first fault. Answers the exit status: 0, or 1 after a fault.
+///
+/// An input above 1,048,576 bytes is answered `fault TooLarge`, and is not read to its end. Where a
+/// read or a write fails, or memory is refused, what was written before is of no use.
+pub fn check<R: Read, W: Write>(alloc: Global, reader: &mut R, writer: &mut W) -> Result<u8, RunEnd>
+    ensures { IfOk result (λ status. IfSome (R.remaining reader.old)
+        (Checks (W.contents writer.old) (W.contents writer.new) status)) }
+{
+    let mut input = Input::new(alloc)?;
+    let part = whole_input(alloc, &mut input, reader)?;
+    let finding = finding_in(alloc, &part)?;
+    match finding_lines(&finding, writer) {
+        Ok(()) => Ok(finding.status()),
+        Err(_) => Err(RunEnd::WriteFailed),
+    }
+}
+
+impl Finding {
+    /// The exit status: 1 after a fault.
+    pub fn status(&self) -> u8
+        ensures { result ≡ status_of self.now }
+    {
+        match self {
+            Finding::Means(_) => 0,
+            Finding::Refused(_) | Finding::TooLarge => 1,
+        }
+    }
+}

@@ -1,0 +1,34 @@
+//! What the program is to do.
+ghost use Rattle.std.specs.Prelude.{◌≡◌};
+ghost use Rattle.bg_switch.specs.declared.orders.OrderFault.TheVariants.{OutOfMemory};
+
+use clap::Error;
+use std::alloc::AllocError;
+use thiserror::Error as DeriveError;
+
+/// What the program is to do.
+#[derive(Clone, Copy, Debug, Drop, PartialEq, Eq)]
+pub enum Order {
+    /// Tell what the strategy on standard input means.
+    Check,
+    /// Answer the script after the strategy, with so many seats, 1 to 8.
+    Replay { seats: u8 },
+}
+
+/// Why the words are no order.
+#[derive(Debug, Drop, DeriveError)]
+pub enum OrderFault {
+    /// `clap` refuses the words, or was asked for help; its error is what the program prints.
+    #[error("the words are no order")]
+    Words(Error),
+    #[error("out of memory")]
+    OutOfMemory,
+}
+
+impl From<AllocError> for OrderFault {
+    ghost from_gives = { λ _ e. e ≡ OutOfMemory };
+
+    fn from(_refused: AllocError) -> OrderFault {
+        OrderFault::OutOfMemory
+    }
+}
