@@ -6,6 +6,7 @@ build:
 
 test:
 	rt ci
+	scripts/refused_memory.sh
 
 demo: build
 	bin/bg_switch check < examples/direct.json

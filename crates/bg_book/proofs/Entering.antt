@@ -18,7 +18,7 @@ use Rattle.bg_book.specs.declared.fault.EnterFault.TheVariants as fault
 use Rattle.bg_book.specs.OpenLists.{OpenAt, listed, requests_at, lists_of}
 use Rattle.bg_book.specs.Quiet.{Quiet}
 use Rattle.bg_book.specs.Refusals.{open_count, is_full_for_enter, enter_refusal, enter_refusal_at, IsTicket}
-use Rattle.bg_book.specs.Replies.{enter_entry, with_past}
+use Rattle.bg_book.specs.Replies.{enter_entry, seat_in, with_past}
 use Rattle.bg_book.specs.Routing.{Routing}
 use Rattle.bg_book.specs.States.{seated}
 use Rattle.bg_book.specs.Stands.{Running, Stands}
@@ -84,7 +84,7 @@ lists_entered s o past lists place list new seat service number r port q is one 
 -- a request entered
 pub stands-Enter : (b : Routing) (k : Running) (service : Service) (t : Ticket) (seat : Seat) (spare : ℕ) → Stands b k → enter_refusal b service ≡ None → IsTicket b service t
     → slice_get b.seats seat.index ≡ Some seat → seat.number ≡ 0 → 3 * (k.open_requests + 1) ≤ spare
-    → Stands (with_past b (enter_entry seat.index service t ∷ b.past) (slice_set b.seats seat.index (record seat { calls = seat.calls + 1; number = t.number; revision = t.revision; port = t.port })))
+    → Stands (with_past b (enter_entry seat.index service t ∷ b.past) (slice_set b.seats seat.index (seat_in seat t)))
     (record k { given = t.number; open_requests = k.open_requests + 1; spare = spare })
 stands-Enter b k service t seat spare stand refusal ticket known zero_number enough =
     let past = b.past in

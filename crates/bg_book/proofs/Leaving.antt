@@ -9,7 +9,7 @@ use Rattle.bg_promotion.proofs.Neutral.{stands_after_leave}
 use Rattle.bg_book.specs.declared.seat.Seat.{Seat}
 use Rattle.bg_book.specs.OpenLists.{OpenAt, without, lists_of}
 use Rattle.bg_book.specs.Quiet.{Quiet}
-use Rattle.bg_book.specs.Replies.{with_past}
+use Rattle.bg_book.specs.Replies.{seat_out, with_past}
 use Rattle.bg_book.specs.Routing.{Routing}
 use Rattle.bg_book.specs.States.{seated, seat_of}
 use Rattle.bg_book.specs.Stands.{Running, Stands}
@@ -52,7 +52,7 @@ one_open b k seat stand known some =
 -- a request left
 pub stands-Leave : (b : Routing) (k : Running) (seat : Seat) (spare : ℕ) → Stands b k → slice_get b.seats seat.index ≡ Some seat → seat.number ≢ 0
     → 3 * (k.open_requests - 1) ≤ spare
-    → Stands (with_past b (Leave seat.index seat.number seat.revision ∷ b.past) (slice_set b.seats seat.index (record seat { calls = seat.calls + 1; number = 0; revision = 0; port = 0 })))
+    → Stands (with_past b (Leave seat.index seat.number seat.revision ∷ b.past) (slice_set b.seats seat.index (seat_out seat)))
     (record k { open_requests = k.open_requests - 1; spare = spare })
 stands-Leave b k seat spare stand known some enough =
     let past = b.past in

@@ -1,7 +1,7 @@
 -- Seats of a slice, and runs of calls.
-use Rattle.std.proofs.Common.{◌≡◌, ◌≢◌, ℕ, Bool, true, false, ◌==◌, List, [], ◌∷◌, ◌++◌, slice_get, slice_set, Some, refl, sym, ap, ◌∙◌, subst, arith}
+use Rattle.std.proofs.Common.{◌≡◌, ◌≢◌, ◌<◌, ℕ, Bool, true, false, not, ◌==◌, List, [], ◌∷◌, ◌++◌, length, get_or, slice_get, slice_set, Some, refl, sym, ap, ◌∙◌, subst, arith}
 use Rattle.std.proofs.lemmas.Bool.Decides.{nat_tests}
-use Rattle.std.proofs.lemmas.Option.{slice_get_within}
+use Rattle.std.proofs.lemmas.Option.{slice_get_within, slice_get-get_or}
 use Rattle.bg_history.specs.declared.entry.Entry.{Entry}
 use Rattle.bg_book.specs.declared.calls.Call.{Call}
 use Rattle.bg_book.specs.declared.calls.Reply.{Reply}
@@ -11,6 +11,20 @@ use Rattle.bg_book.specs.Routing.{Routing}
 use Rattle.bg_book.specs.Runs.{AreKnown, AreApart, CallStep, Runs}
 use Rattle.bg_book.proofs.Requests.{some_is, eq_from}
 use Rattle.bg_book.proofs.Seats.{get-set_same, get-set_other}
+
+-- the seat that was read at its place
+abbrev pub read : List Seat → ℕ → Seat
+read seats place = get_or seats place (record { index = 0; calls = 0; number = 0; revision = 0; port = 0 })
+
+pub read_is : (seats : List Seat) (place : ℕ) → place < length seats → slice_get seats place ≡ Some (read seats place)
+read_is seats place h = slice_get-get_or seats place _ h
+
+-- what a seat's number says of it
+pub holds_one : (n : ℕ) (t : Bool) → t ≡ not (n == 0) → t ≡ true → n ≢ 0
+holds_one n t e h = grind (arith, nat_tests)
+
+pub holds_none : (n : ℕ) (t : Bool) → t ≡ not (n == 0) → t ≡ false → n ≡ 0
+holds_none n t e h = grind (arith, nat_tests)
 
 -- the seats stay known where one of them and its record change alike
 pub known_after : (b : Routing) (past : List Entry) (seats : List Seat) (place : ℕ) (seat v : Seat) → AreKnown b seats → AreApart seats

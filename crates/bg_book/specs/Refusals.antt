@@ -87,10 +87,14 @@ abbrev pub control_refusal : Routing → Control → Option control.ControlFault
 control_refusal b c =
     option_or (event_fault b c) (fault_if (is_full_for_control b.limits b.past) control_fault.HistoryFull None)
 
--- An answer by a refusal: accepted only where there is none, refused by it, or for want of memory where there is none.
+-- refused by the refusal, or for want of memory where there is none
+abbrev pub IsRefusedBy : {F : Type 0} → Option F → F → F → Type 0
+IsRefusedBy refusal out_of_memory e = (refusal ≡ Some e) ⊎ ((refusal ≡ None) × (e ≡ out_of_memory))
+
+-- an answer by a refusal: accepted only where there is none
 abbrev pub AnswersBy : {A F : Type 0} → Option F → F → Result A F → Type 0
 AnswersBy refusal out_of_memory (Ok a) = refusal ≡ None
-AnswersBy refusal out_of_memory (Err e) = (refusal ≡ Some e) ⊎ ((refusal ≡ None) × (e ≡ out_of_memory))
+AnswersBy refusal out_of_memory (Err e) = IsRefusedBy refusal out_of_memory e
 
 -- the ticket of a request that enters at a service: the next number, the selected revision, and its port in turn
 pub record IsTicket (b : Routing) (service : Service) (t : Ticket) : Type 0 where

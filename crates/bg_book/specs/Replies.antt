@@ -1,5 +1,5 @@
 -- What a call makes of a book.
-use Rattle.std.specs.Prelude.{◌≡◌, ℕ, List, ◌<◌, [], length, slice_get, Some, replicate}
+use Rattle.std.specs.Prelude.{◌≡◌, ℕ, ◌+◌, List, ◌<◌, [], length, slice_get, Some, replicate}
 use Rattle.bg_book.specs.declared.limits.Limits.{Limits}
 use Rattle.bg_strategy.specs.declared.strategy.Strategy.{Strategy}
 use Rattle.bg_revisions.specs.declared.revision.Service.{Service}
@@ -38,6 +38,13 @@ opened s name ports count limits seats = record {
 -- the book with another past: its lists are those that this asks for, and these are the records of its seats
 abbrev pub with_past : Routing → List Entry → List Seat → Routing
 with_past b past seats = record b { past = past; lists = lists_of past; seats = seats }
+
+-- a seat after a request with this ticket entered, and after its request left: one call more
+abbrev pub seat_in : Seat → Ticket → Seat
+seat_in seat t = record seat { calls = seat.calls + 1; number = t.number; revision = t.revision; port = t.port }
+
+abbrev pub seat_out : Seat → Seat
+seat_out seat = record seat { calls = seat.calls + 1; number = 0; revision = 0; port = 0 }
 
 -- the entry of a request that enters at a seat
 abbrev pub enter_entry : ℕ → Service → Ticket → Entry

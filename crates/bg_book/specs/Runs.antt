@@ -1,5 +1,5 @@
 -- What a list of calls is answered, and what it makes of a book.
-use Rattle.std.specs.Prelude.{◌≡◌, ◌≢◌, ◌≤◌, ◌+◌, ℕ, List, [], ◌∷◌, slice_get, slice_set, Option, Some, None, ◌⊎◌}
+use Rattle.std.specs.Prelude.{◌≡◌, ◌≢◌, ◌≤◌, ℕ, List, [], ◌∷◌, slice_get, slice_set, Option, Some, None, ◌⊎◌}
 use Rattle.bg_revisions.specs.declared.revision.Service.{Service}
 use Rattle.bg_history.specs.declared.entry.Entry.TheVariants.{Leave as left_by}
 use Rattle.bg_book.specs.declared.calls.Call.{Call}
@@ -7,12 +7,11 @@ use Rattle.bg_book.specs.declared.calls.Call.TheVariants as call
 use Rattle.bg_book.specs.declared.calls.Control.{Control}
 use Rattle.bg_book.specs.declared.calls.Reply.{Reply}
 use Rattle.bg_book.specs.declared.calls.Reply.TheVariants.{Entered, EnterRefused, Left, Done, ControlRefused, NoSuchSeat, SeatBusy, SeatIdle}
-use Rattle.bg_book.specs.declared.calls.Ticket.{Ticket}
 use Rattle.bg_book.specs.declared.fault.EnterFault.TheVariants as enter_fault
 use Rattle.bg_book.specs.declared.fault.ControlFault.TheVariants as control_fault
 use Rattle.bg_book.specs.declared.seat.Seat.{Seat}
-use Rattle.bg_book.specs.Refusals.{enter_refusal, control_refusal, event_of, IsTicket}
-use Rattle.bg_book.specs.Replies.{Stepped, with_past, enter_entry}
+use Rattle.bg_book.specs.Refusals.{enter_refusal, control_refusal, event_of, IsRefusedBy, IsTicket}
+use Rattle.bg_book.specs.Replies.{Stepped, with_past, enter_entry, seat_in, seat_out}
 use Rattle.bg_book.specs.Routing.{Routing}
 
 -- each seat of the slice is the book's record of its index
@@ -27,13 +26,6 @@ AreApart seats = (i j : ℕ) (p q : Seat) → slice_get seats i ≡ Some p → s
 abbrev pub Unchanged : Routing → List Seat → Routing → List Seat → Type 0
 Unchanged b seats new new_seats = (new ≡ b) × (new_seats ≡ seats)
 
--- a seat after its request entered, and after it left
-abbrev pub seat_in : Seat → Ticket → Seat
-seat_in seat t = record seat { calls = seat.calls + 1; number = t.number; revision = t.revision; port = t.port }
-
-abbrev pub seat_out : Seat → Seat
-seat_out seat = record seat { calls = seat.calls + 1; number = 0; revision = 0; port = 0 }
-
 -- a seat of the slice, and the book's record of it, are the new one
 abbrev pub SeatChanged : Routing → List Seat → ℕ → Seat → Seat → Routing → List Seat → Type 0
 SeatChanged b seats place old seat new new_seats =
@@ -45,7 +37,7 @@ EnterStep b seats place seat service (Entered t) new new_seats =
     (enter_refusal b service ≡ None) × IsTicket b service t × SeatChanged b seats place seat (seat_in seat t) new new_seats
     × Stepped b.strategy (enter_entry seat.index service t) b.past new.past 0
 EnterStep b seats place seat service (EnterRefused e) new new_seats =
-    ((enter_refusal b service ≡ Some e) ⊎ ((enter_refusal b service ≡ None) × (e ≡ enter_fault.OutOfMemory))) × Unchanged b seats new new_seats
+    IsRefusedBy (enter_refusal b service) enter_fault.OutOfMemory e × Unchanged b seats new new_seats
 EnterStep b seats place seat service _ new new_seats = ⊥
 
 -- what the leaving of the request of a seat that is in is answered
@@ -61,7 +53,7 @@ ControlStep b seats c (Done n) new new_seats =
     (control_refusal b c ≡ None) × (n ≤ 140) × (new ≡ with_past b new.past b.seats) × (new_seats ≡ seats)
     × Stepped b.strategy (event_of c) b.past new.past n
 ControlStep b seats c (ControlRefused e) new new_seats =
-    ((control_refusal b c ≡ Some e) ⊎ ((control_refusal b c ≡ None) × (e ≡ control_fault.OutOfMemory))) × Unchanged b seats new new_seats
+    IsRefusedBy (control_refusal b c) control_fault.OutOfMemory e × Unchanged b seats new new_seats
 ControlStep b seats c _ new new_seats = ⊥
 
 -- the reply refuses the call by its seat, and nothing changed

@@ -1,7 +1,7 @@
 //! How a request enters.
-ghost use Rattle.std.specs.Prelude.{◌≡◌, ◌+◌, ◌∷◌, IfOk, OnErr, Some, slice_get, slice_set, MatchResult, None};
+ghost use Rattle.std.specs.Prelude.{◌≡◌, ◌∷◌, IfOk, OnErr, Some, slice_get, slice_set, MatchResult, None};
 ghost use Rattle.bg_book.specs.Refusals.{enter_refusal, AnswersBy, IsTicket};
-ghost use Rattle.bg_book.specs.Replies.{Stepped, with_past, enter_entry};
+ghost use Rattle.bg_book.specs.Replies.{Stepped, with_past, enter_entry, seat_in};
 ghost use Rattle.bg_history.specs.Allowed.{selection};
 ghost use Rattle.bg_book.specs.declared.fault.EnterFault.TheVariants.{OutOfMemory, NoPreview};
 
@@ -29,7 +29,7 @@ impl Book {
         requires out { seat.old.number ≡ 0 }
         ensures refusal { AnswersBy (enter_refusal self.old service) OutOfMemory result }
         ensures ticket { IfOk result (IsTicket self.old service) }
-        ensures seat { IfOk result (λ t. seat.new ≡ record seat.old { calls = seat.old.calls + 1; number = t.number; revision = t.revision; port = t.port }) }
+        ensures seat { IfOk result (λ t. seat.new ≡ seat_in seat.old t) }
         ensures step { IfOk result (λ t. Stepped self.old.strategy (enter_entry seat.old.index service t) self.old.past self.new.past 0) }
         ensures book { IfOk result (λ t. self.new ≡ with_past self.old self.new.past (slice_set self.old.seats seat.old.index seat.new)) }
         ensures unchanged { OnErr result (self.new ≡ self.old) }

@@ -1,7 +1,7 @@
 //! How a request leaves.
-ghost use Rattle.std.specs.Prelude.{◌≡◌, ◌≢◌, ◌≤◌, ◌+◌, ℕ, Some, slice_get, slice_set};
+ghost use Rattle.std.specs.Prelude.{◌≡◌, ◌≢◌, ◌≤◌, ℕ, Some, slice_get, slice_set};
 ghost use Rattle.bg_history.specs.declared.entry.Entry.TheVariants.{Leave as left_by};
-ghost use Rattle.bg_book.specs.Replies.{Stepped, with_past};
+ghost use Rattle.bg_book.specs.Replies.{Stepped, with_past, seat_out};
 
 use crate::book::Book;
 use crate::calls::Left;
@@ -16,7 +16,7 @@ impl Book {
         requires known { slice_get self.old.seats seat.old.index ≡ Some seat.old }
         requires within { seat.old.number ≢ 0 }
         ensures left { result ≡ record { number = seat.old.number; revision = seat.old.revision } }
-        ensures seat { seat.new ≡ record seat.old { calls = seat.old.calls + 1; number = 0; revision = 0; port = 0 } }
+        ensures seat { seat.new ≡ seat_out seat.old }
         ensures step { (n : ℕ) × Stepped self.old.strategy (left_by seat.old.index seat.old.number seat.old.revision) self.old.past self.new.past n × (n ≤ 2) }
         ensures book { self.new ≡ with_past self.old self.new.past (slice_set self.old.seats seat.old.index seat.new) }
     {

@@ -4,6 +4,8 @@
 //! book. What it keeps running is what its history says (`specs/`), after every call.
 #![tactic(auto)]
 
+#[cfg(test)]
+mod ample_memory;
 mod book;
 mod calls;
 mod control;

@@ -3,6 +3,7 @@ ghost use Rattle.std.specs.Prelude.{◌≡◌, ◌<◌, ℕ, [], ◌∷◌, leng
 ghost use Rattle.bg_revisions.specs.Rosters.{has_form};
 ghost use Rattle.bg_book.specs.Refusals.{open_refusal, AnswersBy};
 ghost use Rattle.bg_book.specs.Replies.{opened, NewSeats};
+ghost use Rattle.bg_book.specs.Runs.{AreKnown, AreApart};
 ghost use Rattle.bg_book.specs.declared.fault.OpenFault.TheVariants.{OutOfMemory};
 ghost use Rattle.std.specs.Prelude.{true};
 
@@ -38,6 +39,8 @@ impl Book {
         ensures refusal { AnswersBy (open_refusal strategy name.now ports.now seats limits) OutOfMemory result }
         ensures book { IfOk result (λ r. r.0 ≡ opened strategy name.now ports.now seats limits r.1.items) }
         ensures seats { IfOk result (λ r. NewSeats seats r.1.items) }
+        ensures known { IfOk result (λ r. AreKnown r.0 r.1.items) }
+        ensures apart { IfOk result (λ r. AreApart r.1.items) }
     {
         if let Some(fault) = opening_fault(&strategy, name, ports, seats, limits) {
             return Err(fault);
@@ -57,6 +60,8 @@ impl Book {
         requires { open_refusal strategy name.now ports.now seats limits ≡ None }
         ensures book { IfOk result (λ r. r.0 ≡ opened strategy name.now ports.now seats limits r.1.items) }
         ensures seats { IfOk result (λ r. NewSeats seats r.1.items) }
+        ensures known { IfOk result (λ r. AreKnown r.0 r.1.items) }
+        ensures apart { IfOk result (λ r. AreApart r.1.items) }
         ensures err { IfErr result (λ e. e ≡ OutOfMemory) }
     {
         let core = Core::new(&strategy);

@@ -1,5 +1,6 @@
 //! The seats at which requests are handled.
-ghost use Rattle.std.specs.Prelude.{◌≡◌, ◌+◌, ◌<◌, ◌^◌, not, ◌==◌};
+ghost use Rattle.std.specs.Prelude.{◌≡◌, ◌<◌, ◌^◌, not, ◌==◌};
+ghost use Rattle.bg_book.specs.Replies.{seat_in, seat_out};
 
 use crate::calls::Ticket;
 
@@ -73,7 +74,7 @@ impl Seat {
     /// Takes the ticket's request in hand, which is one more call.
     pub(crate) fn take(&mut self, ticket: Ticket)
         requires { self.old.calls < 2 ^ 60 }
-        ensures { self.new ≡ record self.old { calls = self.old.calls + 1; number = ticket.number; revision = ticket.revision; port = ticket.port } }
+        ensures { self.new ≡ seat_in self.old ticket }
     {
         self.calls += 1;
         self.number = ticket.number;
@@ -84,7 +85,7 @@ impl Seat {
     /// Lets the request in hand go, which is one more call.
     pub(crate) fn let_go(&mut self)
         requires { self.old.calls < 2 ^ 60 }
-        ensures { self.new ≡ record self.old { calls = self.old.calls + 1; number = 0; revision = 0; port = 0 } }
+        ensures { self.new ≡ seat_out self.old }
     {
         self.calls += 1;
         self.number = 0;

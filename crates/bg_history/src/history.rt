@@ -2,6 +2,8 @@
 ghost use Rattle.std.specs.Prelude.{◌≡◌, ◌+◌, ◌<◌, ◌≤◌, ◌∷◌, [], IfOk, OnOk, OnErr, slice_get, slice_index, length, reverse, option_map, replicate};
 
 #[cfg(test)]
+mod ample_memory;
+#[cfg(test)]
 mod tests;
 
 use crate::entry::Entry;

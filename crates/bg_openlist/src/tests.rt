@@ -154,6 +154,19 @@ fn opens_after_a_refusal(rt: HostRuntime) -> Result<(), Fail> {
         Ok(lists) => lists,
         Err(AllocError) => OpenLists::new(rt.alloc(), 256)?,
     };
+    assert_empty(&rt, &lists);
+    Ok(())
+}
+
+/// Asks for nothing twice, so it takes as many requests for memory as `new` takes.
+#[test]
+fn opens_with_ample_memory(rt: HostRuntime) -> Result<(), Fail> {
+    let lists = OpenLists::<u64>::new(rt.alloc(), 256)?;
+    assert_empty(&rt, &lists);
+    Ok(())
+}
+
+fn assert_empty(rt: &impl Abort, lists: &OpenLists<u64>) {
     for list in 0..64 {
         assert_eq!(rt; lists.len(list), 0);
         assert_eq!(rt; lists.front(list), None);
@@ -161,7 +174,6 @@ fn opens_after_a_refusal(rt: HostRuntime) -> Result<(), Fail> {
     for node in 0..256 {
         assert_eq!(rt; lists.list_of(node), None);
     }
-    Ok(())
 }
 
 fn crosses<X: Send>(value: X) -> X {

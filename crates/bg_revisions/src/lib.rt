@@ -1,6 +1,8 @@
 //! The revisions of a rollout, and which of them the services select.
 #![tactic(auto)]
 
+#[cfg(test)]
+mod ample_memory;
 mod form;
 mod name;
 mod ports;

@@ -28,7 +28,7 @@ fn make_roster(alloc: Global, replicas: u32) -> Result<Roster, AllocError> {
 }
 
 /// Adds a revision, where that may be asked.
-fn ask(
+pub(crate) fn ask(
     rt: &impl Abort,
     roster: &mut Roster,
     name: &str,

@@ -20,7 +20,6 @@ fn assert_fault(rt: &impl Abort, alloc: Global, bytes: &[u8], kind: &str, field:
     }
 }
 
-/// Makes fewer than 32 allocations.
 #[test]
 fn reads_every_field(rt: HostRuntime) -> Result<(), Fail> {
     let strategy = answer(rt.alloc(), EVERY_FIELD.as_bytes())?;

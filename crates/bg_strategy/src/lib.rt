@@ -19,6 +19,8 @@ pub use strategy::Strategy;
 pub use table::Field;
 
 #[cfg(test)]
+mod ample_memory;
+#[cfg(test)]
 mod copy_tests;
 #[cfg(test)]
 mod document_tests;

@@ -11,6 +11,6 @@ pub mod PlainLines
 pub mod CommandsRead
 pub mod ReportLines
 pub mod ScriptSteps
-pub mod NewBooks
 pub mod ReplayedBytes
 pub mod LongLines
+pub mod SeatsOut

@@ -1,5 +1,5 @@
 -- What the lines of a script are answered.
-use Rattle.std.specs.Prelude.{◌≡◌, ◌≢◌, ◌^◌, ℕ, Bool, false, ◌||◌, List, [], ◌∷◌, ◌⊎◌, ⊤, Option, None, Some, Result, Ok, Err, if◌then◌else◌}
+use Rattle.std.specs.Prelude.{◌≡◌, ◌≢◌, ◌^◌, ℕ, Bool, false, ◌||◌, List, [], ◌∷◌, slice_get, ◌⊎◌, ⊤, Option, None, Some, Result, Ok, Err, if◌then◌else◌}
 use Rattle.std.specs.List.{flat_map}
 use Rattle.std.specs.Io.KnownBytes.{Appends}
 use Rattle.bg_strategy.specs.declared.strategy.Strategy.{Strategy}
@@ -31,6 +31,10 @@ use Rattle.bg_switch.specs.Texts.{finding_text}
 pub data Stage : Type 0 where
   Closed : (strategy : Strategy) (seats : ℕ) → Stage
   Running : (book : Routing) (seats : List Seat) → Stage
+
+-- no seat holds a request
+abbrev pub AreOut : List Seat → Type 0
+AreOut seats = (i : ℕ) (seat : Seat) → slice_get seats i ≡ Some seat → seat.number ≡ 0
 
 -- what is written for a line: an answer, or the report of a book
 pub data Written : Type 0 where

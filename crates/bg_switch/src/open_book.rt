@@ -1,8 +1,8 @@
 //! An open book, and what it answers to the lines of a script.
-ghost use Rattle.std.specs.Prelude.{IfOk, IfErr};
+ghost use Rattle.std.specs.Prelude.{◌≤◌, IfOk, IfErr, length};
 ghost use Rattle.bg_book.specs.Runs.{AreApart, AreKnown};
 ghost use Rattle.bg_switch.specs.declared.answer.Answer.TheVariants.{Opened, OpenRefused};
-ghost use Rattle.bg_switch.specs.Scripts.{OpenStep, Served, StepRead, Wrote, Said, Reported, Closed, Running};
+ghost use Rattle.bg_switch.specs.Scripts.{AreOut, OpenStep, Served, StepRead, Wrote, Said, Reported, Closed, Running};
 
 use crate::answer::{Answer, write_answer};
 use crate::command::Command;
@@ -24,6 +24,7 @@ pub struct OpenBook {
     seats: Vec<Seat>,
     ghost known: { AreKnown book seats.items },
     ghost apart: { AreApart seats.items },
+    ghost few: { length seats.items ≤ 8 },
 }
 
 impl OpenBook {
@@ -90,7 +91,9 @@ impl OpenBook {
     }
 
     /// Lets each request that is in leave, without a reply.
-    pub fn leave_all(&mut self) {
+    pub fn leave_all(&mut self)
+        ensures { AreOut self.new.seats.items }
+    {
         // at a place without a seat, and at a seat that is out, nothing changes
         for seat in 0..MOST_SEATS {
             let _ = self.book.call(&mut self.seats, &Call::Leave { seat });

@@ -43,7 +43,7 @@ fn open(alloc: Global, limits: Limits) -> Result<Room, Fail> {
     }
 }
 
-fn enter(seat: u32) -> Call {
+pub(crate) fn enter(seat: u32) -> Call {
     Call::Enter {
         seat,
         service: Service::Active,
@@ -58,11 +58,11 @@ fn tick(moment: u64) -> Call {
     Call::Control(Control::Tick(moment))
 }
 
-fn available(revision: u64, size: u32) -> Call {
+pub(crate) fn available(revision: u64, size: u32) -> Call {
     Call::Control(Control::Available { revision, size })
 }
 
-fn entered(number: u64, port: u16) -> Reply {
+pub(crate) fn entered(number: u64, port: u16) -> Reply {
     Reply::Entered(Ticket {
         number,
         revision: 1,

@@ -1,13 +1,30 @@
 //! `check` over memory, and over readers and writers that are slow or fail.
 use crate::checking::check;
 use crate::run_end::RunEnd;
-use crate::tests::check_rows::CHECK_ROWS;
+use crate::tests::check_rows::{CHECK_ROWS, CheckRow};
 use crate::tests::streams::{Endless, Failing, Interrupted, Page, Slow};
 use std::alloc::Global;
+use std::process::Abort;
 use std::test::Fail;
 
 const BASE: &str =
     "{\"spec\": {\"replicas\": 2, \"strategy\": {\"blueGreen\": {\"activeService\": \"web\"}}}}";
+
+/// A strategy.
+const STRATEGY: CheckRow = CheckRow {
+    name: "a strategy",
+    input: BASE,
+    replies: "activeService web\npreviewService -\nreplicas 2\npreviewReplicaCount 2\nautoPromotionEnabled true\nautoPromotionSeconds 0\nscaleDownDelaySeconds 30\nscaleDownDelayRevisionLimit -\nrevisionHistoryLimit 10\nprePromotionAnalysis false\npostPromotionAnalysis false\n",
+    status: 0,
+};
+
+/// A document that is no strategy.
+const FAULT: CheckRow = CheckRow {
+    name: "a fault",
+    input: "{\"spec\": {\"replicas\": 0, \"strategy\": {\"blueGreen\": {\"activeService\": \"web\"}}}}",
+    replies: "fault OutOfRange replicas\n",
+    status: 1,
+};
 
 #[test]
 fn answers_each_row(rt: HostRuntime) -> Result<(), Fail> {
@@ -32,23 +49,45 @@ fn reads_and_writes_byte_by_byte(rt: HostRuntime) {
     }
 }
 
+/// How the check of a row ends before its end, if it does; then nothing was written.
+fn end_of(rt: &impl Abort, alloc: Global, row: &CheckRow) -> Option<RunEnd> {
+    let mut reader = row.input.as_bytes();
+    let mut writer = Page::new();
+    match check(alloc, &mut reader, &mut writer) {
+        Ok(status) => {
+            assert_eq!(rt; status, row.status, "{}", row.name);
+            assert_eq!(rt; writer.as_slice(), row.replies.as_bytes(), "{}", row.name);
+            None
+        }
+        Err(end) => {
+            assert_eq!(rt; writer.as_slice(), b"".as_slice(), "{}", row.name);
+            Some(end)
+        }
+    }
+}
+
 /// Each request for memory of this test may be refused: see the README.
 #[test]
 fn says_that_memory_is_refused(rt: HostRuntime) {
-    for row in &CHECK_ROWS {
-        let mut reader = row.input.as_bytes();
-        let mut writer = Page::new();
-        match check(rt.alloc(), &mut reader, &mut writer) {
-            Ok(status) => {
-                assert_eq!(rt; status, row.status, "{}", row.name);
-                assert_eq!(rt; writer.as_slice(), row.replies.as_bytes(), "{}", row.name);
-            }
-            Err(end) => {
-                assert_eq!(rt; end, RunEnd::OutOfMemory, "{}", row.name);
-                assert_eq!(rt; writer.as_slice(), b"".as_slice(), "{}", row.name);
-            }
-        }
-    }
+    let end = end_of(&rt, rt.alloc(), &STRATEGY);
+    assert!(rt; matches!(end, None | Some(RunEnd::OutOfMemory)), "{end:?}");
+}
+
+/// Each request for memory of this test may be refused: see the README.
+#[test]
+fn says_that_memory_is_refused_to_a_fault(rt: HostRuntime) {
+    let end = end_of(&rt, rt.alloc(), &FAULT);
+    assert!(rt; matches!(end, None | Some(RunEnd::OutOfMemory)), "{end:?}");
+}
+
+#[test]
+fn checks_a_strategy_with_ample_memory(rt: HostRuntime) {
+    assert_eq!(rt; end_of(&rt, rt.alloc(), &STRATEGY), None);
+}
+
+#[test]
+fn checks_a_fault_with_ample_memory(rt: HostRuntime) {
+    assert_eq!(rt; end_of(&rt, rt.alloc(), &FAULT), None);
 }
 
 #[test]

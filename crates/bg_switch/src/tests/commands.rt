@@ -204,6 +204,12 @@ fn takes_lines_of_4096_bytes(rt: HostRuntime) -> Result<(), Fail> {
     Ok(())
 }
 
+#[test]
+fn reads_a_line_with_ample_memory(rt: HostRuntime) {
+    let read = read_line(rt.alloc(), b"open v1 9001 9002");
+    assert!(rt; matches!(read, Ok(Command::Open { .. })));
+}
+
 /// Each request for memory of this test may be refused: see the README. Only `open` needs memory,
 /// and a line that isn't well formed is refused as such all the same.
 #[test]

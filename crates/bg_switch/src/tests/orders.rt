@@ -64,6 +64,23 @@ fn says_that_memory_is_refused(rt: HostRuntime) {
             Ok(Order::Replay { seats: 2 }) | Err(OrderFault::OutOfMemory)
         )
     );
+}
+
+/// Each request for memory of this test may be refused: see the README.
+#[test]
+fn says_that_memory_is_refused_to_bad_words(rt: HostRuntime) {
     let refused = order(rt.alloc(), &["bg_switch", "replay", "--seats", "9"]);
     assert!(rt; matches!(refused, Err(OrderFault::Words(_) | OrderFault::OutOfMemory)));
+}
+
+#[test]
+fn reads_an_order_with_ample_memory(rt: HostRuntime) {
+    let given = order(rt.alloc(), &["bg_switch", "replay", "--seats", "2"]);
+    assert!(rt; matches!(given, Ok(Order::Replay { seats: 2 })));
+}
+
+#[test]
+fn refuses_bad_words_with_ample_memory(rt: HostRuntime) {
+    let refused = order(rt.alloc(), &["bg_switch", "replay", "--seats", "9"]);
+    assert!(rt; matches!(refused, Err(OrderFault::Words(_))));
 }

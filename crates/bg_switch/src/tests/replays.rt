@@ -55,6 +55,14 @@ fn says_that_memory_is_refused(rt: HostRuntime) {
 }
 
 #[test]
+fn replays_with_ample_memory(rt: HostRuntime) {
+    let mut reader = SHORT.as_bytes();
+    let mut writer = Page::new();
+    assert_eq!(rt; replay(rt.alloc(), 1, &mut reader, &mut writer), Ok(0));
+    assert_eq!(rt; writer.as_slice(), b"ok 0\nok 0\n".as_slice());
+}
+
+#[test]
 fn fails_with_each_read(rt: HostRuntime) {
     for reads_left in 0..SHORT.len() + 1 {
         let mut reader = Slow::new(SHORT.as_bytes(), reads_left);

@@ -1,4 +1,5 @@
 use Rattle.std.proofs.Common.{refl}
+use Rattle.bg_book.proofs.FirstSeats.{known_first, apart_first}
 use Rattle.bg_book.proofs.Openings.{fits, stands-opened, new_seats_same}
 use Rattle.bg_book.proofs.Requests.{and_both}
 use Rattle.bg_book.proofs.book.Book.build.Goals as goal
@@ -15,3 +16,9 @@ invariant_of-book c =
 pub returns-clause-book : goal.returns-clause-book
 returns-clause-book c =
     rw (c.in_ok-history.ensures, c.in_ok-lists.ensures.ok, new_seats_same _ _ _ c.in_ok-handed_out.ensures c.in_ok-records.ensures) refl
+
+pub returns-clause-known : goal.returns-clause-known
+returns-clause-known c = known_first _ _ _ _ _ _ _ (returns-clause-book c) c.in_ok-handed_out.ensures
+
+pub returns-clause-apart : goal.returns-clause-apart
+returns-clause-apart c = apart_first _ _ c.in_ok-handed_out.ensures

@@ -2,7 +2,7 @@ use Rattle.std.proofs.Common.{◌≡◌, ◌≤◌, ◌+◌, ◌*◌, ◌∷◌,
 use Rattle.bg_book.specs.declared.seat.Seat.{Seat}
 use Rattle.bg_book.specs.OpenLists.{OpenAt, lists_of}
 use Rattle.bg_book.specs.Refusals.{enter_refusal, IsTicket}
-use Rattle.bg_book.specs.Replies.{enter_entry, with_past}
+use Rattle.bg_book.specs.Replies.{enter_entry, seat_in, with_past}
 use Rattle.bg_book.specs.Routing.{Routing}
 use Rattle.bg_book.specs.Stands.{Stands, routing_of, running_of}
 use Rattle.bg_book.proofs.Entering.{stands-Enter, lists_entered}
@@ -35,7 +35,7 @@ record Left_by (c : goal.After-push_reserved) : Type 0 where
       ≡ lists_of (enter_entry c.args.seat.now.index c.args.service c.in_ok-ticket.ticket ∷ c.self.inside.history.past)
   seats : slice_set c.self.inside.seats.items c.index-index.result c.take.new.self
       ≡ slice_set c.self.inside.seats.items c.args.seat.now.index c.take-2.new.self
-  taken : c.take-2.new.self ≡ record c.args.seat.now { calls = c.args.seat.now.calls + 1; number = c.in_ok-ticket.ticket.number; revision = c.in_ok-ticket.ticket.revision; port = c.in_ok-ticket.ticket.port }
+  taken : c.take-2.new.self ≡ seat_in c.args.seat.now c.in_ok-ticket.ticket
   pushed : c.push_reserved.new.self ≡ record c.reserve.new.self { past = enter_entry c.args.seat.now.index c.args.service c.in_ok-ticket.ticket ∷ c.reserve.new.self.past; spare = c.push_reserved.new.self.spare }
 
 left_by : (c : goal.After-push_reserved) → Left_by c
@@ -53,8 +53,8 @@ left_by c =
     let place : Some c.unwrap-place.result ≡ position (λ (l : OpenAt). l.revision == t.revision) b.lists =
     sym c.unwrap-place.ensures ∙ c.place_of.ensures ∙ ap (λ (ls : List OpenAt). position (λ l. l.revision == t.revision) ls) c.deref.ensures.value in
     let at : c.index-index.result ≡ seat.index = c.index-index.ensures in
-    let taken : c.take.new.self ≡ record c.index_mut-2.result.now { calls = c.index_mut-2.result.now.calls + 1; number = t.number; revision = t.revision; port = t.port } = c.take.ensures in
-    let also_taken : c.take-2.new.self ≡ record seat { calls = seat.calls + 1; number = t.number; revision = t.revision; port = t.port } = c.take-2.ensures in
+    let taken : c.take.new.self ≡ seat_in c.index_mut-2.result.now t = c.take.ensures in
+    let also_taken : c.take-2.new.self ≡ seat_in seat t = c.take-2.ensures in
     let one : t.revision ≡ 1 = selected_is _ _ b.past c.args.service t.revision stand.quiet offered.1.revision_is in
     record {
       refusal = offered.0;
@@ -64,7 +64,7 @@ left_by c =
           stand.quiet stand.lists one place found c.in_ok-append.ensures.ok);
       seats = ap (λ (n : ℕ). slice_set b.seats n c.take.new.self) at
           ∙ ap (λ (v : Seat). slice_set b.seats seat.index v)
-          (taken ∙ ap (λ (v : Seat). record v { calls = v.calls + 1; number = t.number; revision = t.revision; port = t.port }) same ∙ sym also_taken);
+          (taken ∙ ap (λ (v : Seat). seat_in v t) same ∙ sym also_taken);
       taken = also_taken;
       pushed = subst (λ (n : ℕ). c.push_reserved.new.self ≡ record c.reserve.new.self { past = enter_entry n c.args.service t ∷ c.reserve.new.self.past; spare = c.push_reserved.new.self.spare }) at
           c.push_reserved.ensures.entry;

@@ -1,32 +1,17 @@
-use Rattle.std.proofs.Common.{◌≡◌, ◌≢◌, ℕ, ◌<◌, Bool, true, false, not, ◌==◌, List, Some, length, slice_get, slice_set, get_or, inl, inr, refl, sym, ap, ◌∙◌, subst, arith}
-use Rattle.std.proofs.lemmas.Bool.Decides.{nat_tests}
+use Rattle.std.proofs.Common.{◌≡◌, ℕ, ◌<◌, List, Some, length, slice_get, slice_set, inl, inr, refl, sym, ap, ◌∙◌, subst}
 use Rattle.std.proofs.lemmas.List.{set-get_or}
-use Rattle.std.proofs.lemmas.Option.{slice_get-get_or}
 use Rattle.bg_revisions.specs.declared.revision.Service.{Service}
 use Rattle.bg_book.specs.declared.calls.Reply.{Reply}
 use Rattle.bg_book.specs.declared.seat.Seat.{Seat}
-use Rattle.bg_book.specs.Replies.{with_past}
+use Rattle.bg_book.specs.Replies.{seat_in, with_past}
 use Rattle.bg_book.specs.Routing.{Routing}
-use Rattle.bg_book.specs.Runs.{AreKnown, EnterAt, seat_in}
-use Rattle.bg_book.proofs.Running.{known_after, apart_after}
+use Rattle.bg_book.specs.Runs.{AreKnown, EnterAt}
+use Rattle.bg_book.proofs.Running.{known_after, apart_after, read, read_is, holds_one, holds_none}
 use Rattle.bg_book.proofs.book.Book.enter_at.Goals as goal
-
--- the seat that was read at its place
-abbrev read : List Seat → ℕ → Seat
-read seats place = get_or seats place (record { index = 0; calls = 0; number = 0; revision = 0; port = 0 })
-
-read_is : (seats : List Seat) (place : ℕ) → place < length seats → slice_get seats place ≡ Some (read seats place)
-read_is seats place h = slice_get-get_or seats place _ h
 
 at_seat : (b : Routing) (seats : List Seat) (place : ℕ) (service : Service) (reply : Reply) (new : Routing) (new_seats : List Seat) → place < length seats
     → EnterAt b seats place (Some (read seats place)) service reply new new_seats → EnterAt b seats place (slice_get seats place) service reply new new_seats
 at_seat b seats place service reply new new_seats h entered = subst (λ o. EnterAt b seats place o service reply new new_seats) (sym (read_is seats place h)) entered
-
-is_busy : (n : ℕ) (t : Bool) → t ≡ not (n == 0) → t ≡ true → n ≢ 0
-is_busy n t e h = grind (arith, nat_tests)
-
-is_out : (n : ℕ) (t : Bool) → t ≡ not (n == 0) → t ≡ false → n ≡ 0
-is_out n t e h = grind (arith, nat_tests)
 
 pub enter-requires-clause-known : goal.enter-requires-clause-known
 enter-requires-clause-known c = c.requires.known c.args.place _ (read_is c.args.seats.now c.args.place c.if-place-seats.false)
@@ -34,7 +19,7 @@ enter-requires-clause-known c = c.requires.known c.args.place _ (read_is c.args.
 pub returns-then-is_in-clause-reply : goal.returns-then-is_in-clause-reply
 returns-then-is_in-clause-reply c =
     at_seat _ _ _ _ _ _ _ c.if-place-seats.false
-    (inl (is_busy _ _ c.is_in.ensures c.if-is_in.true, (refl, (refl, set-get_or _ _ _))))
+    (inl (holds_one _ _ c.is_in.ensures c.if-is_in.true, (refl, (refl, set-get_or _ _ _))))
 
 pub returns-in-Ok-clause-reply : goal.returns-in-Ok-clause-reply
 returns-in-Ok-clause-reply c =
@@ -44,7 +29,7 @@ returns-in-Ok-clause-reply c =
     let in_seat : c.enter.new.seat ≡ seat_in seat c.in-Ok.ticket = c.in-Ok.ensures.seat in
     at_seat b seats _ _ _ _ _ c.if-place-seats.false
     (inr (
-      is_out _ _ c.is_in.ensures c.if-is_in.false,
+      holds_none _ _ c.is_in.ensures c.if-is_in.false,
       (
         c.in-Ok.ensures.refusal,
         c.in-Ok.ensures.ticket,
@@ -73,4 +58,4 @@ returns-in-Err-clause-reply c =
     let seats = c.args.seats.now in
     let same : c.enter.new.seat ≡ read seats c.args.place = c.in-Err.ensures.seat_unchanged in
     at_seat _ seats _ _ _ _ _ c.if-place-seats.false
-    (inr (is_out _ _ c.is_in.ensures c.if-is_in.false, (c.in-Err.ensures.refusal, (c.in-Err.ensures.unchanged, ap (λ (v : Seat). slice_set seats c.args.place v) same ∙ set-get_or _ _ _))))
+    (inr (holds_none _ _ c.is_in.ensures c.if-is_in.false, (c.in-Err.ensures.refusal, (c.in-Err.ensures.unchanged, ap (λ (v : Seat). slice_set seats c.args.place v) same ∙ set-get_or _ _ _))))

@@ -1,10 +1,10 @@
-use Rattle.std.proofs.Common.{◌≡◌, ◌≤◌, ◌+◌, ◌-◌, ◌*◌, ◌∷◌, ◌==◌, ℕ, Some, List, position, slice_get, slice_set, get_or, refl, subst, sym, ap, ◌∙◌, arith}
+use Rattle.std.proofs.Common.{◌≡◌, ◌≤◌, ◌-◌, ◌*◌, ◌∷◌, ◌==◌, ℕ, Some, List, position, slice_get, slice_set, get_or, refl, subst, sym, ap, ◌∙◌, arith}
 use Rattle.std.proofs.lemmas.Option.{slice_get_within}
 use Rattle.bg_history.specs.declared.entry.Entry.{Entry}
 use Rattle.bg_history.specs.declared.entry.Entry.TheVariants.{Leave}
 use Rattle.bg_book.specs.declared.seat.Seat.{Seat}
 use Rattle.bg_book.specs.OpenLists.{OpenAt, lists_of}
-use Rattle.bg_book.specs.Replies.{Stepped, with_past}
+use Rattle.bg_book.specs.Replies.{Stepped, seat_out, with_past}
 use Rattle.bg_book.specs.Routing.{Routing}
 use Rattle.bg_book.specs.Stands.{Stands, routing_of, running_of}
 use Rattle.bg_book.proofs.Events.{seated_recorded, seated_book, stepped_by}
@@ -64,7 +64,7 @@ record Left_by (c : goal.After-push_reserved) : Type 0 where
       ≡ lists_of (Leave c.args.seat.now.index c.args.seat.now.number c.args.seat.now.revision ∷ c.self.inside.history.past)
   seats : slice_set c.self.inside.seats.items c.index-index.result c.let_go.new.self
       ≡ slice_set c.self.inside.seats.items c.args.seat.now.index c.let_go-2.new.self
-  gone : c.let_go-2.new.self ≡ record c.args.seat.now { calls = c.args.seat.now.calls + 1; number = 0; revision = 0; port = 0 }
+  gone : c.let_go-2.new.self ≡ seat_out c.args.seat.now
   pushed : c.push_reserved.new.self ≡ record c.self.inside.history { past = Leave c.args.seat.now.index c.args.seat.now.number c.args.seat.now.revision ∷ c.self.inside.history.past; spare = c.push_reserved.new.self.spare }
 
 left_by : (c : goal.After-push_reserved) → Left_by c
@@ -84,15 +84,15 @@ left_by c =
     let found : c.index_mut.result.now ≡ get_or b.lists c.unwrap-place.result c.index_mut.result.now = c.index_mut.ensures.value in
     let place : Some c.unwrap-place.result ≡ position (λ (l : OpenAt). l.revision == c.revision.result) b.lists =
     sym c.unwrap-place.ensures ∙ c.place_of.ensures ∙ ap (λ (ls : List OpenAt). position (λ l. l.revision == c.revision.result) ls) c.deref.ensures.value in
-    let gone : c.let_go.new.self ≡ record c.index_mut-2.result.now { calls = c.index_mut-2.result.now.calls + 1; number = 0; revision = 0; port = 0 } = c.let_go.ensures in
-    let also_gone : c.let_go-2.new.self ≡ record seat { calls = seat.calls + 1; number = 0; revision = 0; port = 0 } = c.let_go-2.ensures in
+    let gone : c.let_go.new.self ≡ seat_out c.index_mut-2.result.now = c.let_go.ensures in
+    let also_gone : c.let_go-2.new.self ≡ seat_out seat = c.let_go-2.ensures in
     record {
       lists = lists_left b.strategy b.opening b.past b.lists c.unwrap-place.result c.index_mut.result.now c.remove.new.self c.index-index.result c.number.result c.revision.result
           stand.quiet stand.lists (revision ∙ one) place found c.remove.ensures
           ∙ ap (λ (e : Entry). lists_of (e ∷ b.past)) entry;
       seats = ap (λ (n : ℕ). slice_set b.seats n c.let_go.new.self) at
           ∙ ap (λ (v : Seat). slice_set b.seats seat.index v)
-          (gone ∙ ap (λ (v : Seat). record v { calls = v.calls + 1; number = 0; revision = 0; port = 0 }) same ∙ sym also_gone);
+          (gone ∙ ap seat_out same ∙ sym also_gone);
       gone = also_gone;
       pushed = subst (λ (e : Entry). c.push_reserved.new.self ≡ record c.self.inside.history { past = e ∷ b.past; spare = c.push_reserved.new.self.spare }) entry
           c.push_reserved.ensures.entry;

@@ -1,31 +1,16 @@
-use Rattle.std.proofs.Common.{◌≡◌, ◌≢◌, ℕ, ◌<◌, Bool, true, false, not, ◌==◌, List, Some, length, slice_get, slice_set, get_or, inl, inr, refl, sym, ap, ◌∙◌, subst, arith}
-use Rattle.std.proofs.lemmas.Bool.Decides.{nat_tests}
+use Rattle.std.proofs.Common.{◌≡◌, ℕ, ◌<◌, List, Some, length, slice_get, slice_set, inl, inr, refl, sym, ap, ◌∙◌, subst}
 use Rattle.std.proofs.lemmas.List.{set-get_or}
-use Rattle.std.proofs.lemmas.Option.{slice_get-get_or}
 use Rattle.bg_book.specs.declared.calls.Reply.{Reply}
 use Rattle.bg_book.specs.declared.seat.Seat.{Seat}
-use Rattle.bg_book.specs.Replies.{with_past}
+use Rattle.bg_book.specs.Replies.{seat_out, with_past}
 use Rattle.bg_book.specs.Routing.{Routing}
-use Rattle.bg_book.specs.Runs.{AreKnown, LeaveAt, seat_out}
-use Rattle.bg_book.proofs.Running.{known_after, apart_after}
+use Rattle.bg_book.specs.Runs.{AreKnown, LeaveAt}
+use Rattle.bg_book.proofs.Running.{known_after, apart_after, read, read_is, holds_one, holds_none}
 use Rattle.bg_book.proofs.book.Book.leave_at.Goals as goal
-
--- the seat that was read at its place
-abbrev read : List Seat → ℕ → Seat
-read seats place = get_or seats place (record { index = 0; calls = 0; number = 0; revision = 0; port = 0 })
-
-read_is : (seats : List Seat) (place : ℕ) → place < length seats → slice_get seats place ≡ Some (read seats place)
-read_is seats place h = slice_get-get_or seats place _ h
 
 at_seat : (b : Routing) (seats : List Seat) (place : ℕ) (reply : Reply) (new : Routing) (new_seats : List Seat) → place < length seats
     → LeaveAt b seats place (Some (read seats place)) reply new new_seats → LeaveAt b seats place (slice_get seats place) reply new new_seats
 at_seat b seats place reply new new_seats h left = subst (λ o. LeaveAt b seats place o reply new new_seats) (sym (read_is seats place h)) left
-
-is_within : (n : ℕ) (t : Bool) → t ≡ not (n == 0) → t ≡ true → n ≢ 0
-is_within n t e h = grind (arith, nat_tests)
-
-is_idle : (n : ℕ) (t : Bool) → t ≡ not (n == 0) → t ≡ false → n ≡ 0
-is_idle n t e h = grind (arith, nat_tests)
 
 pub leave-requires-clause-known : goal.leave-requires-clause-known
 leave-requires-clause-known c = c.requires.known c.args.place _ (read_is c.args.seats.now c.args.place c.if-place-seats.false)
@@ -33,7 +18,7 @@ leave-requires-clause-known c = c.requires.known c.args.place _ (read_is c.args.
 pub returns-then-not-is_in-clause-reply : goal.returns-then-not-is_in-clause-reply
 returns-then-not-is_in-clause-reply c =
     at_seat _ _ _ _ _ _ c.if-place-seats.false
-    (inl (is_idle _ _ c.is_in.ensures c.if-not-is_in.true, (refl, (refl, set-get_or _ _ _))))
+    (inl (holds_none _ _ c.is_in.ensures c.if-not-is_in.true, (refl, (refl, set-get_or _ _ _))))
 
 pub returns-clause-reply : goal.returns-clause-reply
 returns-clause-reply c =
@@ -43,7 +28,7 @@ returns-clause-reply c =
     let out_seat : c.leave.new.seat ≡ seat_out seat = c.leave.ensures.seat in
     at_seat b seats _ _ _ _ c.if-place-seats.false
     (inr (
-      is_within _ _ c.is_in.ensures c.if-not-is_in.false,
+      holds_one _ _ c.is_in.ensures c.if-not-is_in.false,
       (
         c.leave.ensures.left,
         (c.leave.ensures.book ∙ ap (λ (v : Seat). with_past b c.leave.new.self.past (slice_set b.seats seat.index v)) out_seat, ap (λ (v : Seat). slice_set seats c.args.place v) out_seat),

@@ -1,0 +1,16 @@
+//! The calls that take memory, made with ample memory and asked for nothing twice. Where the tests that ask again have
+//! had each of these requests refused, they have met each request of these calls (`scripts/refused_memory.sh`).
+use crate::name::Name;
+use crate::ports::Ports;
+use crate::roster::Roster;
+use crate::tests::ask;
+use std::test::Fail;
+
+#[test]
+fn makes_a_roster(rt: HostRuntime) -> Result<(), Fail> {
+    let name = Name::new(rt.alloc(), "v1")?;
+    let ports = Ports::new(rt.alloc(), &[9001, 9002])?;
+    let mut roster = Roster::new(rt.alloc(), 2)?;
+    assert_eq!(rt; ask(&rt, &mut roster, name.get(), ports.get()), Ok(1));
+    Ok(())
+}
