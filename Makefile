@@ -6,6 +6,7 @@ build:
 
 test:
 	rt ci
+	scripts/whole_program.sh
 	scripts/refused_memory.sh
 
 demo: build

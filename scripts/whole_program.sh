@@ -1,0 +1,71 @@
+#!/bin/sh
+# Runs the built program, and compares its exit status and what it writes: on the examples, on words that are no order,
+# on faults, and where input or output fails.
+set -eu
+cd "$(dirname -- "$0")/.."
+work=$(mktemp -d)
+trap 'rm -rf "$work"' EXIT
+passed=0
+failed=0
+
+# expect STATUS REPLIES COMPLAINT WORD..: with these words the program ends with STATUS, writes the file REPLIES on
+# standard output, and on standard error what the shell's pattern COMPLAINT matches.
+expect() {
+    expect_to "$work/replies" "$@"
+}
+
+# expect_to FILE ..: the same, where standard output is FILE.
+expect_to() {
+    file=$1 status=$2 replies=$3 complaint=$4
+    shift 4
+    : > "$work/replies"
+    end=0
+    bin/bg_switch "$@" > "$file" 2> "$work/complaint" || end=$?
+    cmp -s "$replies" "$work/replies" || end="$end, with other replies"
+    case $(cat "$work/complaint") in
+        $complaint) ;;
+        *) end="$end, with '$(cat "$work/complaint")' on standard error" ;;
+    esac
+    if [ "$end" = "$status" ]; then
+        passed=$((passed + 1))
+    else
+        failed=$((failed + 1))
+        echo "FAILED: bg_switch $*: it ended with $end"
+    fi
+}
+
+# The examples.
+expect 0 examples/two_requests.replies '' replay < examples/two_requests.txt
+expect 0 examples/direct.settings '' check < examples/direct.json
+expect 0 examples/tested_before_and_after.settings '' check < examples/tested_before_and_after.json
+
+# Words that are no order; the words of a replay.
+expect 2 /dev/null '?*' < /dev/null
+expect 2 /dev/null '?*' serve < /dev/null
+expect 2 /dev/null '?*' check more < /dev/null
+expect 2 /dev/null '?*' replay --seats 9 < /dev/null
+expect 2 /dev/null '?*' "$(printf '\377')" < /dev/null
+expect 2 /dev/null '?*--seats*' replay --help < /dev/null
+sed 's/^entered 2 .*/refused NoSuchSeat/' examples/two_requests.replies > "$work/one_seat"
+expect 0 "$work/one_seat" '' replay --seats 1 < examples/two_requests.txt
+
+# Faults, and an input without end.
+echo 'fault NotJson' > "$work/not_json"
+expect 1 "$work/not_json" '' check < /dev/null
+expect 1 "$work/not_json" '' replay < /dev/null
+echo 'fault TooLarge' > "$work/too_large"
+expect 1 "$work/too_large" '' check < /dev/zero
+expect 1 "$work/too_large" '' replay < /dev/zero
+{ cat examples/direct.json && printf -- '---\nreport\nreports\n'; } > "$work/unknown"
+printf 'refused NotOpen\nfault UnknownWord\n' > "$work/unknown_replies"
+expect 1 "$work/unknown_replies" '' replay < "$work/unknown"
+
+# Input that can't be read, as a folder can't, and output that takes nothing.
+expect 1 /dev/null ReadFailed check < examples
+expect 1 /dev/null ReadFailed replay < examples
+expect_to /dev/full 1 /dev/null WriteFailed check < examples/direct.json
+expect_to /dev/full 1 /dev/null WriteFailed check < /dev/null
+expect_to /dev/full 1 /dev/null WriteFailed replay < examples/two_requests.txt
+
+echo "whole_program: $passed passed, $failed failed"
+[ "$failed" -eq 0 ]
