@@ -1,5 +1,5 @@
-//! The calls that take memory, made with ample memory and asked for nothing twice. Where the tests that ask again have
-//! had each of these requests refused, they have met each request of these calls (`scripts/refused_memory.sh`).
+//! The calls that take memory, each made once. `scripts/refused_memory.sh` refuses the request after the last one that
+//! they are known to make; where they make more, the test fails.
 use super::History;
 use crate::entry::Entry;
 use std::alloc::AllocError;
