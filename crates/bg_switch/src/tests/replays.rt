@@ -40,6 +40,7 @@ fn says_that_memory_is_refused(rt: HostRuntime) {
         (Ok(1), "fault OutOfMemory\nrefused NotOpen\n"),
         (Ok(0), "refused OutOfMemory\nrefused NotOpen\n"),
         (Ok(0), "ok 0\nrefused OutOfMemory\n"),
+        (Err(RunEnd::OutOfMemory), "ok 0\n"),
         (Err(RunEnd::OutOfMemory), ""),
     ];
     let mut reader = SHORT.as_bytes();
