@@ -67,10 +67,9 @@ impl<N: Names> SeatRecord<N> {
         ensures own { self.new ≡ seat.new }
     {
         let before = seat.holding();
-        let calls = before.calls + 1;
         let next = Holding {
             index: before.index,
-            calls,
+            calls: before.calls + 1,
             number: 0,
             revision: 0,
             port: 0,
