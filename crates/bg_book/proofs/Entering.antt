@@ -2,6 +2,7 @@
 use Rattle.std.proofs.Common.{◌≡◌, ℕ, ◌+◌, ◌*◌, ◌<◌, ◌≤◌, false, cond, ◌==◌, nat_le, List, [], ◌∷◌, ◌++◌, length, filter, map, position, slice_get, slice_set, get_or, sum, Option, Some, None, refl, sym, ap, ◌∙◌, arith, length-append}
 use Rattle.std.proofs.lemmas.Bool.Decides.{nat_tests}
 use Rattle.std.proofs.lemmas.List.Elements.{filter-append}
+use Rattle.std.proofs.lemmas.Option.{same_Some}
 use Rattle.bg_strategy.specs.declared.strategy.Strategy.{Strategy}
 use Rattle.bg_revisions.specs.declared.revision.Service.{Service}
 use Rattle.bg_history.specs.declared.entry.Entry.{Entry}
@@ -27,7 +28,7 @@ use Rattle.bg_book.proofs.Legal.{legal-Enter, requests-Enter, entered-one}
 use Rattle.bg_book.proofs.Lists.{first_list, lists_are}
 use Rattle.bg_book.proofs.Offers.{selected_is}
 use Rattle.bg_book.proofs.Quiet.{quiet-Enter}
-use Rattle.bg_book.proofs.Requests.{eq_sym, some_is}
+use Rattle.bg_book.proofs.Requests.{eq_sym}
 use Rattle.bg_book.proofs.Seating.{seated_of, out_holds_none}
 use Rattle.bg_book.proofs.Seats.{seats_one_changed, seat-Enter_same, seat-Enter_other}
 
@@ -73,7 +74,7 @@ pub lists_entered : (s : Strategy) (o : Opening) (past : List Entry) (lists : Li
     → slice_set lists place new ≡ lists_of (Enter seat service number r port ∷ past)
 lists_entered s o past lists place list new seat service number r port q is one at_place found made =
     let alone : lists ≡ first_list past ∷ [] = is ∙ lists_are s o past q in
-    let zero_place : place ≡ 0 = some_is _ _ (at_place ∙ ap (λ (ls : List OpenAt). position (λ l. l.revision == r) ls) alone ∙ ap (λ (k : ℕ). position (λ l. l.revision == k) (first_list past ∷ [])) one) in
+    let zero_place : place ≡ 0 = same_Some _ _ (at_place ∙ ap (λ (ls : List OpenAt). position (λ l. l.revision == r) ls) alone ∙ ap (λ (k : ℕ). position (λ l. l.revision == k) (first_list past ∷ [])) one) in
     let list_is : list ≡ first_list past = found ∙ ap (λ (ls : List OpenAt). get_or ls place list) alone ∙ ap (λ (k : ℕ). get_or (first_list past ∷ []) k list) zero_place in
     ap (λ (ls : List OpenAt). slice_set ls place new) alone
     ∙ ap (λ (k : ℕ). slice_set (first_list past ∷ []) k new) zero_place

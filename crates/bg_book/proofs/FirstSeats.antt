@@ -1,19 +1,18 @@
 -- The seats that are handed out with a book.
 use Rattle.std.proofs.Common.{◌≡◌, ℕ, ◌<◌, List, slice_get, Some, sym, ap, ◌∙◌, arith}
-use Rattle.std.proofs.lemmas.Option.{slice_get_within}
+use Rattle.std.proofs.lemmas.Option.{slice_get_within, same_Some}
 use Rattle.bg_strategy.specs.declared.strategy.Strategy.{Strategy}
 use Rattle.bg_book.specs.declared.limits.Limits.{Limits}
 use Rattle.bg_book.specs.declared.seat.Seat.{Seat}
 use Rattle.bg_book.specs.Replies.{NewSeats, opened}
 use Rattle.bg_book.specs.Routing.{Routing}
 use Rattle.bg_book.specs.Runs.{AreKnown, AreApart}
-use Rattle.bg_book.proofs.Requests.{some_is}
 
 -- each stands at the place of its index
 index_is : (count : ℕ) (seats : List Seat) (i : ℕ) (s : Seat) → NewSeats count seats → slice_get seats i ≡ Some s → s.index ≡ i
 index_is count seats i s new get =
     let within : i < count = omega (arith, slice_get_within seats i s get, new.count_is) in
-    ap (λ (w : Seat). w.index) (some_is s _ (sym get ∙ new.each i within))
+    ap (λ (w : Seat). w.index) (same_Some s _ (sym get ∙ new.each i within))
 
 pub known_first : (s : Strategy) (name ports : List ℕ) (count : ℕ) (limits : Limits) (b : Routing) (seats : List Seat)
     → b ≡ opened s name ports count limits seats → NewSeats count seats → AreKnown b seats

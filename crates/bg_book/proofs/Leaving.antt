@@ -1,5 +1,6 @@
 -- What stands after a request left.
 use Rattle.std.proofs.Common.{◌≡◌, ◌≢◌, ℕ, ◌+◌, ◌-◌, ◌*◌, ◌≤◌, not, ◌==◌, ◌&&◌, nat_le, List, [], ◌∷◌, length, filter, position, slice_get, slice_set, get_or, Option, Some, None, refl, sym, ap, ◌∙◌, arith}
+use Rattle.std.proofs.lemmas.Option.{same_Some}
 use Rattle.bg_strategy.specs.declared.strategy.Strategy.{Strategy}
 use Rattle.bg_history.specs.declared.entry.Entry.{Entry}
 use Rattle.bg_history.specs.declared.entry.Entry.TheVariants.{Leave}
@@ -16,7 +17,7 @@ use Rattle.bg_book.specs.Stands.{Running, Stands}
 use Rattle.bg_book.proofs.Legal.{legal-Leave, requests-Leave}
 use Rattle.bg_book.proofs.Lists.{first_list, lists_are}
 use Rattle.bg_book.proofs.Quiet.{quiet-Leave}
-use Rattle.bg_book.proofs.Requests.{by_seat, one_less, listed_without, some_is}
+use Rattle.bg_book.proofs.Requests.{by_seat, one_less, listed_without}
 use Rattle.bg_book.proofs.Seating.{in_holds, seated_of}
 use Rattle.bg_book.proofs.Seats.{seats_one_changed, seat-Leave_same, seat-Leave_other}
 
@@ -34,7 +35,7 @@ pub lists_left : (s : Strategy) (o : Opening) (past : List Entry) (lists : List 
     → slice_set lists place new ≡ lists_of (Leave seat number r ∷ past)
 lists_left s o past lists place list new seat number r q is one at_place found made =
     let alone : lists ≡ first_list past ∷ [] = is ∙ lists_are s o past q in
-    let zero_place : place ≡ 0 = some_is _ _ (at_place ∙ first_place s o past lists r q is one) in
+    let zero_place : place ≡ 0 = same_Some _ _ (at_place ∙ first_place s o past lists r q is one) in
     let list_is : list ≡ first_list past = found ∙ ap (λ (ls : List OpenAt). get_or ls place list) alone ∙ ap (λ (k : ℕ). get_or (first_list past ∷ []) k list) zero_place in
     ap (λ (ls : List OpenAt). slice_set ls place new) alone
     ∙ ap (λ (k : ℕ). slice_set (first_list past ∷ []) k new) zero_place

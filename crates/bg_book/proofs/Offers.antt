@@ -1,6 +1,7 @@
 -- The revision and the port of a request that enters.
 use Rattle.std.proofs.Common.{◌≡◌, ◌≢◌, ℕ, ◌+◌, ◌*◌, ◌%◌, ◌<◌, ◌≤◌, Bool, true, false, cond, ◌==◌, ◌&&◌, nat_lt, nat_le, List, [], ◌∷◌, length, map, slice_index, Option, Some, None, is_some, sym, ap, ◌∙◌, arith}
 use Rattle.std.proofs.lemmas.Bool.Decides.{nat_tests}
+use Rattle.std.proofs.lemmas.Option.{same_Some}
 use Rattle.bg_strategy.specs.declared.strategy.Strategy.{Strategy}
 use Rattle.bg_revisions.specs.declared.revision.Revision.{Revision}
 use Rattle.bg_revisions.specs.declared.revision.Service.{Service}
@@ -21,15 +22,15 @@ use Rattle.bg_book.specs.Stands.{Running, Stands}
 use Rattle.bg_strategy.specs.Label.{is_label}
 use Rattle.bg_revisions.specs.PortLists.{are_ports, are_distinct}
 use Rattle.bg_history.specs.Steps.{IsLegal}
-use Rattle.bg_book.proofs.Requests.{some_is, and_parts, eq_from}
+use Rattle.bg_book.proofs.Requests.{and_parts, eq_from}
 use Rattle.bg_book.proofs.Headlines.{preview_is}
 
 -- both services select revision 1
 pub selected_is : (s : Strategy) (o : Opening) (past : List Entry) (service : Service) (r : ℕ) → Quiet s o past → selection s service past ≡ Some r → r ≡ 1
-selected_is s o past Active r q h = sym (some_is _ r h) ∙ q.active_is
+selected_is s o past Active r q h = sym (same_Some _ r h) ∙ q.active_is
 selected_is s o past Preview r q h = go (is_some s.preview_service) h where
   go : (b : Bool) → cond b (Some (preview_of past)) None ≡ Some r → r ≡ 1
-  go true h = sym (some_is _ r h) ∙ preview_is s o past q
+  go true h = sym (same_Some _ r h) ∙ preview_is s o past q
   go false h = absurd (cc)
 
 -- revision 1 as the past has it
@@ -45,7 +46,7 @@ revisions_are s o past q =
 pub found_is : (s : Strategy) (o : Opening) (past : List Entry) (revisions : List Revision) (r : ℕ) (v : Revision) → Quiet s o past → revisions ≡ revisions_of s o past
     → r ≡ 1 → numbered r revisions ≡ Some v → v ≡ first_revision s o past
 found_is s o past revisions r v q e one h =
-    some_is _ _ (sym h ∙ ap (numbered r) (e ∙ revisions_are s o past q) ∙ ap (λ (n : ℕ). numbered n (first_revision s o past ∷ [])) one)
+    same_Some _ _ (sym h ∙ ap (numbered r) (e ∙ revisions_are s o past q) ∙ ap (λ (n : ℕ). numbered n (first_revision s o past ∷ [])) one)
 
 pub port_is : (s : Strategy) (o : Opening) (past : List Entry) (r number : ℕ) → Quiet s o past → r ≡ 1
     → port_of o r number past ≡ Some (slice_index o.template.ports (number % available 1 past))

@@ -1,9 +1,10 @@
 -- What stands in a book that was just opened.
-use Rattle.std.proofs.Common.{◌≡◌, ℕ, suc, ◌+◌, ◌*◌, ◌<◌, ◌≤◌, ◌^◌, Bool, true, false, not, ◌&&◌, ◌||◌, nat_lt, nat_le, List, [], ◌∷◌, length, slice_get, replicate, sum, Option, Some, None, Result, Ok, Err, refl, sym, ap, ◌∙◌, arith}
+use Rattle.std.proofs.Common.{◌≡◌, ℕ, suc, ◌+◌, ◌*◌, ◌<◌, ◌≤◌, Bool, true, false, not, ◌&&◌, ◌||◌, nat_lt, nat_le, List, [], ◌∷◌, length, slice_get, replicate, sum, Option, Some, None, Result, Ok, Err, refl, sym, ap, ◌∙◌, arith}
 use Rattle.std.specs.Prelude.{IfErr}
 use Rattle.std.proofs.Common.{inr}
 use Rattle.std.proofs.lemmas.List.{get_or-replicate}
 use Rattle.std.proofs.lemmas.List.Folds.{sum_by-replicate}
+use Rattle.std.proofs.lemmas.Option.{same_Some}
 use Rattle.bg_strategy.specs.declared.strategy.Strategy.{Strategy}
 use Rattle.bg_strategy.specs.Label.{is_label}
 use Rattle.bg_revisions.specs.PortLists.{are_ports}
@@ -13,13 +14,13 @@ use Rattle.bg_book.specs.declared.limits.Limits.{Limits}
 use Rattle.bg_book.specs.declared.seat.Seat.{Seat}
 use Rattle.bg_book.specs.declared.fault.OpenFault as opening
 use Rattle.bg_book.specs.declared.fault.OpenFault.TheVariants as fault
-use Rattle.bg_book.specs.Refusals.{is_above_usual, open_refusal, AnswersBy}
+use Rattle.bg_book.specs.Refusals.{is_above_usual, open_refusal, usual_limits, AnswersBy}
 use Rattle.bg_book.specs.Replies.{NewSeats, opened}
 use Rattle.bg_book.specs.States.{seat_of}
 use Rattle.bg_book.specs.Stands.{Stands}
 use Rattle.bg_book.proofs.Events.{passed, within}
 use Rattle.bg_book.proofs.Quiet.{quiet-opening}
-use Rattle.bg_book.proofs.Requests.{and_both, some_is}
+use Rattle.bg_book.proofs.Requests.{and_both}
 
 it_is : (t : Bool) → not t ≡ false → t ≡ true
 it_is true h = refl
@@ -34,8 +35,8 @@ pub record Fits (s : Strategy) (name ports : List ℕ) (seats : ℕ) (limits : L
   pub name_fits : is_label name ≡ true
   pub ports_fit : are_ports s.replicas ports ≡ true
   pub seats_fit : (nat_le 1 seats && nat_le seats 8) ≡ true
-  pub entries_fit : limits.entries ≤ 1000000
-  pub numbers_fit : limits.numbers ≤ 2 ^ 53
+  pub entries_fit : limits.entries ≤ usual_limits.entries
+  pub numbers_fit : limits.numbers ≤ usual_limits.numbers
 
 pub fits : (s : Strategy) (name ports : List ℕ) (seats : ℕ) (limits : Limits) → open_refusal s name ports seats limits ≡ None → Fits s name ports seats limits
 fits s name ports seats limits h =
@@ -43,13 +44,13 @@ fits s name ports seats limits h =
     let two = passed (not (are_ports s.replicas ports)) fault.BadPorts _ one.1 in
     let three = passed (not (nat_le 1 seats && nat_le seats 8)) fault.BadSeats _ two.1 in
     let four = passed (is_above_usual limits) fault.BadLimits None three.1 in
-    let usual = neither (nat_lt 1000000 limits.entries) (nat_lt (2 ^ 53) limits.numbers) four.0 in
+    let usual = neither (nat_lt usual_limits.entries limits.entries) (nat_lt usual_limits.numbers limits.numbers) four.0 in
     record {
       name_fits = it_is (is_label name) one.0;
       ports_fit = it_is (are_ports s.replicas ports) two.0;
       seats_fit = it_is (nat_le 1 seats && nat_le seats 8) three.0;
-      entries_fit = within 1000000 limits.entries usual.0;
-      numbers_fit = within (2 ^ 53) limits.numbers usual.1;
+      entries_fit = within usual_limits.entries limits.entries usual.0;
+      numbers_fit = within usual_limits.numbers limits.numbers usual.1;
     }
 
 and_three : (a b c : Bool) → a ≡ true → (b && c) ≡ true → (a && b && c) ≡ true
@@ -102,7 +103,7 @@ same_lists_of [] [] l h = refl
 same_lists_of [] (y ∷ ys) l h = absurd (omega (arith, l))
 same_lists_of (x ∷ xs) [] l h = absurd (omega (arith, l))
 same_lists_of {X = X} (x ∷ xs) (y ∷ ys) l h =
-    let head : x ≡ y = some_is x y (h 0 (omega arith)) in
+    let head : x ≡ y = same_Some x y (h 0 (omega arith)) in
     let rest : xs ≡ ys = same_lists_of xs ys (omega (arith, l)) (λ i k. h (suc i) (omega (arith, k))) in
     ap (λ (z : X). z ∷ xs) head ∙ ap (λ (zs : List X). y ∷ zs) rest
 

@@ -2,6 +2,7 @@
 use Rattle.std.proofs.Common.{◌≡◌, ℕ, ◌+◌, ◌<◌, Bool, true, false, not, cond, ◌&&◌, ◌==◌, List, [], ◌∷◌, ◌++◌, length, filter, find, map, Option, Some, None, refl, sym, ap, ◌∙◌, arith}
 use Rattle.std.specs.List.{list_all}
 use Rattle.std.proofs.lemmas.Bool.Decides.{nat_tests}
+use Rattle.std.proofs.lemmas.Option.{same_Some}
 use Rattle.bg_history.specs.Requests.{Request}
 use Rattle.bg_book.specs.OpenLists.{without, listed}
 use Rattle.bg_book.specs.Stands.{are_apart, Differ, has_number}
@@ -36,15 +37,12 @@ pub all_stay : {X : Type 0} (k : X → Bool) (xs : List X) → list_all k xs ≡
 all_stay k [] h = refl
 all_stay k (x ∷ xs) h = let both = and_parts (k x) (list_all k xs) h in rw both.0 (ap (λ ys. x ∷ ys) (all_stay k xs both.1))
 
-pub some_is : {X : Type 0} (x y : X) → Some x ≡ Some y → x ≡ y
-some_is x y h = cc
-
 -- what is found passes what all pass
 pub found_passes : {X : Type 0} (p t : X → Bool) (xs : List X) (y : X) → find p xs ≡ Some y → list_all t xs ≡ true → t y ≡ true
 found_passes p t [] y h k = absurd (cc)
 found_passes p t (x ∷ xs) y h k = let both = and_parts (t x) (list_all t xs) k in go t x y (p x) (find p xs) h both.0 (λ h. found_passes p t xs y h both.1) where
   go : {X : Type 0} (t : X → Bool) (x y : X) (b : Bool) (later : Option X) → cond b (Some x) later ≡ Some y → t x ≡ true → (later ≡ Some y → t y ≡ true) → t y ≡ true
-  go t x y true later h here rest = sym (ap t (some_is x y h)) ∙ here
+  go t x y true later h here rest = sym (ap t (same_Some x y h)) ∙ here
   go t x y false later h here rest = rest h
 
 pub differ-append : (qs : List Request) (x : Request) → Differ qs → list_all (λ q. are_apart q x) qs ≡ true → Differ (qs ++ x ∷ [])
@@ -98,7 +96,7 @@ by_seat seat (q ∷ qs) x d h = go (by_seat seat qs x d.1) (q.seat == seat) refl
   go : (find (λ p. p.seat == seat) qs ≡ Some x → filter (λ p. not (p.number == x.number)) qs ≡ filter (λ p. not (p.seat == seat)) qs)
       → (b : Bool) → (q.seat == seat) ≡ b → cond b (Some q) (find (λ p. p.seat == seat) qs) ≡ Some x
       → filter (λ p. not (p.number == x.number)) (q ∷ qs) ≡ cond (not b) (q ∷ filter (λ p. not (p.seat == seat)) qs) (filter (λ p. not (p.seat == seat)) qs)
-  go rest true e h = found_at_head seat q x qs d.0 (sym (eq_from q.seat seat e)) (sym (some_is q x h))
+  go rest true e h = found_at_head seat q x qs d.0 (sym (eq_from q.seat seat e)) (sym (same_Some q x h))
   go rest false e h =
       ap (λ b. cond b (q ∷ filter (λ p. not (p.number == x.number)) qs) (filter (λ p. not (p.number == x.number)) qs))
       ((and_parts (not (q.seat == x.seat)) (not (q.number == x.number)) (found_passes (λ p. p.seat == seat) (are_apart q) qs x h d.0)).1)

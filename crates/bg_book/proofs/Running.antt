@@ -1,7 +1,7 @@
 -- Seats of a slice, and runs of calls.
 use Rattle.std.proofs.Common.{◌≡◌, ◌≢◌, ◌<◌, ℕ, Bool, true, false, not, ◌==◌, List, [], ◌∷◌, ◌++◌, length, get_or, slice_get, slice_set, Some, refl, sym, ap, ◌∙◌, subst, arith}
 use Rattle.std.proofs.lemmas.Bool.Decides.{nat_tests}
-use Rattle.std.proofs.lemmas.Option.{slice_get_within, slice_get-get_or}
+use Rattle.std.proofs.lemmas.Option.{slice_get_within, slice_get-get_or, same_Some}
 use Rattle.bg_history.specs.declared.entry.Entry.{Entry}
 use Rattle.bg_book.specs.declared.calls.Call.{Call}
 use Rattle.bg_book.specs.declared.calls.Reply.{Reply}
@@ -9,7 +9,7 @@ use Rattle.bg_book.specs.declared.seat.Seat.{Seat}
 use Rattle.bg_book.specs.Replies.{with_past}
 use Rattle.bg_book.specs.Routing.{Routing}
 use Rattle.bg_book.specs.Runs.{AreKnown, AreApart, CallStep, Runs}
-use Rattle.bg_book.proofs.Requests.{some_is, eq_from}
+use Rattle.bg_book.proofs.Requests.{eq_from}
 use Rattle.bg_book.proofs.Seats.{get-set_same, get-set_other}
 
 -- the seat that was read at its place
@@ -34,7 +34,7 @@ known_after b past seats place seat v known apart here same i s get = go (i == p
   go : (t : Bool) → (i == place) ≡ t → slice_get (slice_set b.seats seat.index v) s.index ≡ Some s
   go true e =
       let at : i ≡ place = eq_from i place e in
-      let is : v ≡ s = some_is v s (sym (get-set_same seats place v (slice_get_within seats place seat here)) ∙ ap (λ (j : ℕ). slice_get (slice_set seats place v) j) (sym at) ∙ get) in
+      let is : v ≡ s = same_Some v s (sym (get-set_same seats place v (slice_get_within seats place seat here)) ∙ ap (λ (j : ℕ). slice_get (slice_set seats place v) j) (sym at) ∙ get) in
       subst (λ (w : Seat). slice_get (slice_set b.seats seat.index v) w.index ≡ Some w) is
       (ap (λ (j : ℕ). slice_get (slice_set b.seats seat.index v) j) same
       ∙ get-set_same b.seats seat.index v (slice_get_within b.seats seat.index seat (known place seat here)))
@@ -55,7 +55,7 @@ apart_after seats place seat v apart here same i j p q get_p get_q e =
       go : (t : Bool) → (i == place) ≡ t → (old : Seat) × (slice_get seats i ≡ Some old) × (old.index ≡ s.index)
       go true e =
           let at : i ≡ place = eq_from i place e in
-          let is : v ≡ s = some_is v s (sym (get-set_same seats place v (slice_get_within seats place seat here)) ∙ ap (λ (j : ℕ). slice_get (slice_set seats place v) j) (sym at) ∙ get) in
+          let is : v ≡ s = same_Some v s (sym (get-set_same seats place v (slice_get_within seats place seat here)) ∙ ap (λ (j : ℕ). slice_get (slice_set seats place v) j) (sym at) ∙ get) in
           (seat, ap (slice_get seats) at ∙ here, sym same ∙ ap (λ (w : Seat). w.index) is)
       go false e =
           let other : i ≢ place = grind (arith, nat_tests) in

@@ -2,7 +2,7 @@
 use Rattle.std.proofs.Common.{◌≡◌, ◌≢◌, ℕ, zero, suc, ◌+◌, ◌<◌, ◌≤◌, ◌^◌, Bool, true, false, cond, ◌==◌, List, [], ◌∷◌, length, slice_get, get_or, slice_index, sum, Option, Some, None, refl, sym, ap, ◌∙◌, arith}
 use Rattle.std.proofs.lemmas.Bool.Decides.{nat_tests}
 use Rattle.std.proofs.lemmas.List.Sums.{sum_by-cons}
-use Rattle.std.proofs.lemmas.Option.{slice_get_within, get_or_from_slice_get}
+use Rattle.std.proofs.lemmas.Option.{slice_get_within, get_or_from_slice_get, same_Some}
 use Rattle.bg_history.specs.declared.entry.Entry.{Entry}
 use Rattle.bg_history.specs.declared.entry.Entry.TheVariants.{Tick, Deploy, Available, Verdict, Promote, PromoteFull, Abort, Retry, Enter, Leave, Outcome}
 use Rattle.bg_history.specs.Requests.{Request, open_requests, held_by, entered, given, calls_in, calls_of}
@@ -10,7 +10,7 @@ use Rattle.bg_book.specs.declared.seat.Seat.{Seat}
 use Rattle.bg_book.specs.Routing.{Routing}
 use Rattle.bg_book.specs.States.{seated, seat_of}
 use Rattle.bg_book.specs.Stands.{Running, Stands, has_number}
-use Rattle.bg_book.proofs.Requests.{found_passes, some_is, eq_from}
+use Rattle.bg_book.proofs.Requests.{found_passes, eq_from}
 
 -- the record of a seat is what the past says
 pub record Seated (b : Routing) (seat : Seat) : Type 0 where
@@ -20,7 +20,7 @@ pub record Seated (b : Routing) (seat : Seat) : Type 0 where
 pub seated_of : (b : Routing) (k : Running) (seat : Seat) → Stands b k → slice_get b.seats seat.index ≡ Some seat → Seated b seat
 seated_of b k seat stand known =
     let within : seat.index < b.opening.seats = omega (arith, slice_get_within b.seats seat.index seat known, stand.seats.count) in
-    record { within = within; is = some_is _ _ (sym (stand.seats.each seat.index within) ∙ known) }
+    record { within = within; is = same_Some _ _ (sym (stand.seats.each seat.index within) ∙ known) }
 
 held_number : (b : Routing) (k : Running) (i : ℕ) (x : Request) → Stands b k → held_by i b.past ≡ Some x → has_number (given b.closed b.past) x ≡ true
 held_number b k i x stand held = found_passes (λ q. q.seat == i) (has_number (given b.closed b.past)) (open_requests b.past) x held stand.requests.given

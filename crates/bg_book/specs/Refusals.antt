@@ -33,9 +33,13 @@ abbrev pub refuse : {F : Type 0} → Option F → Result (Unit {0}) F
 refuse None = Ok tt
 refuse (Some e) = Err e
 
--- the usual limits, above which no book is opened
+-- the usual limits
+abbrev pub usual_limits : Limits
+usual_limits = record { entries = 1000000; numbers = 2 ^ 53 }
+
+-- a limit is above the usual one
 abbrev pub is_above_usual : Limits → Bool
-is_above_usual l = nat_lt 1000000 l.entries || nat_lt (2 ^ 53) l.numbers
+is_above_usual l = nat_lt usual_limits.entries l.entries || nat_lt usual_limits.numbers l.numbers
 
 -- why no book is opened
 abbrev pub open_refusal : Strategy → List ℕ → List ℕ → ℕ → Limits → Option opening.OpenFault

@@ -1,5 +1,5 @@
 -- What the book keeps is what its history says.
-use Rattle.std.specs.Prelude.{◌≡◌, ◌≤◌, ◌^◌, ◌+◌, ◌*◌, ℕ, Bool, List, ◌∷◌, [], true, not, nat_le, ◌&&◌, ◌==◌, length}
+use Rattle.std.specs.Prelude.{◌≡◌, ◌≤◌, ◌+◌, ◌*◌, ℕ, Bool, List, ◌∷◌, [], true, not, nat_le, ◌&&◌, ◌==◌, length}
 use Rattle.std.specs.List.{list_all}
 use Rattle.bg_history.specs.declared.entry.Entry.{Entry}
 use Rattle.bg_history.specs.Requests.{Request, open_requests, given}
@@ -12,7 +12,7 @@ use Rattle.bg_promotion.specs.Stands.{StandsFor}
 use Rattle.bg_book.specs.declared.book.Book.TheInside.{Inside}
 use Rattle.bg_book.specs.OpenLists.{lists_of}
 use Rattle.bg_book.specs.Quiet.{Quiet}
-use Rattle.bg_book.specs.Refusals.{open_count}
+use Rattle.bg_book.specs.Refusals.{open_count, usual_limits}
 use Rattle.bg_book.specs.Routing.{Routing}
 use Rattle.bg_book.specs.States.{SeatsStand, revisions_of}
 
@@ -83,6 +83,6 @@ pub record Stands (b : Routing) (k : Running) : Type 0 where
   pub requests : RequestsStand b.closed b.past
   pub spare : 3 * k.open_requests ≤ k.spare
   pub room : length b.past + 3 * k.open_requests ≤ b.limits.entries
-  pub entries : b.limits.entries ≤ 1000000
-  pub numbers : b.limits.numbers ≤ 2 ^ 53
+  pub entries : b.limits.entries ≤ usual_limits.entries
+  pub numbers : b.limits.numbers ≤ usual_limits.numbers
   pub spent : k.given ≤ b.limits.numbers

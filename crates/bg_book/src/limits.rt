@@ -1,5 +1,6 @@
 //! How much a book takes.
-ghost use Rattle.std.specs.Prelude.{◌≡◌, ◌^◌};
+ghost use Rattle.std.specs.Prelude.{◌≡◌};
+ghost use Rattle.bg_book.specs.Refusals.{usual_limits};
 
 /// The most entries that a history may have, and the most requests that may be given a number.
 #[derive(Clone, Copy, PartialEq, Eq, Debug, Drop)]
@@ -13,7 +14,7 @@ pub struct Limits {
 impl Limits {
     /// 1,000,000 entries and 2^53 numbers, above which no book is opened.
     pub fn usual() -> Limits
-        ensures { result ≡ record { entries = 1000000; numbers = 2 ^ 53 } }
+        ensures { result ≡ usual_limits }
     {
         Limits {
             entries: 1_000_000,

@@ -1,13 +1,12 @@
 -- What the lines of a script are answered.
-use Rattle.std.specs.Prelude.{◌≡◌, ◌≢◌, ◌^◌, ℕ, Bool, false, ◌||◌, List, [], ◌∷◌, slice_get, ◌⊎◌, ⊤, Option, None, Some, Result, Ok, Err, if◌then◌else◌}
+use Rattle.std.specs.Prelude.{◌≡◌, ◌≢◌, ℕ, Bool, false, ◌||◌, List, [], ◌∷◌, slice_get, ◌⊎◌, ⊤, Option, None, Some, Result, Ok, Err, if◌then◌else◌}
 use Rattle.std.specs.List.{flat_map}
 use Rattle.std.specs.Io.KnownBytes.{Appends}
 use Rattle.bg_strategy.specs.declared.strategy.Strategy.{Strategy}
 use Rattle.bg_book.specs.declared.calls.Reply.{Reply}
 use Rattle.bg_book.specs.declared.fault.OpenFault.TheVariants as open_fault
-use Rattle.bg_book.specs.declared.limits.Limits.{Limits}
 use Rattle.bg_book.specs.declared.seat.Seat.{Seat}
-use Rattle.bg_book.specs.Refusals.{open_refusal}
+use Rattle.bg_book.specs.Refusals.{open_refusal, usual_limits}
 use Rattle.bg_book.specs.Replies.{opened, NewSeats}
 use Rattle.bg_book.specs.Routing.{Routing}
 use Rattle.bg_book.specs.Runs.{CallStep}
@@ -49,10 +48,6 @@ written_text (Reported book) = report_text book
 abbrev pub is_fault_written : Written → Bool
 is_fault_written (Said answer) = is_fault answer
 is_fault_written (Reported book) = false
-
--- a book is opened with the usual limits
-abbrev pub usual_limits : Limits
-usual_limits = record { entries = 1000000; numbers = 2 ^ 53 }
 
 -- What `open` is answered while no book is open. Memory may be refused to the line and to the opening, and then no book is open.
 abbrev pub OpenStep : Strategy → ℕ → List ℕ → List ℕ → Written → Stage → Type 0
