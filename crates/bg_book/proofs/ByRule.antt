@@ -4,7 +4,7 @@ use Rattle.bg_strategy.specs.declared.strategy.Strategy.{Strategy}
 use Rattle.bg_history.specs.declared.entry.Entry.{Entry}
 use Rattle.bg_history.specs.declared.entry.Entry.TheVariants.{Tick, Deploy, Available, Verdict, Promote, PromoteFull, Abort, Retry, Enter, Leave, Outcome}
 use Rattle.bg_history.specs.declared.entry.Outcome.TheVariants.{Ready, Resumed, Switched, Promoted, ScaledDown, Removed}
-use Rattle.bg_history.specs.declared.entry.Finding.TheVariants.{Successful, Failed, Error}
+use Rattle.bg_history.specs.declared.entry.AnalysisResult.TheVariants.{Successful, Failed, Error}
 use Rattle.bg_history.specs.Kept.{Opening}
 use Rattle.bg_history.specs.Turns.{stable_of}
 use Rattle.bg_history.specs.Selections.{active_of}

@@ -11,18 +11,18 @@ use Rattle.bg_history.specs.Kept.{Opening}
 use Rattle.bg_history.specs.Sizes.{available}
 use Rattle.bg_history.specs.Allowed.{selection}
 use Rattle.bg_history.specs.Requests.{Request, open_requests, held_by, entered, given, calls_of}
-use Rattle.bg_promotion.proofs.Neutral.{stands_after_enter}
+use Rattle.bg_promotion.specs.Stands.{StandsFor}
 use Rattle.bg_book.specs.declared.calls.Ticket.{Ticket}
 use Rattle.bg_book.specs.declared.open_list.OpenRequest.{OpenRequest}
 use Rattle.bg_book.specs.declared.seat.Seat.{Seat}
 use Rattle.bg_book.specs.declared.fault.EnterFault.TheVariants as fault
 use Rattle.bg_book.specs.OpenLists.{OpenAt, listed, requests_at, lists_of}
 use Rattle.bg_book.specs.Quiet.{Quiet}
-use Rattle.bg_book.specs.Refusals.{open_count, is_full_for_enter, enter_refusal, enter_refusal_at, IsTicket}
-use Rattle.bg_book.specs.Replies.{enter_entry, seat_in, with_past}
+use Rattle.bg_book.specs.Refusals.{all_open, is_full_for_enter, enter_refusal, enter_refusal_at, IsTicket}
+use Rattle.bg_book.specs.Changes.{enter_entry, seat_in, with_past}
 use Rattle.bg_book.specs.Routing.{Routing}
-use Rattle.bg_book.specs.States.{seated}
-use Rattle.bg_book.specs.Stands.{Running, Stands}
+use Rattle.bg_book.specs.PastState.{seated}
+use Rattle.bg_book.specs.Invariant.{RunningState, Stands}
 use Rattle.bg_book.proofs.Events.{passed, within}
 use Rattle.bg_book.proofs.Legal.{legal-Enter, requests-Enter, entered-one}
 use Rattle.bg_book.proofs.Lists.{first_list, lists_are}
@@ -36,7 +36,7 @@ use Rattle.bg_book.proofs.Seats.{seats_one_changed, seat-Enter_same, seat-Enter_
 pub record Accepted (b : Routing) (r : ℕ) : Type 0 where
   pub endpoint : 1 ≤ available r b.past
   pub unspent : given b.closed b.past < b.limits.numbers
-  pub room : length b.past + 1 + 3 * (open_count b.past + 1) ≤ b.limits.entries
+  pub room : length b.past + 1 + 3 * (all_open b.past + 1) ≤ b.limits.entries
 
 pub accepted_by : (b : Routing) (service : Service) (r : ℕ) → enter_refusal b service ≡ None → selection b.strategy service b.past ≡ Some r → Accepted b r
 accepted_by b service r refusal selected =
@@ -83,11 +83,12 @@ lists_entered s o past lists place list new seat service number r port q is one 
     ∙ sym (lists_are s o (Enter seat service number r port ∷ past) (quiet-Enter s o past seat service number r port q))
 
 -- a request entered
-pub stands-Enter : (b : Routing) (k : Running) (service : Service) (t : Ticket) (seat : Seat) (spare : ℕ) → Stands b k → enter_refusal b service ≡ None → IsTicket b service t
+pub stands-Enter : (b : Routing) (k : RunningState) (service : Service) (t : Ticket) (seat : Seat) (spare : ℕ) → Stands b k
+    → StandsFor b.strategy k.core (enter_entry seat.index service t ∷ b.past) → enter_refusal b service ≡ None → IsTicket b service t
     → slice_get b.seats seat.index ≡ Some seat → seat.number ≡ 0 → 3 * (k.open_requests + 1) ≤ spare
     → Stands (with_past b (enter_entry seat.index service t ∷ b.past) (slice_set b.seats seat.index (seat_in seat t)))
     (record k { given = t.number; open_requests = k.open_requests + 1; spare = spare })
-stands-Enter b k service t seat spare stand refusal ticket known zero_number enough =
+stands-Enter b k service t seat spare stand core refusal ticket known zero_number enough =
     let past = b.past in
     let ok = accepted_by b service t.revision refusal ticket.revision_is in
     let one : t.revision ≡ 1 = selected_is _ _ past service t.revision stand.quiet ticket.revision_is in
@@ -95,7 +96,7 @@ stands-Enter b k service t seat spare stand refusal ticket known zero_number eno
     let none = out_holds_none b k seat stand known zero_number in
     let i = seat.index in
     record {
-      core = stands_after_enter _ _ past i service t.number t.revision t.port stand.core;
+      core = core;
       revisions = stand.revisions;
       replicas = stand.replicas;
       lists = refl;

@@ -13,7 +13,7 @@ use Rattle.bg_history.specs.Kept.{Opening, Kept}
 use Rattle.bg_history.specs.Turns.{moment}
 use Rattle.bg_history.specs.Sizes.{existing, desired, available}
 use Rattle.bg_history.specs.Deadlines.{exists_in}
-use Rattle.bg_promotion.proofs.Neutral.{stands_after_tick, stands_after_available}
+use Rattle.bg_promotion.specs.Stands.{StandsFor, is_neutral}
 use Rattle.bg_book.specs.declared.calls.Control.{Control}
 use Rattle.bg_book.specs.declared.calls.Control.TheVariants.{Tick, Available}
 use Rattle.bg_book.specs.declared.fault.ControlFault as control_faults
@@ -22,13 +22,13 @@ use Rattle.bg_book.specs.declared.seat.Seat.{Seat}
 use Rattle.bg_book.specs.OpenLists.{OpenAt, lists_of}
 use Rattle.bg_book.specs.Quiet.{Quiet}
 use Rattle.bg_book.specs.Refusals.{fault_if, refuse, is_full_for_control, event_fault, control_refusal}
-use Rattle.bg_book.specs.Replies.{Stepped, with_past}
+use Rattle.bg_book.specs.Changes.{Stepped, with_past}
 use Rattle.bg_book.specs.Routing.{Routing}
-use Rattle.bg_book.specs.States.{revisions_of}
-use Rattle.bg_book.specs.Stands.{Running, Stands}
-use Rattle.bg_book.proofs.Legal.{legal-Tick, legal-Available, le_test}
+use Rattle.bg_book.specs.PastState.{revisions_of}
+use Rattle.bg_book.specs.Invariant.{RunningState, Stands}
+use Rattle.bg_book.proofs.Legal.{legal-Available, le_test}
 use Rattle.bg_book.proofs.Offers.{first_revision, revisions_are}
-use Rattle.bg_book.proofs.Quiet.{quiet-Tick, quiet-Available, settled}
+use Rattle.bg_book.proofs.Quiet.{quiet-Available, settled}
 use Rattle.bg_book.proofs.Requests.{eq_from}
 
 -- an event that allows no outcome
@@ -64,15 +64,6 @@ accepted b c r t e h =
     let both = neither (event_fault b c) _ (no_fault (control_refusal b c) r t e h) in
     (both.0, (passed _ fault.HistoryFull None both.1).0)
 
-pub accepted-Tick : (b : Routing) (m : ℕ) → event_fault b (Tick m) ≡ None → (moment b.past ≤ m) × (m ≤ 2 ^ 53)
-accepted-Tick b m h =
-    let one = passed (nat_lt (2 ^ 53) m) fault.MomentTooLarge _ h in
-    let two = passed (nat_lt m (moment b.past)) fault.MomentBack None one.1 in
-    (at_least m (moment b.past) two.0, at_least (2 ^ 53) m one.0)
-  where
-    at_least : (n m : ℕ) → nat_lt n m ≡ false → m ≤ n
-    at_least n m h = grind (arith, nat_tests)
-
 pub accepted-Available : (b : Routing) (r n : ℕ) → event_fault b (Available r n) ≡ None → (exists_in r b.past ≡ true) × (n ≤ desired b.strategy r b.past)
 accepted-Available b r n h =
     let one = passed (not (exists_in r b.past)) fault.NoSuchRevision _ h in
@@ -105,16 +96,17 @@ pub within : (m n : ℕ) → nat_lt m n ≡ false → n ≤ m
 within m n h = grind (arith, nat_tests)
 
 -- a report of availability was recorded
-pub stands-Available : (b : Routing) (k : Running) (r n spare : ℕ) → Stands b k → event_fault b (Available r n) ≡ None
+pub stands-Available : (b : Routing) (k : RunningState) (r n spare : ℕ) → Stands b k
+    → StandsFor b.strategy k.core (event.Available r n ∷ b.past) → event_fault b (Available r n) ≡ None
     → is_full_for_control b.limits b.past ≡ false → 3 * k.open_requests ≤ spare
     → Stands (record b { past = event.Available r n ∷ b.past }) (record k { roster = record k.roster { revisions = map (reported r n) k.roster.revisions }; spare = spare })
-stands-Available b k r n spare stand fits full kept =
+stands-Available b k r n spare stand core fits full kept =
     let past = b.past in
     let ok = accepted-Available b r n fits in
     let one : r ≡ 1 = exists_one r (existing past) stand.quiet.exists_is ok.0 in
     let most : n ≤ b.strategy.replicas = omega (arith, ok.1, stand.quiet.desired_is r, ap (λ (q : ℕ). desired b.strategy q []) one) in
     record {
-      core = stands_after_available _ _ past r n stand.core;
+      core = core;
       revisions = ap (map (reported r n)) stand.revisions ∙ revisions_reported _ _ past r n stand.quiet one;
       replicas = stand.replicas;
       lists = stand.lists;
@@ -136,35 +128,8 @@ stands-Available b k r n spare stand fits full kept =
       reported_fits true old new = new
       reported_fits false old new = old
 
--- a tick was recorded
-pub stands-Tick : (b : Routing) (k : Running) (m spare : ℕ) → Stands b k → event_fault b (Tick m) ≡ None
-    → is_full_for_control b.limits b.past ≡ false → 3 * k.open_requests ≤ spare
-    → Stands (record b { past = event.Tick m ∷ b.past }) (record k { moment = m; spare = spare })
-stands-Tick b k m spare stand fits full kept =
-    let past = b.past in
-    let ok = accepted-Tick b m fits in
-    record {
-      core = stands_after_tick _ _ past m stand.core;
-      revisions = stand.revisions;
-      replicas = stand.replicas;
-      lists = stand.lists;
-      seats = record { count = stand.seats.count; each = stand.seats.each };
-      moment = refl;
-      given = stand.given;
-      open_is = stand.open_is;
-      legal = legal-Tick _ _ _ past m stand.legal ok.0 ok.1;
-      quiet = quiet-Tick _ _ past m stand.quiet;
-      available = stand.available;
-      requests = record { differ = stand.requests.differ; first = stand.requests.first; given = stand.requests.given };
-      spare = kept;
-      room = omega (arith, within _ _ full, stand.open_is);
-      entries = stand.entries;
-      numbers = stand.numbers;
-      spent = stand.spent;
-    }
-
 -- the report was taken into the roster
-pub reported_ok : (b : Routing) (k : Running) (r n : ℕ) → Stands b k → event_fault b (Available r n) ≡ None
+pub reported_ok : (b : Routing) (k : RunningState) (r n : ℕ) → Stands b k → event_fault b (Available r n) ≡ None
     → report_of n (numbered r k.roster.revisions) ≡ Ok tt
 reported_ok b k r n stand fits =
     let ok = accepted-Available b r n fits in
@@ -175,7 +140,7 @@ reported_ok b k r n stand fits =
     ∙ ap (λ t. cond t (Ok tt) (Err MoreThanDesired)) (le_test n (desired b.strategy 1 b.past) enough)
 
 -- a tick or a report, in the fields of a book
-pub recorded : (b : Routing) (k : Running) (e : Entry) (roster : Listing) (moment : ℕ) (history : Kept) (reserved old : Kept)
+pub recorded : (b : Routing) (k : RunningState) (e : Entry) (roster : Listing) (moment : ℕ) (history : Kept) (reserved old : Kept)
     → ((spare : ℕ) → 3 * k.open_requests ≤ spare → Stands (record b { past = e ∷ b.past }) (record k { roster = roster; moment = moment; spare = spare }))
     → old ≡ record { opening = b.opening; closed = b.closed; past = b.past; spare = k.spare }
     → record reserved { spare = old.spare } ≡ old → history ≡ record reserved { past = e ∷ reserved.past; spare = history.spare } → 3 * k.open_requests ≤ history.spare
@@ -189,7 +154,7 @@ recorded b k e roster moment history reserved old stands is rest entry spare =
     b_history = record { opening = b.opening; closed = b.closed; past = b.past; spare = k.spare }
 
 -- an entry of a seat, in the fields of a book
-pub seated_recorded : (b : Routing) (k : Running) (e : Entry) (lists lists_new : List OpenAt) (seats seats_new : List Seat) (given open_requests : ℕ) (history reserved old : Kept)
+pub seated_recorded : (b : Routing) (k : RunningState) (e : Entry) (lists lists_new : List OpenAt) (seats seats_new : List Seat) (given open_requests : ℕ) (history reserved old : Kept)
     → Stands (record b { past = e ∷ b.past; lists = lists; seats = seats }) (record k { given = given; open_requests = open_requests; spare = history.spare })
     → lists_new ≡ lists → seats_new ≡ seats
     → old ≡ record { opening = b.opening; closed = b.closed; past = b.past; spare = k.spare }

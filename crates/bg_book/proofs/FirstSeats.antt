@@ -4,7 +4,7 @@ use Rattle.std.proofs.lemmas.Option.{slice_get_within, same_Some}
 use Rattle.bg_strategy.specs.declared.strategy.Strategy.{Strategy}
 use Rattle.bg_book.specs.declared.limits.Limits.{Limits}
 use Rattle.bg_book.specs.declared.seat.Seat.{Seat}
-use Rattle.bg_book.specs.Replies.{NewSeats, opened}
+use Rattle.bg_book.specs.Changes.{NewSeats, opened}
 use Rattle.bg_book.specs.Routing.{Routing}
 use Rattle.bg_book.specs.Runs.{AreKnown, AreApart}
 

@@ -12,7 +12,7 @@ use Rattle.bg_book.specs.Headline.{Headline, stands_scaled, list_of}
 use Rattle.bg_book.specs.OpenLists.{OpenAt}
 use Rattle.bg_book.specs.Quiet.{Quiet}
 use Rattle.bg_book.specs.Routing.{Routing}
-use Rattle.bg_book.specs.Stands.{Running, Stands}
+use Rattle.bg_book.specs.Invariant.{RunningState, Stands}
 use Rattle.bg_book.proofs.Requests.{and_both}
 use Rattle.bg_book.proofs.Quiet.{settled}
 use Rattle.bg_book.proofs.ByRule.{reached_by_rule}
@@ -27,7 +27,7 @@ first_stands s o past q = and_both (exists_in 1 past) (is_scaled s 1 past) (firs
 pub preview_is : (s : Strategy) (o : Opening) (past : List Entry) → Quiet s o past → preview_of past ≡ 1
 preview_is s o past q = ap (λ b. cond b (newest_of past) (stable_of past)) q.running_is ∙ q.stable_is
 
-pub headline_of : (b : Routing) (k : Running) → Stands b k → Headline b
+pub headline_of : (b : Routing) (k : RunningState) → Stands b k → Headline b
 headline_of b k stand =
     let quiet = stand.quiet in
     record {

@@ -6,14 +6,14 @@ use Rattle.bg_history.specs.declared.entry.Entry.{Entry}
 use Rattle.bg_history.specs.declared.entry.Entry.TheVariants.{Leave}
 use Rattle.bg_history.specs.Kept.{Opening}
 use Rattle.bg_history.specs.Requests.{Request, open_requests, held_by, calls_of, given}
-use Rattle.bg_promotion.proofs.Neutral.{stands_after_leave}
+use Rattle.bg_promotion.specs.Stands.{StandsFor}
 use Rattle.bg_book.specs.declared.seat.Seat.{Seat}
-use Rattle.bg_book.specs.OpenLists.{OpenAt, without, lists_of}
+use Rattle.bg_book.specs.OpenLists.{OpenAt, without_request, lists_of}
 use Rattle.bg_book.specs.Quiet.{Quiet}
-use Rattle.bg_book.specs.Replies.{seat_out, with_past}
+use Rattle.bg_book.specs.Changes.{seat_out, with_past}
 use Rattle.bg_book.specs.Routing.{Routing}
-use Rattle.bg_book.specs.States.{seated, seat_of}
-use Rattle.bg_book.specs.Stands.{Running, Stands}
+use Rattle.bg_book.specs.PastState.{seated, seat_of}
+use Rattle.bg_book.specs.Invariant.{RunningState, Stands}
 use Rattle.bg_book.proofs.Legal.{legal-Leave, requests-Leave}
 use Rattle.bg_book.proofs.Lists.{first_list, lists_are}
 use Rattle.bg_book.proofs.Quiet.{quiet-Leave}
@@ -31,7 +31,7 @@ first_place s o past lists r q is one =
 -- the lists after the request was taken out of that of its revision
 pub lists_left : (s : Strategy) (o : Opening) (past : List Entry) (lists : List OpenAt) (place : ℕ) (list new : OpenAt) (seat number r : ℕ)
     → Quiet s o past → lists ≡ lists_of past → r ≡ 1 → Some place ≡ position (λ l. l.revision == r) lists → list ≡ get_or lists place list
-    → new ≡ record list { requests = without number list.requests }
+    → new ≡ record list { requests = without_request number list.requests }
     → slice_set lists place new ≡ lists_of (Leave seat number r ∷ past)
 lists_left s o past lists place list new seat number r q is one at_place found made =
     let alone : lists ≡ first_list past ∷ [] = is ∙ lists_are s o past q in
@@ -39,23 +39,24 @@ lists_left s o past lists place list new seat number r q is one at_place found m
     let list_is : list ≡ first_list past = found ∙ ap (λ (ls : List OpenAt). get_or ls place list) alone ∙ ap (λ (k : ℕ). get_or (first_list past ∷ []) k list) zero_place in
     ap (λ (ls : List OpenAt). slice_set ls place new) alone
     ∙ ap (λ (k : ℕ). slice_set (first_list past ∷ []) k new) zero_place
-    ∙ ap (λ (l : OpenAt). l ∷ []) (made ∙ ap (λ (l : OpenAt). record l { requests = without number l.requests }) list_is
+    ∙ ap (λ (l : OpenAt). l ∷ []) (made ∙ ap (λ (l : OpenAt). record l { requests = without_request number l.requests }) list_is
     ∙ ap (λ qs. record (first_list past) { requests = qs }) (sym (listed_without (λ q. q.revision == 1) number (open_requests past))))
     ∙ sym (lists_are s o (Leave seat number r ∷ past) (quiet-Leave s o past seat number r q))
 
 -- a seat that is in holds an open request, of revision 1
-pub one_open : (b : Routing) (k : Running) (seat : Seat) → Stands b k → slice_get b.seats seat.index ≡ Some seat → seat.number ≢ 0 → (1 ≤ k.open_requests) × (seat.revision ≡ 1)
+pub one_open : (b : Routing) (k : RunningState) (seat : Seat) → Stands b k → slice_get b.seats seat.index ≡ Some seat → seat.number ≢ 0 → (1 ≤ k.open_requests) × (seat.revision ≡ 1)
 one_open b k seat stand known some =
     let holds = in_holds b k seat stand known some in
     let less = one_less seat.index (open_requests b.past) holds.0 stand.requests.differ holds.1.held in
     (omega (arith, stand.open_is, less), sym holds.1.revision ∙ holds.1.first)
 
 -- a request left
-pub stands-Leave : (b : Routing) (k : Running) (seat : Seat) (spare : ℕ) → Stands b k → slice_get b.seats seat.index ≡ Some seat → seat.number ≢ 0
-    → 3 * (k.open_requests - 1) ≤ spare
+pub stands-Leave : (b : Routing) (k : RunningState) (seat : Seat) (spare : ℕ) → Stands b k
+    → StandsFor b.strategy k.core (Leave seat.index seat.number seat.revision ∷ b.past)
+    → slice_get b.seats seat.index ≡ Some seat → seat.number ≢ 0 → 3 * (k.open_requests - 1) ≤ spare
     → Stands (with_past b (Leave seat.index seat.number seat.revision ∷ b.past) (slice_set b.seats seat.index (seat_out seat)))
     (record k { open_requests = k.open_requests - 1; spare = spare })
-stands-Leave b k seat spare stand known some enough =
+stands-Leave b k seat spare stand core known some enough =
     let past = b.past in
     let mine = seated_of b k seat stand known in
     let holds = in_holds b k seat stand known some in
@@ -67,7 +68,7 @@ stands-Leave b k seat spare stand known some enough =
     ∙ ap (λ (qs : List Request). length qs + 1) (by_seat i (open_requests past) x stand.requests.differ held)
     ∙ one_less i (open_requests past) x stand.requests.differ held in
     record {
-      core = stands_after_leave _ _ past i seat.number seat.revision stand.core;
+      core = core;
       revisions = stand.revisions;
       replicas = stand.replicas;
       lists = refl;

@@ -13,14 +13,11 @@ use Rattle.bg_history.specs.Deadlines.{exists_in}
 use Rattle.bg_history.specs.Requests.{Request, open_requests, held_by, request_numbers, entered, given}
 use Rattle.bg_history.specs.Allowed.{is_allowed, selection, is_number, port_of, holds}
 use Rattle.bg_history.specs.Steps.{IsLegal, all_given}
-use Rattle.bg_book.specs.Stands.{has_number, RequestsStand}
+use Rattle.bg_book.specs.Invariant.{has_number, RequestsStand}
 use Rattle.bg_book.proofs.Requests.{and_both, all_weaker, all_kept, all_appended, all_apart, differ-append, differ-filter, eq_refl}
 
 pub le_test : (m n : ℕ) → m ≤ n → nat_le m n ≡ true
 le_test m n h = grind (arith, nat_tests)
-
-test_le : (m n : ℕ) → nat_le m n ≡ true → m ≤ n
-test_le m n h = grind (arith, nat_tests)
 
 -- a legal history and an entry that it allows
 legal_more : (s : Strategy) (o : Opening) (closed : List ℕ) (e : Entry) (past : List Entry) → IsLegal s o closed past → is_allowed s o e past ≡ true
@@ -30,11 +27,6 @@ legal_more s o closed e past legal allowed numbers = record {
   allowed = and_both (is_allowed s o e past) _ allowed legal.allowed;
   numbers = numbers;
 }
-
-pub legal-Tick : (s : Strategy) (o : Opening) (closed : List ℕ) (past : List Entry) (m : ℕ) → IsLegal s o closed past
-    → moment past ≤ m → m ≤ 2 ^ 53 → IsLegal s o closed (Tick m ∷ past)
-legal-Tick s o closed past m legal later fits =
-    legal_more s o closed (Tick m) past legal (and_both (nat_le (moment past) m) (nat_le m (2 ^ 53)) (le_test _ _ later) (le_test _ _ fits)) legal.numbers
 
 pub legal-Available : (s : Strategy) (o : Opening) (closed : List ℕ) (past : List Entry) (r n : ℕ) → IsLegal s o closed past
     → exists_in r past ≡ true → n ≤ desired s r past → IsLegal s o closed (Available r n ∷ past)

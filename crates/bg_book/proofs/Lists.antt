@@ -11,7 +11,7 @@ use Rattle.bg_book.specs.declared.open_list.OpenRequest.{OpenRequest}
 use Rattle.bg_book.specs.OpenLists.{OpenAt, listed, requests_at, lists_of}
 use Rattle.bg_book.specs.Headline.{requests_in, list_of}
 use Rattle.bg_book.specs.Quiet.{Quiet}
-use Rattle.bg_book.specs.Stands.{RequestsStand}
+use Rattle.bg_book.specs.Invariant.{RequestsStand}
 use Rattle.bg_book.proofs.Requests.{and_parts, eq_from}
 
 -- the list of revision 1

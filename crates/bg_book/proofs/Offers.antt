@@ -14,11 +14,11 @@ use Rattle.bg_history.specs.Selections.{preview_of}
 use Rattle.bg_history.specs.Requests.{given}
 use Rattle.bg_history.specs.Allowed.{selection, port_of, port_in}
 use Rattle.bg_book.specs.Quiet.{Quiet}
-use Rattle.bg_book.specs.Refusals.{open_count, fault_if, is_full_for_enter, enter_refusal, enter_refusal_at, IsTicket}
+use Rattle.bg_book.specs.Refusals.{all_open, fault_if, is_full_for_enter, enter_refusal, enter_refusal_at, IsTicket}
 use Rattle.bg_book.specs.declared.fault.EnterFault.TheVariants as fault
 use Rattle.bg_book.specs.Routing.{Routing}
-use Rattle.bg_book.specs.States.{sized, revision_of, revisions_of}
-use Rattle.bg_book.specs.Stands.{Running, Stands}
+use Rattle.bg_book.specs.PastState.{sized, revision_of, revisions_of}
+use Rattle.bg_book.specs.Invariant.{RunningState, Stands}
 use Rattle.bg_strategy.specs.Label.{is_label}
 use Rattle.bg_revisions.specs.PortLists.{are_ports, are_distinct}
 use Rattle.bg_history.specs.Steps.{IsLegal}
@@ -73,20 +73,20 @@ ports_count s o closed past legal =
     eq_from (length o.template.ports) s.replicas counted
 
 -- the turn of a request is the place of a port
-pub turn_fits : (b : Routing) (k : Running) (v : Revision) (turn : ℕ) → Stands b k → v ≡ first_revision b.strategy b.opening b.past
+pub turn_fits : (b : Routing) (k : RunningState) (v : Revision) (turn : ℕ) → Stands b k → v ≡ first_revision b.strategy b.opening b.past
     → turn < v.available → turn < length v.ports
 turn_fits b k v turn stand is h =
     let ports : length v.ports ≡ b.strategy.replicas = ap (λ (w : Revision). length w.ports) is ∙ ports_count _ _ _ _ stand.legal in
     omega (arith, h, ports, ap (λ (w : Revision). w.available) is, stand.available)
 
 -- the revision that was found by the selected number
-pub offered_is : (b : Routing) (k : Running) (service : Service) (r : ℕ) (v : Revision) → Stands b k → selection b.strategy service b.past ≡ Some r
+pub offered_is : (b : Routing) (k : RunningState) (service : Service) (r : ℕ) (v : Revision) → Stands b k → selection b.strategy service b.past ≡ Some r
     → numbered r k.roster.revisions ≡ Some v → v ≡ first_revision b.strategy b.opening b.past
 offered_is b k service r v stand selected found =
     found_is _ _ _ _ r v stand.quiet stand.revisions (selected_is _ _ _ service r stand.quiet selected) found
 
 -- the offered ticket is that of the next request, and no fault applies
-pub ticket_is : (b : Routing) (k : Running) (service : Service) (r : ℕ) (v : Revision) → Stands b k → selection b.strategy service b.past ≡ Some r
+pub ticket_is : (b : Routing) (k : RunningState) (service : Service) (r : ℕ) (v : Revision) → Stands b k → selection b.strategy service b.past ≡ Some r
     → numbered r k.roster.revisions ≡ Some v → v.available ≢ 0 → k.given < b.limits.numbers
     → length b.past + 1 + 3 * (k.open_requests + 1) ≤ b.limits.entries
     → (enter_refusal b service ≡ None)
@@ -99,7 +99,7 @@ ticket_is b k service r v stand selected found some unspent room =
       not_refused b service r selected
           (not_zero (available r past) (λ e. some (there ∙ e)))
           (below b.limits.numbers (given b.closed past) (omega (arith, unspent, stand.given)))
-          (within b.limits.entries (length past + 1 + 3 * (open_count past + 1)) (omega (arith, room, stand.open_is))),
+          (within b.limits.entries (length past + 1 + 3 * (all_open past + 1)) (omega (arith, room, stand.open_is))),
       record {
         number_is = ap (λ (n : ℕ). n + 1) stand.given;
         revision_is = selected;

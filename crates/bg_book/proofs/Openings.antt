@@ -15,9 +15,9 @@ use Rattle.bg_book.specs.declared.seat.Seat.{Seat}
 use Rattle.bg_book.specs.declared.fault.OpenFault as opening
 use Rattle.bg_book.specs.declared.fault.OpenFault.TheVariants as fault
 use Rattle.bg_book.specs.Refusals.{is_above_usual, open_refusal, usual_limits, AnswersBy}
-use Rattle.bg_book.specs.Replies.{NewSeats, opened}
-use Rattle.bg_book.specs.States.{seat_of}
-use Rattle.bg_book.specs.Stands.{Stands}
+use Rattle.bg_book.specs.Changes.{NewSeats, opened}
+use Rattle.bg_book.specs.PastState.{seat_of}
+use Rattle.bg_book.specs.Invariant.{Stands}
 use Rattle.bg_book.proofs.Events.{passed, within}
 use Rattle.bg_book.proofs.Quiet.{quiet-opening}
 use Rattle.bg_book.proofs.Requests.{and_both}

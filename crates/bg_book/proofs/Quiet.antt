@@ -9,7 +9,7 @@ use Rattle.bg_history.specs.Kept.{Opening}
 use Rattle.bg_history.specs.Turns.{is_running}
 use Rattle.bg_history.specs.Selections.{active_of, is_selected}
 use Rattle.bg_history.specs.Sizes.{existing, is_scaled}
-use Rattle.bg_history.specs.Marks.{Kind, Left, Superseded, Cleared, Mark, mark}
+use Rattle.bg_history.specs.Marks.{MarkKind, Left, Superseded, Cleared, Mark, mark}
 use Rattle.bg_history.specs.Promotion.{first_promotion}
 use Rattle.bg_history.specs.Deadlines.{is_due, may_scale_down, may_remove, is_old, exists_in, is_spare, is_empty, is_first}
 use Rattle.bg_history.specs.Requests.{open_at}
@@ -17,7 +17,7 @@ use Rattle.bg_history.specs.Steps.{is_settled}
 use Rattle.bg_book.specs.Quiet.{Quiet}
 
 -- an entry at which the active service keeps its revision, and which is no turn, marks none
-no_mark : (b : Bool) (f : Kind → Mark) (m : Option Mark) → m ≡ None
+no_mark : (b : Bool) (f : MarkKind → Mark) (m : Option Mark) → m ≡ None
     → option_or (option_map f (cond ((b && not b) && true) (Some Left) (cond false (Some Superseded) (cond (((false || (not b && b)) || false) || false) (Some Cleared) None)))) m ≡ None
 no_mark true f m h = h
 no_mark false f m h = h

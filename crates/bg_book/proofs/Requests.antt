@@ -4,8 +4,8 @@ use Rattle.std.specs.List.{list_all}
 use Rattle.std.proofs.lemmas.Bool.Decides.{nat_tests}
 use Rattle.std.proofs.lemmas.Option.{same_Some}
 use Rattle.bg_history.specs.Requests.{Request}
-use Rattle.bg_book.specs.OpenLists.{without, listed}
-use Rattle.bg_book.specs.Stands.{are_apart, Differ, has_number}
+use Rattle.bg_book.specs.OpenLists.{without_request, listed}
+use Rattle.bg_book.specs.Invariant.{are_apart, Differ, has_number}
 
 -- both parts of a test that passed
 pub and_parts : (a b : Bool) → (a && b) ≡ true → (a ≡ true) × (b ≡ true)
@@ -135,19 +135,19 @@ one_less seat (q ∷ qs) x d h = go (one_less seat qs x d.1) (q.seat == seat) re
 
 -- taking a request out by its number, before and after the requests are listed
 pub listed_without : (p : Request → Bool) (number : ℕ) (qs : List Request)
-    → map listed (filter p (filter (λ q. not (q.number == number)) qs)) ≡ without number (map listed (filter p qs))
+    → map listed (filter p (filter (λ q. not (q.number == number)) qs)) ≡ without_request number (map listed (filter p qs))
 listed_without p number [] = refl
 listed_without p number (q ∷ qs) = go (listed_without p number qs) (q.number == number) (p q) refl refl where
-  go : map listed (filter p (filter (λ x. not (x.number == number)) qs)) ≡ without number (map listed (filter p qs)) → (b c : Bool) → (q.number == number) ≡ b → p q ≡ c
-      → map listed (filter p (cond (not b) (q ∷ filter (λ x. not (x.number == number)) qs) (filter (λ x. not (x.number == number)) qs))) ≡ without number (map listed (cond c (q ∷ filter p qs) (filter p qs)))
+  go : map listed (filter p (filter (λ x. not (x.number == number)) qs)) ≡ without_request number (map listed (filter p qs)) → (b c : Bool) → (q.number == number) ≡ b → p q ≡ c
+      → map listed (filter p (cond (not b) (q ∷ filter (λ x. not (x.number == number)) qs) (filter (λ x. not (x.number == number)) qs))) ≡ without_request number (map listed (cond c (q ∷ filter p qs) (filter p qs)))
   go rest true true e f =
       rest
-      ∙ ap (λ b. cond (not b) (listed q ∷ without number (map listed (filter p qs))) (without number (map listed (filter p qs)))) (sym e)
+      ∙ ap (λ b. cond (not b) (listed q ∷ without_request number (map listed (filter p qs))) (without_request number (map listed (filter p qs)))) (sym e)
   go rest true false e f = rest
   go rest false true e f =
       ap (λ b. map listed (cond b (q ∷ filter p (filter (λ x. not (x.number == number)) qs)) (filter p (filter (λ x. not (x.number == number)) qs)))) f
       ∙ ap (λ xs. listed q ∷ xs) rest
-      ∙ ap (λ b. cond (not b) (listed q ∷ without number (map listed (filter p qs))) (without number (map listed (filter p qs)))) (sym e)
+      ∙ ap (λ b. cond (not b) (listed q ∷ without_request number (map listed (filter p qs))) (without_request number (map listed (filter p qs)))) (sym e)
   go rest false false e f =
       ap (λ b. map listed (cond b (q ∷ filter p (filter (λ x. not (x.number == number)) qs)) (filter p (filter (λ x. not (x.number == number)) qs)))) f
       ∙ rest

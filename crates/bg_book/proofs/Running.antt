@@ -6,7 +6,7 @@ use Rattle.bg_history.specs.declared.entry.Entry.{Entry}
 use Rattle.bg_book.specs.declared.calls.Call.{Call}
 use Rattle.bg_book.specs.declared.calls.Reply.{Reply}
 use Rattle.bg_book.specs.declared.seat.Seat.{Seat}
-use Rattle.bg_book.specs.Replies.{with_past}
+use Rattle.bg_book.specs.Changes.{with_past}
 use Rattle.bg_book.specs.Routing.{Routing}
 use Rattle.bg_book.specs.Runs.{AreKnown, AreApart, CallStep, Runs}
 use Rattle.bg_book.proofs.Requests.{eq_from}

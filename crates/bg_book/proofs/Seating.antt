@@ -8,8 +8,8 @@ use Rattle.bg_history.specs.declared.entry.Entry.TheVariants.{Tick, Deploy, Avai
 use Rattle.bg_history.specs.Requests.{Request, open_requests, held_by, entered, given, calls_in, calls_of}
 use Rattle.bg_book.specs.declared.seat.Seat.{Seat}
 use Rattle.bg_book.specs.Routing.{Routing}
-use Rattle.bg_book.specs.States.{seated, seat_of}
-use Rattle.bg_book.specs.Stands.{Running, Stands, has_number}
+use Rattle.bg_book.specs.PastState.{seated, seat_of}
+use Rattle.bg_book.specs.Invariant.{RunningState, Stands, has_number}
 use Rattle.bg_book.proofs.Requests.{found_passes, eq_from}
 
 -- the record of a seat is what the past says
@@ -17,16 +17,16 @@ pub record Seated (b : Routing) (seat : Seat) : Type 0 where
   pub within : seat.index < b.opening.seats
   pub is : seat_of b.closed seat.index b.past ≡ seat
 
-pub seated_of : (b : Routing) (k : Running) (seat : Seat) → Stands b k → slice_get b.seats seat.index ≡ Some seat → Seated b seat
+pub seated_of : (b : Routing) (k : RunningState) (seat : Seat) → Stands b k → slice_get b.seats seat.index ≡ Some seat → Seated b seat
 seated_of b k seat stand known =
     let within : seat.index < b.opening.seats = omega (arith, slice_get_within b.seats seat.index seat known, stand.seats.count) in
     record { within = within; is = same_Some _ _ (sym (stand.seats.each seat.index within) ∙ known) }
 
-held_number : (b : Routing) (k : Running) (i : ℕ) (x : Request) → Stands b k → held_by i b.past ≡ Some x → has_number (given b.closed b.past) x ≡ true
+held_number : (b : Routing) (k : RunningState) (i : ℕ) (x : Request) → Stands b k → held_by i b.past ≡ Some x → has_number (given b.closed b.past) x ≡ true
 held_number b k i x stand held = found_passes (λ q. q.seat == i) (has_number (given b.closed b.past)) (open_requests b.past) x held stand.requests.given
 
 -- a seat that is out holds no request
-pub out_holds_none : (b : Routing) (k : Running) (seat : Seat) → Stands b k → slice_get b.seats seat.index ≡ Some seat → seat.number ≡ 0 → held_by seat.index b.past ≡ None
+pub out_holds_none : (b : Routing) (k : RunningState) (seat : Seat) → Stands b k → slice_get b.seats seat.index ≡ Some seat → seat.number ≡ 0 → held_by seat.index b.past ≡ None
 out_holds_none b k seat stand known zero_number = go (held_by seat.index b.past) refl where
   go : (h : Option Request) → held_by seat.index b.past ≡ h → h ≡ None
   go None e = refl
@@ -45,7 +45,7 @@ pub record Holds (b : Routing) (seat : Seat) (x : Request) : Type 0 where
   pub first : x.revision ≡ 1
   pub is_given : has_number (given b.closed b.past) x ≡ true
 
-pub in_holds : (b : Routing) (k : Running) (seat : Seat) → Stands b k → slice_get b.seats seat.index ≡ Some seat → seat.number ≢ 0 → (x : Request) × Holds b seat x
+pub in_holds : (b : Routing) (k : RunningState) (seat : Seat) → Stands b k → slice_get b.seats seat.index ≡ Some seat → seat.number ≢ 0 → (x : Request) × Holds b seat x
 in_holds b k seat stand known some = go (held_by seat.index b.past) refl where
   go : (h : Option Request) → held_by seat.index b.past ≡ h → (x : Request) × Holds b seat x
   go None e =
@@ -87,7 +87,7 @@ part_of_sum [] i = omega arith
 part_of_sum (x ∷ xs) zero = omega (arith, sum_by-cons (λ (n : ℕ). n) x xs)
 part_of_sum (x ∷ xs) (suc i) = let rest : slice_index (x ∷ xs) (suc i) ≤ sum xs = part_of_sum xs i in omega (arith, rest, sum_by-cons (λ (n : ℕ). n) x xs)
 
-pub few_calls : (b : Routing) (k : Running) (seat : Seat) → Stands b k → slice_get b.seats seat.index ≡ Some seat → seat.calls < 2 ^ 60
+pub few_calls : (b : Routing) (k : RunningState) (seat : Seat) → Stands b k → slice_get b.seats seat.index ≡ Some seat → seat.calls < 2 ^ 60
 few_calls b k seat stand known =
     let calls : calls_of b.closed seat.index b.past ≡ seat.calls = calls_is (held_by seat.index b.past) (seated_of b k seat stand known).is in
     let few = calls_few seat.index b.past in

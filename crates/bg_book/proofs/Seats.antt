@@ -11,8 +11,8 @@ use Rattle.bg_history.specs.declared.entry.Entry.TheVariants.{Enter, Leave}
 use Rattle.bg_history.specs.Kept.{Opening}
 use Rattle.bg_history.specs.Requests.{Request, open_requests, held_by, calls_in, calls_of}
 use Rattle.bg_book.specs.declared.seat.Seat.{Seat}
-use Rattle.bg_book.specs.States.{seated, seat_of, SeatsStand}
-use Rattle.bg_book.specs.Stands.{Differ}
+use Rattle.bg_book.specs.PastState.{seated, seat_of, SeatsStand}
+use Rattle.bg_book.specs.Invariant.{Differ}
 use Rattle.bg_book.proofs.Requests.{by_seat, finds_none_at, finds_same_at, eq_refl, eq_sym, eq_from}
 
 pub get-set_same : {X : Type 0} (xs : List X) (i : ℕ) (v : X) → i < length xs → slice_get (slice_set xs i v) i ≡ Some v

@@ -6,7 +6,7 @@ use Rattle.bg_history.specs.Kept.{Opening}
 use Rattle.bg_history.specs.Deadlines.{deadline, deadline_of, is_empty}
 use Rattle.bg_history.specs.Requests.{open_at}
 use Rattle.bg_book.specs.Quiet.{Quiet}
-use Rattle.bg_book.specs.States.{is_draining}
+use Rattle.bg_book.specs.PastState.{is_draining}
 use Rattle.bg_book.proofs.Quiet.{not_due}
 
 pub no_deadline : (s : Strategy) (o : Opening) (past : List Entry) → Quiet s o past → (r : ℕ) → None ≡ deadline s r past

@@ -14,7 +14,7 @@ use Rattle.bg_history.specs.Steps.{IsLegal, is_settled}
 use Rattle.bg_book.specs.declared.open_list.OpenRequest.{OpenRequest}
 use Rattle.bg_book.specs.OpenLists.{OpenAt, lists_of}
 use Rattle.bg_book.specs.Routing.{Routing}
-use Rattle.bg_book.specs.States.{SeatsStand}
+use Rattle.bg_book.specs.PastState.{SeatsStand}
 
 -- the entry is a switch that is allowed
 abbrev pub switches_by_rule : Strategy → Entry → List Entry → Bool
@@ -26,7 +26,8 @@ abbrev pub goes_back : Entry → List Entry → Bool
 goes_back (Deploy r name ports) before = r == stable_of before
 goes_back e before = is_halt e
 
--- the active service keeps its revision at the entry, or is switched by the rule, or goes back to the stable revision
+-- the active service keeps its revision at the entry, or is switched by the rule, or goes back to
+-- the stable revision
 abbrev pub moves_by_rule : Strategy → Entry → List Entry → Bool
 moves_by_rule s e before =
     (active_of (e ∷ before) == active_of before) || switches_by_rule s e before

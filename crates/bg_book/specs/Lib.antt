@@ -1,9 +1,9 @@
 pub mod OpenLists
 pub mod Routing
-pub mod States
+pub mod PastState
 pub mod Refusals
-pub mod Replies
+pub mod Changes
 pub mod Headline
 pub mod Quiet
-pub mod Stands
+pub mod Invariant
 pub mod Runs

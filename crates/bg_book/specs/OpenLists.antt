@@ -11,8 +11,8 @@ pub record OpenAt : Type 0 where
   pub requests : List OpenRequest
 
 -- the requests but the one of that number
-abbrev pub without : ℕ → List OpenRequest → List OpenRequest
-without number requests = filter (λ q. not (q.number == number)) requests
+abbrev pub without_request : ℕ → List OpenRequest → List OpenRequest
+without_request number requests = filter (λ q. not (q.number == number)) requests
 
 -- the seat and the number of a request
 abbrev pub listed : Request → OpenRequest

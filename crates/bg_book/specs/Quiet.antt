@@ -9,7 +9,8 @@ use Rattle.bg_history.specs.Sizes.{existing, desired}
 use Rattle.bg_history.specs.Marks.{mark}
 use Rattle.bg_history.specs.Templates.{template}
 
--- revision 1 alone exists, is selected and has its full size; no attempt ran; no revision has a mark
+-- revision 1 alone exists, is selected and has its full size; no attempt ran; no revision has a
+-- mark
 pub record Quiet (s : Strategy) (o : Opening) (past : List Entry) : Type 0 where
   pub exists_is : existing past ≡ 1 ∷ []
   pub running_is : is_running past ≡ false

@@ -1,5 +1,5 @@
 -- Which call is refused, by which fault: the first that applies, want of memory aside.
-use Rattle.std.specs.Prelude.{◌≡◌, ℕ, ◌+◌, ◌*◌, ◌^◌, ◌==◌, ◌⊎◌, Bool, ◌&&◌, ◌||◌, not, cond, nat_lt, nat_le, List, length, Option, Some, None, Result, Ok, Err}
+use Rattle.std.specs.Prelude.{◌≡◌, ℕ, ◌+◌, ◌*◌, ◌^◌, ◌==◌, ◌⊎◌, Bool, ◌&&◌, ◌||◌, not, if◌then◌else◌, nat_lt, nat_le, List, length, Option, Some, None, Result, Ok, Err}
 use Rattle.std.specs.Option.{option_or}
 use Rattle.bg_strategy.specs.declared.strategy.Strategy.{Strategy}
 use Rattle.bg_strategy.specs.Label.{is_label}
@@ -26,7 +26,7 @@ use Rattle.bg_book.specs.Routing.{Routing}
 
 -- the fault where the test holds, else the next one
 abbrev pub fault_if : {F : Type 0} → Bool → F → Option F → Option F
-fault_if test fault next = cond test (Some fault) next
+fault_if test fault next = if test then Some fault else next
 
 -- the answer of a test: refused by the fault, where there is one
 abbrev pub refuse : {F : Type 0} → Option F → Result (Unit {0}) F
@@ -50,16 +50,16 @@ open_refusal s name ports seats limits =
     (fault_if (is_above_usual limits) open_fault.BadLimits None)))
 
 -- the number of open requests
-abbrev pub open_count : List Entry → ℕ
-open_count past = length (open_requests past)
+abbrev pub all_open : List Entry → ℕ
+all_open past = length (open_requests past)
 
 -- an entry more, and three places for each open request with the new one, are more than the limit
 abbrev pub is_full_for_enter : Limits → List Entry → Bool
-is_full_for_enter l past = nat_lt l.entries (length past + 1 + 3 * (open_count past + 1))
+is_full_for_enter l past = nat_lt l.entries (length past + 1 + 3 * (all_open past + 1))
 
 -- 141 entries more, and three places for each open request, are more than the limit
 abbrev pub is_full_for_control : Limits → List Entry → Bool
-is_full_for_control l past = nat_lt l.entries (length past + 141 + 3 * open_count past)
+is_full_for_control l past = nat_lt l.entries (length past + 141 + 3 * all_open past)
 
 abbrev pub enter_refusal_at : Routing → Option ℕ → Option enter.EnterFault
 enter_refusal_at b None = Some enter_fault.NoPreview
@@ -89,7 +89,8 @@ event_fault b (Available r n) =
 -- why an event is refused
 abbrev pub control_refusal : Routing → Control → Option control.ControlFault
 control_refusal b c =
-    option_or (event_fault b c) (fault_if (is_full_for_control b.limits b.past) control_fault.HistoryFull None)
+    option_or (event_fault b c)
+    (fault_if (is_full_for_control b.limits b.past) control_fault.HistoryFull None)
 
 -- refused by the refusal, or for want of memory where there is none
 abbrev pub IsRefusedBy : {F : Type 0} → Option F → F → F → Type 0
@@ -100,7 +101,8 @@ abbrev pub AnswersBy : {A F : Type 0} → Option F → F → Result A F → Type
 AnswersBy refusal out_of_memory (Ok a) = refusal ≡ None
 AnswersBy refusal out_of_memory (Err e) = IsRefusedBy refusal out_of_memory e
 
--- the ticket of a request that enters at a service: the next number, the selected revision, and its port in turn
+-- the ticket of a request that enters at a service: the next number, the selected revision, and its
+-- port in turn
 pub record IsTicket (b : Routing) (service : Service) (t : Ticket) : Type 0 where
   pub number_is : t.number ≡ given b.closed b.past + 1
   pub revision_is : selection b.strategy service b.past ≡ Some t.revision

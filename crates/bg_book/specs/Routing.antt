@@ -7,8 +7,8 @@ use Rattle.bg_book.specs.declared.limits.Limits.{Limits}
 use Rattle.bg_book.specs.declared.seat.Seat.{Seat}
 use Rattle.bg_book.specs.OpenLists.{OpenAt}
 
--- the settings, the history (opening, closed requests of each seat, entries newest first), the list of each existing
--- revision, and the book's record of each seat
+-- the settings, the history (opening, closed requests of each seat, entries newest first), the list
+-- of each existing revision, and the book's record of each seat
 pub record Routing : Type 0 where
   pub strategy : Strategy
   pub limits : Limits

@@ -1,7 +1,7 @@
 -- What a list of calls is answered, and what it makes of a book.
 use Rattle.std.specs.Prelude.{◌≡◌, ◌≢◌, ◌≤◌, ℕ, List, [], ◌∷◌, slice_get, slice_set, Option, Some, None, ◌⊎◌}
 use Rattle.bg_revisions.specs.declared.revision.Service.{Service}
-use Rattle.bg_history.specs.declared.entry.Entry.TheVariants.{Leave as left_by}
+use Rattle.bg_history.specs.declared.entry.Entry.TheVariants as entry
 use Rattle.bg_book.specs.declared.calls.Call.{Call}
 use Rattle.bg_book.specs.declared.calls.Call.TheVariants as call
 use Rattle.bg_book.specs.declared.calls.Control.{Control}
@@ -11,16 +11,19 @@ use Rattle.bg_book.specs.declared.fault.EnterFault.TheVariants as enter_fault
 use Rattle.bg_book.specs.declared.fault.ControlFault.TheVariants as control_fault
 use Rattle.bg_book.specs.declared.seat.Seat.{Seat}
 use Rattle.bg_book.specs.Refusals.{enter_refusal, control_refusal, event_of, IsRefusedBy, IsTicket}
-use Rattle.bg_book.specs.Replies.{Stepped, with_past, enter_entry, seat_in, seat_out}
+use Rattle.bg_book.specs.Changes.{Stepped, with_past, enter_entry, seat_in, seat_out}
 use Rattle.bg_book.specs.Routing.{Routing}
 
 -- each seat of the slice is the book's record of its index
 abbrev pub AreKnown : Routing → List Seat → Type 0
-AreKnown b seats = (i : ℕ) (seat : Seat) → slice_get seats i ≡ Some seat → slice_get b.seats seat.index ≡ Some seat
+AreKnown b seats =
+    (i : ℕ) (seat : Seat) → slice_get seats i ≡ Some seat → slice_get b.seats seat.index ≡ Some seat
 
 -- no two seats of the slice have one index
 abbrev pub AreApart : List Seat → Type 0
-AreApart seats = (i j : ℕ) (p q : Seat) → slice_get seats i ≡ Some p → slice_get seats j ≡ Some q → p.index ≡ q.index → i ≡ j
+AreApart seats =
+    (i j : ℕ) (p q : Seat) → slice_get seats i ≡ Some p → slice_get seats j ≡ Some q
+    → p.index ≡ q.index → i ≡ j
 
 -- nothing changed
 abbrev pub Unchanged : Routing → List Seat → Routing → List Seat → Type 0
@@ -29,28 +32,35 @@ Unchanged b seats new new_seats = (new ≡ b) × (new_seats ≡ seats)
 -- a seat of the slice, and the book's record of it, are the new one
 abbrev pub SeatChanged : Routing → List Seat → ℕ → Seat → Seat → Routing → List Seat → Type 0
 SeatChanged b seats place old seat new new_seats =
-    (new ≡ with_past b new.past (slice_set b.seats old.index seat)) × (new_seats ≡ slice_set seats place seat)
+    (new ≡ with_past b new.past (slice_set b.seats old.index seat))
+    × (new_seats ≡ slice_set seats place seat)
 
 -- what a request is answered that wants to enter at a seat that is out
-abbrev pub EnterStep : Routing → List Seat → ℕ → Seat → Service → Reply → Routing → List Seat → Type 0
+abbrev pub EnterStep : Routing → List Seat → ℕ → Seat → Service → Reply → Routing → List Seat
+    → Type 0
 EnterStep b seats place seat service (Entered t) new new_seats =
-    (enter_refusal b service ≡ None) × IsTicket b service t × SeatChanged b seats place seat (seat_in seat t) new new_seats
+    (enter_refusal b service ≡ None) × IsTicket b service t
+    × SeatChanged b seats place seat (seat_in seat t) new new_seats
     × Stepped b.strategy (enter_entry seat.index service t) b.past new.past 0
 EnterStep b seats place seat service (EnterRefused e) new new_seats =
-    IsRefusedBy (enter_refusal b service) enter_fault.OutOfMemory e × Unchanged b seats new new_seats
+    IsRefusedBy (enter_refusal b service) enter_fault.OutOfMemory e
+    × Unchanged b seats new new_seats
 EnterStep b seats place seat service _ new new_seats = ⊥
 
 -- what the leaving of the request of a seat that is in is answered
 abbrev pub LeaveStep : Routing → List Seat → ℕ → Seat → Reply → Routing → List Seat → Type 0
 LeaveStep b seats place seat (Left l) new new_seats =
-    (l ≡ record { number = seat.number; revision = seat.revision }) × SeatChanged b seats place seat (seat_out seat) new new_seats
-    × ((n : ℕ) × Stepped b.strategy (left_by seat.index seat.number seat.revision) b.past new.past n × (n ≤ 2))
+    (l ≡ record { number = seat.number; revision = seat.revision })
+    × SeatChanged b seats place seat (seat_out seat) new new_seats
+    × ((n : ℕ) × Stepped b.strategy (entry.Leave seat.index seat.number seat.revision)
+    b.past new.past n × (n ≤ 2))
 LeaveStep b seats place seat _ new new_seats = ⊥
 
 -- what an event is answered
 abbrev pub ControlStep : Routing → List Seat → Control → Reply → Routing → List Seat → Type 0
 ControlStep b seats c (Done n) new new_seats =
-    (control_refusal b c ≡ None) × (n ≤ 140) × (new ≡ with_past b new.past b.seats) × (new_seats ≡ seats)
+    (control_refusal b c ≡ None) × (n ≤ 140) × (new ≡ with_past b new.past b.seats)
+    × (new_seats ≡ seats)
     × Stepped b.strategy (event_of c) b.past new.past n
 ControlStep b seats c (ControlRefused e) new new_seats =
     IsRefusedBy (control_refusal b c) control_fault.OutOfMemory e × Unchanged b seats new new_seats
@@ -61,8 +71,10 @@ abbrev pub SeatRefused : Reply → Reply → Routing → List Seat → Routing �
 SeatRefused why reply b seats new new_seats = (reply ≡ why) × Unchanged b seats new new_seats
 
 -- Entering: there has to be a seat at that place, and it has to be out.
-abbrev pub EnterAt : Routing → List Seat → ℕ → Option Seat → Service → Reply → Routing → List Seat → Type 0
-EnterAt b seats place None service reply new new_seats = SeatRefused NoSuchSeat reply b seats new new_seats
+abbrev pub EnterAt : Routing → List Seat → ℕ → Option Seat → Service → Reply → Routing → List Seat
+    → Type 0
+EnterAt b seats place None service reply new new_seats =
+    SeatRefused NoSuchSeat reply b seats new new_seats
 EnterAt b seats place (Some seat) service reply new new_seats =
     ((seat.number ≢ 0) × SeatRefused SeatBusy reply b seats new new_seats)
     ⊎ ((seat.number ≡ 0) × EnterStep b seats place seat service reply new new_seats)
@@ -76,14 +88,18 @@ LeaveAt b seats place (Some seat) reply new new_seats =
 
 -- what one call is answered, and what it makes of the book and the seats
 abbrev pub CallStep : Routing → List Seat → Call → Reply → Routing → List Seat → Type 0
-CallStep b seats (call.Enter place service) reply new new_seats = EnterAt b seats place (slice_get seats place) service reply new new_seats
-CallStep b seats (call.Leave place) reply new new_seats = LeaveAt b seats place (slice_get seats place) reply new new_seats
+CallStep b seats (call.Enter place service) reply new new_seats =
+    EnterAt b seats place (slice_get seats place) service reply new new_seats
+CallStep b seats (call.Leave place) reply new new_seats =
+    LeaveAt b seats place (slice_get seats place) reply new new_seats
 CallStep b seats (call.Control c) reply new new_seats = ControlStep b seats c reply new new_seats
 
--- The calls are answered one after the other, each at the book and the seats that the ones before have left.
+-- The calls are answered one after the other, each at the book and the seats that the ones before
+-- have left.
 abbrev pub Runs : Routing → List Seat → List Call → List Reply → Routing → List Seat → Type 0
 Runs b seats [] [] new new_seats = Unchanged b seats new new_seats
 Runs b seats [] (reply ∷ replies) new new_seats = ⊥
 Runs b seats (c ∷ calls) [] new new_seats = ⊥
 Runs b seats (c ∷ calls) (reply ∷ replies) new new_seats =
-    (next : Routing) × ((next_seats : List Seat) × (CallStep b seats c reply next next_seats × Runs next next_seats calls replies new new_seats))
+    (next : Routing) × ((next_seats : List Seat)
+    × (CallStep b seats c reply next next_seats × Runs next next_seats calls replies new new_seats))

@@ -37,7 +37,7 @@ impl Model for Book {
 
     ghost Value = { Routing };
 
-    ghost use Rattle.bg_book.specs.Stands.{routing_of, running_of, Stands};
+    ghost use Rattle.bg_book.specs.Invariant.{routing_of, running_of, Stands};
 
     ghost view = { routing_of };
 

@@ -1,14 +1,15 @@
 //! How an event is recorded that no seat makes.
 ghost use Rattle.std.specs.Prelude.{◌≡◌, ◌≤◌, ◌+◌, ℕ, IfOk, OnErr};
 ghost use Rattle.bg_book.specs.Refusals.{control_refusal, event_of, refuse, AnswersBy};
-ghost use Rattle.bg_book.specs.Replies.{Stepped, with_past};
+ghost use Rattle.bg_book.specs.Changes.{Stepped, with_past};
 ghost use Rattle.bg_book.specs.declared.fault.ControlFault.TheVariants.{OutOfMemory};
 
 use crate::book::Book;
 use crate::calls::Control;
-use crate::enter::PLACES_OF_A_REQUEST;
 use crate::fault::ControlFault;
+use crate::limits::PLACES_OF_A_REQUEST;
 use bg_history::Entry;
+use bg_promotion::laws::neutral;
 
 /// The greatest moment, in seconds from the start.
 const LAST_MOMENT: u64 = 1 << 53;
@@ -25,11 +26,14 @@ impl Book {
     /// open request, and `OutOfMemory`.
     pub fn control(&mut self, control: &Control) -> Result<u64, ControlFault>
         ensures refusal { AnswersBy (control_refusal self.old control.now) OutOfMemory result }
-        ensures step { IfOk result (λ n. Stepped self.old.strategy (event_of control.now) self.old.past self.new.past n) }
+        ensures step { IfOk result
+            (Stepped self.old.strategy (event_of control.now) self.old.past self.new.past) }
         ensures few { IfOk result (λ n. n ≤ 140) }
-        ensures book { IfOk result (λ n. self.new ≡ with_past self.old self.new.past self.old.seats) }
+        ensures book { IfOk result
+            (λ n. self.new ≡ with_past self.old self.new.past self.old.seats) }
         ensures unchanged { OnErr result (self.new ≡ self.old) }
     {
+        neutral(&self.core);
         self.check(control)?;
         let reserved = MOST_ENTRIES + PLACES_OF_A_REQUEST * self.open;
         self.history.reserve(reserved as u32)?;

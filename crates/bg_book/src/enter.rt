@@ -1,20 +1,19 @@
 //! How a request enters.
 ghost use Rattle.std.specs.Prelude.{◌≡◌, ◌∷◌, IfOk, OnErr, Some, slice_get, slice_set, MatchResult, None};
 ghost use Rattle.bg_book.specs.Refusals.{enter_refusal, AnswersBy, IsTicket};
-ghost use Rattle.bg_book.specs.Replies.{Stepped, with_past, enter_entry, seat_in};
+ghost use Rattle.bg_book.specs.Changes.{Stepped, with_past, enter_entry, seat_in};
 ghost use Rattle.bg_history.specs.Allowed.{selection};
 ghost use Rattle.bg_book.specs.declared.fault.EnterFault.TheVariants.{OutOfMemory, NoPreview};
 
 use crate::book::Book;
 use crate::calls::Ticket;
 use crate::fault::EnterFault;
+use crate::limits::PLACES_OF_A_REQUEST;
 use crate::open_list::{OpenRequest, place_of};
 use crate::seat::Seat;
 use bg_history::Entry;
+use bg_promotion::laws::neutral;
 use bg_revisions::Service;
-
-/// The places that are kept for each open request: one for its leaving, and two for the outcomes after it.
-pub(crate) const PLACES_OF_A_REQUEST: u64 = 3;
 
 impl Book {
     /// Lets a request enter at a service: it gets the next number, from 1, the revision that the service selects,
@@ -30,11 +29,14 @@ impl Book {
         ensures refusal { AnswersBy (enter_refusal self.old service) OutOfMemory result }
         ensures ticket { IfOk result (IsTicket self.old service) }
         ensures seat { IfOk result (λ t. seat.new ≡ seat_in seat.old t) }
-        ensures step { IfOk result (λ t. Stepped self.old.strategy (enter_entry seat.old.index service t) self.old.past self.new.past 0) }
-        ensures book { IfOk result (λ t. self.new ≡ with_past self.old self.new.past (slice_set self.old.seats seat.old.index seat.new)) }
+        ensures step { IfOk result (λ t. Stepped self.old.strategy
+            (enter_entry seat.old.index service t) self.old.past self.new.past 0) }
+        ensures book { IfOk result (λ t. self.new ≡ with_past self.old
+            self.new.past (slice_set self.old.seats seat.old.index seat.new)) }
         ensures unchanged { OnErr result (self.new ≡ self.old) }
         ensures seat_unchanged { OnErr result (seat.new ≡ seat.old) }
     {
+        neutral(&self.core);
         let index = seat.index();
         let ticket = self.offer(service)?;
         let reserved = 1 + PLACES_OF_A_REQUEST * (self.open + 1);
@@ -60,7 +62,9 @@ impl Book {
 
     /// The revision that a service selects; `NoPreview` where the service is the preview service and none is set.
     fn selected(&self, service: Service) -> Result<u64, EnterFault>
-        ensures { MatchResult result (λ r. selection self.now.strategy service self.now.past ≡ Some r) (λ e. (selection self.now.strategy service self.now.past ≡ None) × (e ≡ NoPreview)) }
+        ensures { let selected = selection self.now.strategy service self.now.past in
+            MatchResult result (λ r. selected ≡ Some r)
+            (λ e. (selected ≡ None) × (e ≡ NoPreview)) }
     {
         let selectors = self.core.selectors();
         match service {
@@ -76,7 +80,9 @@ impl Book {
 
     /// The ticket of a request at a service, or the first fault but want of memory.
     fn offer(&self, service: Service) -> Result<Ticket, EnterFault>
-        ensures { MatchResult result (λ t. (enter_refusal self.now service ≡ None) × IsTicket self.now service t) (λ e. enter_refusal self.now service ≡ Some e) }
+        ensures { MatchResult result
+            (λ t. (enter_refusal self.now service ≡ None) × IsTicket self.now service t)
+            (λ e. enter_refusal self.now service ≡ Some e) }
     {
         let selected = self.selected(service)?;
         let revision = self.roster.find_number(selected).unwrap();

@@ -6,13 +6,13 @@ use thiserror::Error;
 /// Why no book is opened, in the order in which the faults are looked for.
 #[derive(Clone, Copy, PartialEq, Eq, Debug, Drop, Error)]
 pub enum OpenFault {
-    #[error("the name is no DNS label")]
+    #[error("a name is 1 to 63 lower-case letters, digits and hyphens, with no hyphen at its ends")]
     BadName,
-    #[error("the ports are not distinct numbers from 1, one for each replica")]
+    #[error("a revision has one port for each replica, all distinct and none of them 0")]
     BadPorts,
-    #[error("there are 1 to 8 seats")]
+    #[error("a book has 1 to 8 seats")]
     BadSeats,
-    #[error("the limits are above the usual ones")]
+    #[error("a limit is above the usual one")]
     BadLimits,
     #[error("out of memory")]
     OutOfMemory,
@@ -23,11 +23,11 @@ pub enum OpenFault {
 pub enum EnterFault {
     #[error("no preview service is set")]
     NoPreview,
-    #[error("the selected revision has no endpoint")]
+    #[error("the selected revision has no available endpoint")]
     NoEndpoints,
-    #[error("all request numbers are given")]
+    #[error("every request number has been given")]
     NumbersSpent,
-    #[error("the history has no room")]
+    #[error("the history has no room left")]
     HistoryFull,
     #[error("out of memory")]
     OutOfMemory,
@@ -38,13 +38,13 @@ pub enum EnterFault {
 pub enum ControlFault {
     #[error("a moment is at most 2^53 seconds")]
     MomentTooLarge,
-    #[error("the moment is over")]
+    #[error("the moment lies before the book's")]
     MomentBack,
     #[error("no revision has this number")]
     NoSuchRevision,
-    #[error("the revision wants fewer endpoints")]
+    #[error("more endpoints are reported than the revision wants")]
     MoreThanDesired,
-    #[error("the history has no room")]
+    #[error("the history has no room left")]
     HistoryFull,
     #[error("out of memory")]
     OutOfMemory,

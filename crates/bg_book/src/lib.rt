@@ -25,5 +25,5 @@ mod tests;
 pub use book::Book;
 pub use calls::{Call, Control, Left, Reply, Ticket};
 pub use fault::{ControlFault, EnterFault, OpenFault, RunFault};
-pub use limits::Limits;
+pub use limits::{Limits, MOST_SEATS};
 pub use seat::Seat;

@@ -1,6 +1,6 @@
 //! The list of a revision's open requests.
 ghost use Rattle.std.specs.Prelude.{◌≡◌, ◌==◌, ◌++◌, ◌∷◌, [], length, OnOk, OnErr, find, position, option_copied};
-ghost use Rattle.bg_book.specs.OpenLists.{without};
+ghost use Rattle.bg_book.specs.OpenLists.{without_request};
 
 use std::alloc::{AllocError, Global};
 use std::marker::Model;
@@ -54,7 +54,9 @@ impl OpenList {
 
     /// Puts a request at the end; refused only where memory is, and then nothing changes.
     pub(crate) fn append(&mut self, request: OpenRequest) -> Result<(), AllocError>
-        ensures ok { OnOk result (self.new ≡ record self.old { requests = self.old.requests ++ request ∷ [] }) }
+        ensures ok { OnOk result (self.new ≡ record self.old {
+          requests = self.old.requests ++ request ∷ [];
+        }) }
         ensures err { OnErr result (self.new ≡ self.old) }
     {
         self.requests.push(request)?;
@@ -63,7 +65,7 @@ impl OpenList {
 
     /// Takes the request of this number out of the list.
     pub(crate) fn remove(&mut self, number: u64)
-        ensures { self.new ≡ record self.old { requests = without number self.old.requests } }
+        ensures { self.new ≡ record self.old { requests = without_request number self.old.requests } }
     {
         self.requests.retain(|request| request.number != number);
     }

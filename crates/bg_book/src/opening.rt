@@ -1,15 +1,14 @@
 //! How a book is opened.
-ghost use Rattle.std.specs.Prelude.{◌≡◌, ◌<◌, ℕ, [], ◌∷◌, length, IfOk, IfErr, slice_get, None};
+ghost use Rattle.std.specs.Prelude.{◌≡◌, ◌<◌, ℕ, true, [], ◌∷◌, length, IfOk, IfErr, slice_get, None};
 ghost use Rattle.bg_revisions.specs.Rosters.{has_form};
 ghost use Rattle.bg_book.specs.Refusals.{open_refusal, AnswersBy};
-ghost use Rattle.bg_book.specs.Replies.{opened, NewSeats};
+ghost use Rattle.bg_book.specs.Changes.{opened, NewSeats};
 ghost use Rattle.bg_book.specs.Runs.{AreKnown, AreApart};
 ghost use Rattle.bg_book.specs.declared.fault.OpenFault.TheVariants.{OutOfMemory};
-ghost use Rattle.std.specs.Prelude.{true};
 
 use crate::book::Book;
 use crate::fault::OpenFault;
-use crate::limits::Limits;
+use crate::limits::{Limits, MOST_SEATS};
 use crate::open_list::OpenList;
 use crate::seat::Seat;
 use bg_history::History;
@@ -17,9 +16,6 @@ use bg_promotion::Core;
 use bg_revisions::{Roster, has_ports_form};
 use bg_strategy::{Strategy, is_dns_label};
 use std::alloc::{AllocError, Global};
-
-/// The most seats of a book.
-const MOST_SEATS: u32 = 8;
 
 impl Book {
     /// Opens a book whose revision 1 has this name and these ports, wants its full size and has no endpoint
@@ -36,8 +32,10 @@ impl Book {
         seats: u32,
         limits: Limits,
     ) -> Result<(Book, Vec<Seat>), OpenFault>
-        ensures refusal { AnswersBy (open_refusal strategy name.now ports.now seats limits) OutOfMemory result }
-        ensures book { IfOk result (λ r. r.0 ≡ opened strategy name.now ports.now seats limits r.1.items) }
+        ensures refusal { AnswersBy
+            (open_refusal strategy name.now ports.now seats limits) OutOfMemory result }
+        ensures book { IfOk result
+            (λ r. r.0 ≡ opened strategy name.now ports.now seats limits r.1.items) }
         ensures seats { IfOk result (λ r. NewSeats seats r.1.items) }
         ensures known { IfOk result (λ r. AreKnown r.0 r.1.items) }
         ensures apart { IfOk result (λ r. AreApart r.1.items) }
@@ -58,7 +56,8 @@ impl Book {
         limits: Limits,
     ) -> Result<(Book, Vec<Seat>), OpenFault>
         requires { open_refusal strategy name.now ports.now seats limits ≡ None }
-        ensures book { IfOk result (λ r. r.0 ≡ opened strategy name.now ports.now seats limits r.1.items) }
+        ensures book { IfOk result
+            (λ r. r.0 ≡ opened strategy name.now ports.now seats limits r.1.items) }
         ensures seats { IfOk result (λ r. NewSeats seats r.1.items) }
         ensures known { IfOk result (λ r. AreKnown r.0 r.1.items) }
         ensures apart { IfOk result (λ r. AreApart r.1.items) }
@@ -121,7 +120,17 @@ fn first_roster(
     ports: &[u16],
 ) -> Result<Roster, OpenFault>
     requires { has_form replicas name.now ports.now ≡ true }
-    ensures ok { IfOk result (λ r. r ≡ record { replicas = replicas; revisions = record { number = 1; name = name.now; ports = ports.now; desired = replicas; available = 0 } ∷ []; last = 1 }) }
+    ensures ok { IfOk result (λ r. r ≡ record {
+      replicas = replicas;
+      revisions = record {
+        number = 1;
+        name = name.now;
+        ports = ports.now;
+        desired = replicas;
+        available = 0;
+      } ∷ [];
+      last = 1;
+    }) }
     ensures err { IfErr result (λ e. e ≡ OutOfMemory) }
 {
     let mut roster = Roster::new(alloc, replicas)?;

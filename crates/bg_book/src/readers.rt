@@ -6,7 +6,7 @@ ghost use Rattle.bg_history.specs.Requests.{open_at};
 ghost use Rattle.bg_history.specs.Deadlines.{deadline};
 ghost use Rattle.bg_promotion.specs.Phases.{phase_of};
 ghost use Rattle.bg_promotion.specs.Answers.{selectors_of};
-ghost use Rattle.bg_book.specs.States.{revisions_of, is_draining as is_draining_in};
+ghost use Rattle.bg_book.specs.PastState.{revisions_of, is_draining as is_draining_in};
 
 use crate::book::Book;
 use crate::open_list::find_list;
@@ -53,7 +53,8 @@ impl Book {
 
     /// The revision at a place, from 0, in order of number; none past the last.
     pub fn revision(&self, place: usize) -> Option<&Revision>
-        ensures { option_copied result ≡ slice_get (revisions_of self.now.strategy self.now.opening self.now.past) place }
+        ensures { option_copied result ≡ slice_get
+            (revisions_of self.now.strategy self.now.opening self.now.past) place }
     {
         self.roster.at(place)
     }

@@ -17,7 +17,8 @@ impl Book {
     pub fn run(&mut self, seats: &mut [Seat], calls: &[Call]) -> Result<Vec<Reply>, RunFault>
         requires known { AreKnown self.old seats.old }
         requires apart { AreApart seats.old }
-        ensures replies { IfOk result (λ replies. Runs self.old seats.old calls.now replies.items self.new seats.new) }
+        ensures replies { IfOk result
+            (λ replies. Runs self.old seats.old calls.now replies.items self.new seats.new) }
         ensures known { AreKnown self.new seats.new }
         ensures apart { AreApart seats.new }
         ensures unchanged { OnErr result (Unchanged self.old seats.old self.new seats.new) }
@@ -53,7 +54,8 @@ impl Book {
     fn enter_at(&mut self, seats: &mut [Seat], place: usize, service: Service) -> Reply
         requires known { AreKnown self.old seats.old }
         requires apart { AreApart seats.old }
-        ensures reply { EnterAt self.old seats.old place (slice_get seats.old place) service result self.new seats.new }
+        ensures reply { EnterAt self.old seats.old place
+            (slice_get seats.old place) service result self.new seats.new }
         ensures known { AreKnown self.new seats.new }
         ensures apart { AreApart seats.new }
     {
@@ -74,7 +76,8 @@ impl Book {
     fn leave_at(&mut self, seats: &mut [Seat], place: usize) -> Reply
         requires known { AreKnown self.old seats.old }
         requires apart { AreApart seats.old }
-        ensures reply { LeaveAt self.old seats.old place (slice_get seats.old place) result self.new seats.new }
+        ensures reply { LeaveAt self.old seats.old place
+            (slice_get seats.old place) result self.new seats.new }
         ensures known { AreKnown self.new seats.new }
         ensures apart { AreApart seats.new }
     {

@@ -1,6 +1,6 @@
 //! The seats at which requests are handled.
 ghost use Rattle.std.specs.Prelude.{◌≡◌, ◌<◌, ◌^◌, not, ◌==◌};
-ghost use Rattle.bg_book.specs.Replies.{seat_in, seat_out};
+ghost use Rattle.bg_book.specs.Changes.{seat_in, seat_out};
 
 use crate::calls::Ticket;
 

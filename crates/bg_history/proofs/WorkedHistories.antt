@@ -4,7 +4,7 @@ use Rattle.bg_history.specs.declared.entry.Entry.{Entry}
 use Rattle.bg_history.specs.declared.entry.Entry.TheVariants.{Tick, Deploy, Available, Verdict, Abort, Enter, Leave, Outcome}
 use Rattle.bg_history.specs.declared.entry.Outcome.TheVariants.{Ready, Resumed, Switched, Promoted, ScaledDown, Removed}
 use Rattle.bg_history.specs.declared.entry.Analysis.TheVariants.{Pre, Post}
-use Rattle.bg_history.specs.declared.entry.Finding.TheVariants.{Successful, Failed}
+use Rattle.bg_history.specs.declared.entry.AnalysisResult.TheVariants.{Successful, Failed}
 use Rattle.bg_revisions.specs.declared.revision.Service.TheVariants as service
 use Rattle.bg_strategy.specs.declared.strategy.Strategy.{Strategy}
 use Rattle.bg_history.specs.Kept.{Opening}

@@ -1,5 +1,5 @@
 -- Which entry the ones before it allow.
-use Rattle.std.specs.Prelude.{ℕ, Bool, false, not, cond, ◌==◌, ◌+◌, ◌%◌, ◌^◌, ◌&&◌, nat_lt, nat_le, List, length, Option, Some, None, slice_index, is_none, is_some}
+use Rattle.std.specs.Prelude.{ℕ, Bool, false, not, if◌then◌else◌, ◌==◌, ◌+◌, ◌%◌, ◌^◌, ◌&&◌, nat_lt, nat_le, List, length, Option, Some, None, slice_index, is_none, is_some}
 use Rattle.std.specs.List.{list_all}
 use Rattle.bg_history.specs.declared.entry.Entry.{Entry}
 use Rattle.bg_history.specs.declared.entry.Entry.TheVariants.{Tick, Deploy, Available, Verdict, Promote, PromoteFull, Abort, Retry, Enter, Leave, Outcome}
@@ -22,17 +22,20 @@ use Rattle.bg_history.specs.Templates.{template, is_named, has_ports, owner}
 use Rattle.bg_strategy.specs.Label.{is_label}
 use Rattle.bg_revisions.specs.PortLists.{are_ports}
 
--- an existing revision of the name is r, with these ports; else r is the next number and there is room
+-- an existing revision of the name is r, with these ports; else r is the next number and there is
+-- room
 abbrev pub fits_owner : Opening → Option ℕ → ℕ → List ℕ → List Entry → Bool
 fits_owner o (Some q) r ports before = (q == r) && has_ports ports (template o q before)
-fits_owner o None r ports before = (r == last_number before + 1) && nat_lt (length (existing before)) 64
+fits_owner o None r ports before =
+    (r == last_number before + 1) && nat_lt (length (existing before)) 64
 
 abbrev pub is_template : List ℕ → List ℕ → Option Template → Bool
 is_template name ports t = is_named name t && has_ports ports t
 
 abbrev pub may_deploy : Strategy → Opening → ℕ → List ℕ → List ℕ → List Entry → Bool
 may_deploy s o r name ports before =
-    is_label name && are_ports s.replicas ports && not (is_template name ports (template o (newest_of before) before))
+    is_label name && are_ports s.replicas ports
+    && not (is_template name ports (template o (newest_of before) before))
     && fits_owner o (owner o name before) r ports before
 
 -- the analysis that the verdict is of is awaited
@@ -42,7 +45,9 @@ awaits Post s past = awaits_post s past
 
 abbrev pub selection : Strategy → Service → List Entry → Option ℕ
 selection s service.Active past = Some (active_of past)
-selection s service.Preview past = cond (is_some s.preview_service) (Some (preview_of past)) None
+selection s service.Preview past =
+    if is_some s.preview_service then Some (preview_of past)
+    else None
 
 abbrev pub is_number : ℕ → Option ℕ → Bool
 is_number n None = false
@@ -59,7 +64,8 @@ port_of o r number past = port_in (template o r past) number (available r past)
 abbrev pub may_enter : Strategy → Opening → ℕ → Service → ℕ → ℕ → ℕ → List Entry → Bool
 may_enter s o seat service number r port before =
     nat_lt seat o.seats && is_none (held_by seat before) && is_number r (selection s service before)
-    && nat_le 1 (available r before) && list_all (λ n. nat_lt n number) (request_numbers before) && is_number port (port_of o r number before)
+    && nat_le 1 (available r before) && list_all (λ n. nat_lt n number) (request_numbers before)
+    && is_number port (port_of o r number before)
 
 abbrev pub holds : ℕ → ℕ → Option Request → Bool
 holds number r None = false
@@ -75,7 +81,8 @@ is_allowed s o Promote before = is_paused s before
 is_allowed s o PromoteFull before = is_running before && not (has_promote_full before)
 is_allowed s o Abort before = is_running before
 is_allowed s o Retry before = is_halted before
-is_allowed s o (Enter seat service number r port) before = may_enter s o seat service number r port before
+is_allowed s o (Enter seat service number r port) before =
+    may_enter s o seat service number r port before
 is_allowed s o (Leave seat number r) before = holds number r (held_by seat before)
 is_allowed s o (Outcome (Ready r)) before = may_be_ready s r before
 is_allowed s o (Outcome (Resumed r)) before = may_resume s r before

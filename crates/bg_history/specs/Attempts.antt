@@ -1,9 +1,9 @@
 -- What stands in the running attempt.
-use Rattle.std.specs.Prelude.{ℕ, Bool, true, false, not, cond, ◌&&◌, ◌||◌, List, [], ◌∷◌, Option, Some, None, is_some}
+use Rattle.std.specs.Prelude.{ℕ, Bool, true, false, not, if◌then◌else◌, ◌&&◌, ◌||◌, List, [], ◌∷◌, Option, Some, None, is_some}
 use Rattle.bg_history.specs.declared.entry.Entry.{Entry}
 use Rattle.bg_history.specs.declared.entry.Entry.TheVariants.{Verdict, Promote, PromoteFull, Outcome}
 use Rattle.bg_history.specs.declared.entry.Outcome.TheVariants.{Ready, Resumed, Switched}
-use Rattle.bg_history.specs.declared.entry.Finding.TheVariants.{Successful}
+use Rattle.bg_history.specs.declared.entry.AnalysisResult.TheVariants.{Successful}
 use Rattle.bg_history.specs.declared.entry.Analysis.TheVariants.{Pre, Post}
 use Rattle.bg_strategy.specs.declared.strategy.Strategy.{Strategy}
 use Rattle.bg_history.specs.Turns.{moment, is_turn, is_running}
@@ -11,7 +11,8 @@ use Rattle.bg_history.specs.Turns.{moment, is_turn, is_running}
 -- an entry that passes the test stands in the running attempt
 abbrev pub in_attempt : (Entry → Bool) → List Entry → Bool
 in_attempt test [] = false
-in_attempt test (e ∷ before) = not (is_turn e) && ((test e && is_running before) || in_attempt test before)
+in_attempt test (e ∷ before) =
+    not (is_turn e) && ((test e && is_running before) || in_attempt test before)
 
 abbrev pub is_ready : Entry → Bool
 is_ready (Outcome (Ready r)) = true
@@ -55,7 +56,8 @@ has_promote_full past = in_attempt is_promote_full past
 abbrev pub has_post_success : List Entry → Bool
 has_post_success past = in_attempt is_post_success past
 
--- an entry that passes the attempt: Ready where no analysis is set before promotion, else that analysis' success after Ready
+-- an entry that passes the attempt: Ready where no analysis is set before promotion, else that
+-- analysis' success after Ready
 abbrev pub passes : Strategy → Entry → List Entry → Bool
 passes s (Outcome (Ready r)) before = not s.pre && is_running before
 passes s (Verdict Pre Successful) before = s.pre && has_ready before
@@ -70,7 +72,9 @@ first_at true at (Some kept) = Some kept
 -- the moment of the first entry that passed the running attempt, if one did
 abbrev pub pass_moment : Strategy → List Entry → Option ℕ
 pass_moment s [] = None
-pass_moment s (e ∷ before) = cond (is_turn e) None (first_at (passes s e before) (moment before) (pass_moment s before))
+pass_moment s (e ∷ before) =
+    if is_turn e then None
+    else first_at (passes s e before) (moment before) (pass_moment s before)
 
 abbrev pub is_passed : Strategy → List Entry → Bool
 is_passed s past = is_some (pass_moment s past)

@@ -7,9 +7,9 @@ use Rattle.bg_history.specs.Turns.{moment, newest_of}
 use Rattle.bg_history.specs.Selections.{is_selected}
 use Rattle.bg_history.specs.Sizes.{existing, is_scaled}
 use Rattle.bg_history.specs.Requests.{open_at}
-use Rattle.bg_history.specs.Marks.{Kind, Left, Superseded, Cleared, Mark, mark}
+use Rattle.bg_history.specs.Marks.{MarkKind, Left, Superseded, Cleared, Mark, mark}
 
-abbrev pub time_of : Strategy → Kind → ℕ → Option ℕ
+abbrev pub time_of : Strategy → MarkKind → ℕ → Option ℕ
 time_of s Left at = Some (at + s.delay)
 time_of s Superseded at = Some at
 time_of s Cleared at = None
@@ -29,7 +29,7 @@ exists_in r past = list_any (λ q. q == r) (existing past)
 abbrev pub is_spare : Strategy → ℕ → List Entry → Bool
 is_spare s r past = is_scaled s r past && not (is_selected r past)
 
-abbrev pub is_left : Kind → Bool
+abbrev pub is_left : MarkKind → Bool
 is_left Left = true
 is_left _ = false
 
@@ -40,7 +40,8 @@ left_later stood (Some m) = is_left m.kind && nat_lt stood m.stood
 
 -- how many spare revisions left the active service after that many entries
 abbrev pub rank_after : Strategy → ℕ → List Entry → ℕ
-rank_after s stood past = count_by (λ q. is_spare s q past && left_later stood (mark q past)) (existing past)
+rank_after s stood past =
+    count_by (λ q. is_spare s q past && left_later stood (mark q past)) (existing past)
 
 abbrev pub rank_of : Strategy → Option Mark → List Entry → ℕ
 rank_of s None past = 0
@@ -61,7 +62,8 @@ is_reached (Some t) now = nat_le t now
 abbrev pub marks_due : Strategy → Option Mark → List Entry → Bool
 marks_due s None past = false
 marks_due s (Some m) past =
-    is_reached (time_of s m.kind m.moment) (moment past) || (is_left m.kind && is_over s.revision_limit (rank_after s m.stood past))
+    is_reached (time_of s m.kind m.moment) (moment past)
+    || (is_left m.kind && is_over s.revision_limit (rank_after s m.stood past))
 
 abbrev pub is_due : Strategy → ℕ → List Entry → Bool
 is_due s r past = exists_in r past && is_spare s r past && marks_due s (mark r past) past
@@ -85,4 +87,5 @@ is_first r [] = false
 is_first r (q ∷ rest) = q == r
 
 abbrev pub may_remove : Strategy → ℕ → List Entry → Bool
-may_remove s r past = nat_lt s.history_limit (length (old_revisions s past)) && is_first r (old_revisions s past)
+may_remove s r past =
+    nat_lt s.history_limit (length (old_revisions s past)) && is_first r (old_revisions s past)

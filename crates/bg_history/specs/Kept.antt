@@ -12,7 +12,8 @@ pub record Opening : Type 0 where
   pub seats : ℕ
   pub template : Template
 
--- a history: its opening, the closed requests of each seat, its entries, the newest first, and the places reserved for more
+-- a history: its opening, the closed requests of each seat, its entries, the newest first, and the
+-- places reserved for more
 pub record Kept : Type 0 where
   pub opening : Opening
   pub closed : List ℕ

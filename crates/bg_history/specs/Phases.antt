@@ -1,4 +1,5 @@
--- The phases of a rollout: one test for each (Argo Rollouts, "BlueGreen Deployment Strategy", sequence of events).
+-- The phases of a rollout: one test for each (Argo Rollouts, "BlueGreen Deployment Strategy",
+-- sequence of events).
 use Rattle.std.specs.Prelude.{Bool, not, ◌&&◌, ◌||◌, nat_lt, List}
 use Rattle.bg_history.specs.declared.entry.Entry.{Entry}
 use Rattle.bg_strategy.specs.declared.strategy.Strategy.{Strategy}
@@ -17,7 +18,8 @@ is_steady past = not (is_halted past) && not (is_running past)
 abbrev pub is_scaling : List Entry → Bool
 is_scaling past = is_running past && not (has_ready past)
 
--- pre-promotion analysis: the new revision is ready, and the analysis before the switch has no verdict yet
+-- pre-promotion analysis: the new revision is ready, and the analysis before the switch has no
+-- verdict yet
 abbrev pub awaits_pre : Strategy → List Entry → Bool
 awaits_pre s past = has_ready past && not (has_resumed past) && s.pre && not (is_passed s past)
 
@@ -29,6 +31,7 @@ is_paused s past = is_passed s past && not (has_resumed past) && needs_pause s
 abbrev pub is_sizing : List Entry → Bool
 is_sizing past = has_resumed past && not (has_switched past)
 
--- post-promotion analysis: the active service has switched, and the analysis after the switch is awaited
+-- post-promotion analysis: the active service has switched, and the analysis after the switch is
+-- awaited
 abbrev pub awaits_post : Strategy → List Entry → Bool
 awaits_post s past = has_switched past && s.post

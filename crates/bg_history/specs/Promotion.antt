@@ -1,5 +1,5 @@
 -- When each step of an attempt is allowed.
-use Rattle.std.specs.Prelude.{ℕ, Bool, false, not, cond, ◌+◌, ◌==◌, ◌&&◌, ◌||◌, nat_lt, nat_le, List, Option, Some, None}
+use Rattle.std.specs.Prelude.{ℕ, Bool, false, not, if◌then◌else◌, ◌+◌, ◌==◌, ◌&&◌, ◌||◌, nat_lt, nat_le, List, Option, Some, None}
 use Rattle.bg_history.specs.declared.entry.Entry.{Entry}
 use Rattle.bg_history.specs.declared.entry.Outcome.{Outcome}
 use Rattle.bg_history.specs.declared.entry.Outcome.TheVariants.{Ready, Resumed, Switched, Promoted}
@@ -14,7 +14,8 @@ abbrev pub attempts : ℕ → List Entry → Bool
 attempts r past = is_running past && (r == newest_of past)
 
 abbrev pub may_be_ready : Strategy → ℕ → List Entry → Bool
-may_be_ready s r past = attempts r past && not (has_ready past) && nat_le s.preview_replicas (available r past)
+may_be_ready s r past =
+    attempts r past && not (has_ready past) && nat_le s.preview_replicas (available r past)
 
 -- the seconds of the pause have gone by since it began
 abbrev pub waited : Bool → ℕ → ℕ → Option ℕ → Bool
@@ -30,15 +31,20 @@ may_resume s r past =
     || waited s.auto_promotion s.auto_seconds (moment past) (pass_moment s past))
 
 abbrev pub may_switch : Strategy → ℕ → List Entry → Bool
-may_switch s r past = attempts r past && has_resumed past && not (has_switched past) && (available r past == s.replicas)
+may_switch s r past =
+    attempts r past && has_resumed past && not (has_switched past)
+    && (available r past == s.replicas)
 
 abbrev pub may_promote : Strategy → ℕ → List Entry → Bool
-may_promote s r past = attempts r past && has_switched past && (not s.post || has_post_success past || has_promote_full past)
+may_promote s r past =
+    attempts r past && has_switched past
+    && (not s.post || has_post_success past || has_promote_full past)
 
 -- the first of the four steps of an attempt that is allowed
 abbrev pub first_promotion : Strategy → List Entry → Option Outcome
 first_promotion s past =
-    cond (may_be_ready s (newest_of past) past) (Some (Ready (newest_of past)))
-    (cond (may_resume s (newest_of past) past) (Some (Resumed (newest_of past)))
-    (cond (may_switch s (newest_of past) past) (Some (Switched (newest_of past)))
-    (cond (may_promote s (newest_of past) past) (Some (Promoted (newest_of past))) None)))
+    if may_be_ready s (newest_of past) past then Some (Ready (newest_of past))
+    else if may_resume s (newest_of past) past then Some (Resumed (newest_of past))
+    else if may_switch s (newest_of past) past then Some (Switched (newest_of past))
+    else if may_promote s (newest_of past) past then Some (Promoted (newest_of past))
+    else None

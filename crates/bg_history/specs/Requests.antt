@@ -1,5 +1,5 @@
 -- The requests of a past: which are open, which seat holds one, and how many there were.
-use Rattle.std.specs.Prelude.{ℕ, ◌+◌, ◌*◌, not, cond, ◌==◌, List, [], ◌∷◌, ◌++◌, filter, find, map, sum, slice_index, Option, Some, None}
+use Rattle.std.specs.Prelude.{ℕ, ◌+◌, ◌*◌, not, if◌then◌else◌, ◌==◌, List, [], ◌∷◌, ◌++◌, filter, find, map, sum, slice_index, Option, Some, None}
 use Rattle.bg_history.specs.declared.entry.Entry.{Entry}
 use Rattle.bg_history.specs.declared.entry.Entry.TheVariants.{Enter, Leave}
 
@@ -13,8 +13,10 @@ pub record Request : Type 0 where
 -- the requests that entered and haven't left, in the order of entering
 abbrev pub open_requests : List Entry → List Request
 open_requests [] = []
-open_requests (Enter seat service number r port ∷ before) = open_requests before ++ record { seat = seat; number = number; revision = r; port = port } ∷ []
-open_requests (Leave seat number r ∷ before) = filter (λ q. not (q.number == number)) (open_requests before)
+open_requests (Enter seat service number r port ∷ before) =
+    open_requests before ++ record { seat = seat; number = number; revision = r; port = port } ∷ []
+open_requests (Leave seat number r ∷ before) =
+    filter (λ q. not (q.number == number)) (open_requests before)
 open_requests (_ ∷ before) = open_requests before
 
 -- the numbers of the open requests at r, in order
@@ -35,7 +37,7 @@ request_numbers (_ ∷ before) = request_numbers before
 -- 1 where the seat holds a request at r, else 0
 abbrev pub share_in : ℕ → Option Request → ℕ
 share_in r None = 0
-share_in r (Some q) = cond (q.revision == r) 1 0
+share_in r (Some q) = if q.revision == r then 1 else 0
 
 -- a seat's share of the open requests at r: 1 where it holds one of them, else 0
 abbrev pub share_of : ℕ → ℕ → List Entry → ℕ
@@ -47,17 +49,20 @@ entered [] = 0
 entered (Enter seat service number r port ∷ before) = 1 + entered before
 entered (_ ∷ before) = entered before
 
--- the number of requests that were given a number: those that entered, and the closed ones whose entries were dropped
+-- the number of requests that were given a number: those that entered, and the closed ones whose
+-- entries were dropped
 abbrev pub given : List ℕ → List Entry → ℕ
 given closed past = entered past + sum closed
 
 -- how many entries are a seat's: its requests that entered, and those that left
 abbrev pub calls_in : ℕ → List Entry → ℕ
 calls_in seat [] = 0
-calls_in seat (Enter s service number r port ∷ before) = cond (s == seat) 1 0 + calls_in seat before
-calls_in seat (Leave s number r ∷ before) = cond (s == seat) 1 0 + calls_in seat before
+calls_in seat (Enter s service number r port ∷ before) =
+    (if s == seat then 1 else 0) + calls_in seat before
+calls_in seat (Leave s number r ∷ before) = (if s == seat then 1 else 0) + calls_in seat before
 calls_in seat (_ ∷ before) = calls_in seat before
 
--- the calls of a seat that were answered: its entries, and two for each closed request whose entries were dropped
+-- the calls of a seat that were answered: its entries, and two for each closed request whose
+-- entries were dropped
 abbrev pub calls_of : List ℕ → ℕ → List Entry → ℕ
 calls_of closed seat past = calls_in seat past + 2 * slice_index closed seat

@@ -1,23 +1,24 @@
 -- Which revisions the services select.
-use Rattle.std.specs.Prelude.{ℕ, Bool, cond, ◌==◌, ◌||◌, List, [], ◌∷◌}
+use Rattle.std.specs.Prelude.{ℕ, Bool, if◌then◌else◌, ◌==◌, ◌||◌, List, [], ◌∷◌}
 use Rattle.bg_history.specs.declared.entry.Entry.{Entry}
 use Rattle.bg_history.specs.declared.entry.Entry.TheVariants.{Deploy, Verdict, Abort, Outcome}
 use Rattle.bg_history.specs.declared.entry.Outcome.TheVariants.{Switched}
-use Rattle.bg_history.specs.declared.entry.Finding.TheVariants.{Failed, Error}
+use Rattle.bg_history.specs.declared.entry.AnalysisResult.TheVariants.{Failed, Error}
 use Rattle.bg_history.specs.Turns.{stable_of, newest_of, is_running}
 
 -- the running newest revision, else the stable one
 abbrev pub preview_of : List Entry → ℕ
-preview_of past = cond (is_running past) (newest_of past) (stable_of past)
+preview_of past = if is_running past then newest_of past else stable_of past
 
--- the revision of the newest switch; a stop or a deploy of the stable revision goes back to that one
+-- the revision of the newest switch; a stop or a deploy of the stable revision goes back to that
+-- one
 abbrev pub active_of : List Entry → ℕ
 active_of [] = 1
 active_of (Outcome (Switched r) ∷ before) = r
 active_of (Abort ∷ before) = stable_of before
 active_of (Verdict analysis Failed ∷ before) = stable_of before
 active_of (Verdict analysis Error ∷ before) = stable_of before
-active_of (Deploy r name ports ∷ before) = cond (r == stable_of before) r (active_of before)
+active_of (Deploy r name ports ∷ before) = if r == stable_of before then r else active_of before
 active_of (_ ∷ before) = active_of before
 
 -- r is active, preview or stable

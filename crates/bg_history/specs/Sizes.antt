@@ -1,5 +1,5 @@
 -- Which revisions exist, and their sizes.
-use Rattle.std.specs.Prelude.{ℕ, Bool, false, not, max, cond, ◌==◌, ◌&&◌, nat_lt, nat_le, List, [], ◌∷◌, filter}
+use Rattle.std.specs.Prelude.{ℕ, Bool, false, not, max, if◌then◌else◌, ◌==◌, ◌&&◌, nat_lt, nat_le, List, [], ◌∷◌, filter}
 use Rattle.bg_history.specs.declared.entry.Entry.{Entry}
 use Rattle.bg_history.specs.declared.entry.Entry.TheVariants.{Deploy, Available, Retry, Outcome}
 use Rattle.bg_history.specs.declared.entry.Outcome.TheVariants.{Resumed, ScaledDown, Removed}
@@ -9,7 +9,10 @@ use Rattle.bg_history.specs.Turns.{stable_of, newest_of}
 -- puts a number into an ascending list, once
 abbrev pub put : ℕ → List ℕ → List ℕ
 put r [] = r ∷ []
-put r (q ∷ rest) = cond (r == q) (q ∷ rest) (cond (nat_lt r q) (r ∷ q ∷ rest) (q ∷ put r rest))
+put r (q ∷ rest) =
+    if r == q then q ∷ rest
+    else if nat_lt r q then r ∷ q ∷ rest
+    else q ∷ put r rest
 
 -- the revisions that exist, ascending: 1 and each deployed one, but those removed since
 abbrev pub existing : List Entry → List ℕ
@@ -32,20 +35,20 @@ begins r _ before = false
 
 -- n where the test holds and n is greater, else the size
 abbrev pub at_least : Bool → ℕ → ℕ → ℕ
-at_least test n size = cond test (max n size) size
+at_least test n size = if test then max n size else size
 
 -- the size that is wanted of r
 abbrev pub desired : Strategy → ℕ → List Entry → ℕ
-desired s r [] = cond (r == 1) s.replicas 0
-desired s r (Outcome (ScaledDown q) ∷ before) = cond (q == r) 0 (desired s r before)
+desired s r [] = if r == 1 then s.replicas else 0
+desired s r (Outcome (ScaledDown q) ∷ before) = if q == r then 0 else desired s r before
 desired s r (Outcome (Resumed q) ∷ before) = at_least (q == r) s.replicas (desired s r before)
 desired s r (e ∷ before) = at_least (begins r e before) s.preview_replicas (desired s r before)
 
 -- the size that r last reported since it was scaled down
 abbrev pub available : ℕ → List Entry → ℕ
 available r [] = 0
-available r (Available q n ∷ before) = cond (q == r) n (available r before)
-available r (Outcome (ScaledDown q) ∷ before) = cond (q == r) 0 (available r before)
+available r (Available q n ∷ before) = if q == r then n else available r before
+available r (Outcome (ScaledDown q) ∷ before) = if q == r then 0 else available r before
 available r (_ ∷ before) = available r before
 
 abbrev pub is_scaled : Strategy → ℕ → List Entry → Bool

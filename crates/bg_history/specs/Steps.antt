@@ -16,7 +16,8 @@ use Rattle.bg_strategy.specs.Label.{is_label}
 use Rattle.bg_revisions.specs.PortLists.{are_ports}
 use Rattle.bg_history.specs.Allowed.{is_allowed}
 
--- the first outcome that is allowed: the steps of an attempt, then the least to scale down, then the least to remove
+-- the first outcome that is allowed: the steps of an attempt, then the least to scale down, then
+-- the least to remove
 abbrev pub first_allowed : Strategy → List Entry → Option outcome.Outcome
 first_allowed s past =
     option_or (first_promotion s past)
@@ -35,10 +36,12 @@ with_outcomes (x ∷ earlier) past = Outcome x ∷ with_outcomes earlier past
 -- each outcome was the first allowed where it stands
 abbrev pub Follows : Strategy → List outcome.Outcome → List Entry → Type 0
 Follows s [] past = Unit {0}
-Follows s (x ∷ earlier) past = Follows s earlier past × (first_allowed s (with_outcomes earlier past) ≡ Some x)
+Follows s (x ∷ earlier) past =
+    Follows s earlier past × (first_allowed s (with_outcomes earlier past) ≡ Some x)
 
 -- the past became the new one by this event and the outcomes that it allowed
-pub record Step (s : Strategy) (e : Entry) (past : List Entry) (outcomes : List outcome.Outcome) (new : List Entry) : Type 0 where
+pub record Step (s : Strategy) (e : Entry) (past : List Entry) (outcomes : List outcome.Outcome)
+    (new : List Entry) : Type 0 where
   pub new_is : new ≡ with_outcomes outcomes (e ∷ past)
   pub follow : Follows s outcomes (e ∷ past)
   pub settled : IsTrue (is_settled s new)
@@ -50,13 +53,16 @@ all_allowed s o (e ∷ before) = is_allowed s o e before && all_allowed s o befo
 
 -- the opening is well formed for the strategy: a name, ports, and 1 to 8 seats
 abbrev pub is_opening : Strategy → Opening → Bool
-is_opening s o = is_label o.template.name && are_ports s.replicas o.template.ports && nat_le 1 o.seats && nat_le o.seats 8
+is_opening s o =
+    is_label o.template.name && are_ports s.replicas o.template.ports && nat_le 1 o.seats
+    && nat_le o.seats 8
 
 -- each number lies from 1 to the greatest one that was given
 abbrev pub all_given : ℕ → List ℕ → Bool
 all_given greatest numbers = list_all (λ n. nat_le 1 n && nat_le n greatest) numbers
 
--- the opening is well formed, each entry was allowed where it stands, and each request number is one that was given
+-- the opening is well formed, each entry was allowed where it stands, and each request number is
+-- one that was given
 pub record IsLegal (s : Strategy) (o : Opening) (closed : List ℕ) (past : List Entry) : Type 0 where
   pub opening : IsTrue (is_opening s o)
   pub allowed : IsTrue (all_allowed s o past)

@@ -1,5 +1,5 @@
 -- The name and the ports of each revision.
-use Rattle.std.specs.Prelude.{ℕ, Bool, false, cond, ◌==◌, List, [], ◌∷◌, find, Option, Some, None}
+use Rattle.std.specs.Prelude.{ℕ, Bool, false, if◌then◌else◌, ◌==◌, List, [], ◌∷◌, find, Option, Some, None}
 use Rattle.std.specs.Option.{option_or}
 use Rattle.std.specs.Str.{bytes_eq}
 use Rattle.bg_history.specs.declared.entry.Entry.{Entry}
@@ -9,9 +9,10 @@ use Rattle.bg_history.specs.Kept.{Template, Opening}
 
 -- the template of r's first deploy, or for revision 1 that of the opening
 abbrev pub template : Opening → ℕ → List Entry → Option Template
-template o r [] = cond (r == 1) (Some o.template) None
+template o r [] = if r == 1 then Some o.template else None
 template o r (Deploy q name ports ∷ before) =
-    option_or (template o r before) (cond (q == r) (Some (record { name = name; ports = ports })) None)
+    option_or (template o r before)
+    (if q == r then Some (record { name = name; ports = ports }) else None)
 template o r (_ ∷ before) = template o r before
 
 abbrev pub is_named : List ℕ → Option Template → Bool

@@ -3,7 +3,7 @@ use Rattle.std.specs.Prelude.{ℕ, Bool, true, false, not, ◌==◌, List, [], �
 use Rattle.bg_history.specs.declared.entry.Entry.{Entry}
 use Rattle.bg_history.specs.declared.entry.Entry.TheVariants.{Tick, Deploy, Verdict, Abort, Retry, Outcome}
 use Rattle.bg_history.specs.declared.entry.Outcome.TheVariants.{Promoted}
-use Rattle.bg_history.specs.declared.entry.Finding.TheVariants.{Failed, Error}
+use Rattle.bg_history.specs.declared.entry.AnalysisResult.TheVariants.{Failed, Error}
 
 -- the moment: the value of the newest tick, else 0
 abbrev pub moment : List Entry → ℕ
@@ -40,7 +40,8 @@ is_turn (Verdict analysis Failed) = true
 is_turn (Verdict analysis Error) = true
 is_turn _ = false
 
--- an attempt runs: the newest turn is a retry, or a deploy of a revision that wasn't stable before it
+-- an attempt runs: the newest turn is a retry, or a deploy of a revision that wasn't stable before
+-- it
 abbrev pub is_running : List Entry → Bool
 is_running [] = false
 is_running (Deploy r name ports ∷ before) = not (r == stable_of before)

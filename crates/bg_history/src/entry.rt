@@ -13,7 +13,7 @@ pub enum Analysis {
 
 /// What an analysis found.
 #[derive(Clone, Copy, PartialEq, Eq, Debug, Drop)]
-pub enum Finding {
+pub enum AnalysisResult {
     Successful,
     Failed,
     Error,
@@ -55,7 +55,7 @@ pub enum Entry {
     /// An analysis ended.
     Verdict {
         analysis: Analysis,
-        finding: Finding,
+        result: AnalysisResult,
     },
     /// An operator ended the pause.
     Promote,

@@ -30,7 +30,15 @@ impl Model for History {
 
     ghost Value = { Kept };
 
-    ghost view = { λ h. record { opening = record { seats = vec_len h.closed; template = record { name = h.name; ports = h.ports } }; closed = h.closed.items; past = reverse h.entries.items; spare = h.spare } };
+    ghost view = { λ h. record {
+      opening = record {
+        seats = vec_len h.closed;
+        template = record { name = h.name; ports = h.ports };
+      };
+      closed = h.closed.items;
+      past = reverse h.entries.items;
+      spare = h.spare;
+    } };
 
     ghost invariant = { λ h. vec_len h.entries + h.spare ≤ vec_capacity h.entries };
 }
@@ -39,7 +47,15 @@ impl History {
     /// A history of no entry, whose first revision has this name and these ports, for as many seats.
     /// Refused only where memory is.
     pub fn new(alloc: Global, seats: u32, name: &str, ports: &[u16]) -> Result<History, AllocError>
-        ensures { IfOk result (λ h. h ≡ record { opening = record { seats = seats; template = record { name = name.now; ports = ports.now } }; closed = replicate seats 0; past = []; spare = 0 }) }
+        ensures { IfOk result (λ h. h ≡ record {
+          opening = record {
+            seats = seats;
+            template = record { name = name.now; ports = ports.now };
+          };
+          closed = replicate seats 0;
+          past = [];
+          spare = 0;
+        }) }
     {
         let closed = vec![in alloc; 0u64; seats as usize]?;
         Ok(History {
@@ -70,7 +86,10 @@ impl History {
     /// Appends an entry, which takes no memory.
     pub fn push_reserved(&mut self, entry: Entry)
         requires { 1 ≤ self.old.spare }
-        ensures entry { self.new ≡ record self.old { past = entry ∷ self.old.past; spare = self.new.spare } }
+        ensures entry { self.new ≡ record self.old {
+          past = entry ∷ self.old.past;
+          spare = self.new.spare;
+        } }
         ensures spare { self.new.spare + 1 ≡ self.old.spare }
     {
         self.entries.push_reserved(entry);

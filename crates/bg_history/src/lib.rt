@@ -7,5 +7,5 @@
 mod entry;
 mod history;
 
-pub use entry::{Analysis, Entry, Finding, Outcome};
+pub use entry::{Analysis, AnalysisResult, Entry, Outcome};
 pub use history::History;

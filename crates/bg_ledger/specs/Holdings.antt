@@ -1,4 +1,5 @@
--- What a seat and its record each have: an index, the calls answered, and the request, revision and port in hand (0: none).
+-- What a seat and its record each have: an index, the calls answered, and the request, revision and
+-- port in hand (0: none).
 use Rattle.std.specs.Prelude.{◌≡◌, ◌+◌, ◌<◌, ◌≤◌, ◌^◌, ℕ}
 use Rattle.bg_ledger.specs.declared.holding.Holding.{Holding}
 
@@ -15,7 +16,8 @@ entered before number revision port =
 abbrev pub left : Holding → Holding
 left before = record before { calls = before.calls + 1; number = 0; revision = 0; port = 0 }
 
--- what holds of every seat: a seat that is in has room for one more call, and one that is out has nothing in hand
+-- what holds of every seat: a seat that is in has room for one more call, and one that is out has
+-- nothing in hand
 pub record IsInBounds (seat : Holding) : Type 0 where
   pub index : seat.index < 8
   pub port : seat.port < 2 ^ 16

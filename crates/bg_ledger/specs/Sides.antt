@@ -10,7 +10,13 @@ use Rattle.bg_ledger.specs.declared.indexed.RecordSides.TheVariants as own
 -- the amounts of a side, at its index
 abbrev pub holding_at : ℕ → Amounts → Holding
 holding_at index a =
-    record { index = index; calls = a.calls; number = a.number; revision = a.revision; port = a.port }
+    record {
+      index = index;
+      calls = a.calls;
+      number = a.number;
+      revision = a.revision;
+      port = a.port;
+    }
 
 -- what a seat's side has
 unfoldable pub seat_holding : {N : Type 0} → SeatSides N → Holding

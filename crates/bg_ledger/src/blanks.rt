@@ -11,7 +11,8 @@ pub struct SeatBlanks {
     pub number: Blank,
     pub revision: Blank,
     pub port: Blank,
-    pub ghost two_parts: { (calls.parts ≡ 2) × (number.parts ≡ 2) × (revision.parts ≡ 2) × (port.parts ≡ 2) },
+    pub ghost two_parts: { (calls.parts ≡ 2) × (number.parts ≡ 2) × (revision.parts ≡ 2)
+        × (port.parts ≡ 2) },
 }
 
 /// New ledgers for all eight indices, first to eighth. They take no bytes.

@@ -18,7 +18,8 @@ impl<L: Ledger> Model for Held<L> {
 
     ghost view = { λ held. held.amount };
 
-    ghost invariant = { λ held. (held.amount < 2 ^ 64) × (held.share.parts ≡ 1) × (held.share.amount ≡ held.amount) };
+    ghost invariant = { λ held. (held.amount < 2 ^ 64) × (held.share.parts ≡ 1)
+        × (held.share.amount ≡ held.amount) };
 }
 
 // The record's copy. Its share has what the copy lacks of the total, so the two shares make up the total exactly where the
@@ -37,7 +38,8 @@ impl<L: Ledger> Model for Noted<L> {
 
     ghost view = { λ noted. noted.amount };
 
-    ghost invariant = { λ noted. (noted.total.parts ≡ 2) × (noted.total.amount + 1 ≡ 2 ^ 64) × (noted.lacking.parts ≡ 1) × (noted.lacking.amount + noted.amount ≡ noted.total.amount) };
+    ghost invariant = { λ noted. (noted.total.parts ≡ 2) × (noted.total.amount + 1 ≡ 2 ^ 64)
+        × (noted.lacking.parts ≡ 1) × (noted.lacking.amount + noted.amount ≡ noted.total.amount) };
 }
 
 // Both copies of a quantity that is 0.

@@ -22,7 +22,12 @@ impl<N: Names, const I: u32> Model for SeatSide<N, I> {
 
     ghost Value = { Amounts };
 
-    ghost view = { λ side. record { calls = side.calls; number = side.number; revision = side.revision; port = side.port } };
+    ghost view = { λ side. record {
+      calls = side.calls;
+      number = side.number;
+      revision = side.revision;
+      port = side.port;
+    } };
 }
 
 // A record's copies at index `I`.
@@ -39,7 +44,12 @@ impl<N: Names, const I: u32> Model for RecordSide<N, I> {
 
     ghost Value = { Amounts };
 
-    ghost view = { λ side. record { calls = side.calls; number = side.number; revision = side.revision; port = side.port } };
+    ghost view = { λ side. record {
+      calls = side.calls;
+      number = side.number;
+      revision = side.revision;
+      port = side.port;
+    } };
 }
 
 // Both sides of an index, their quantities 0.

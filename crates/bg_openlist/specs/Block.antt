@@ -1,4 +1,5 @@
--- How the block holds the family: cells 0 to 63 are the heads of the lists, and cell 64 + k is the node k.
+-- How the block holds the family: cells 0 to 63 are the heads of the lists, and cell 64 + k is the
+-- node k.
 use Rattle.std.specs.Prelude.{◌≡◌, ℕ, ◌-◌, ◌<◌, ◌≤◌, ◌⊎◌, ⊤, List, [], ◌∷◌, ◌++◌, get_or, length, Option, Some, None}
 use Rattle.std_alloc.specs.declared.vec.Vec.{Vec}
 use Rattle.bg_openlist.specs.Distinct.{Distinct}
@@ -35,7 +36,8 @@ module _ {X : Type 0} where
   -- all of them, by a function from a list's number to its nodes
   pub record AreLists (nx pv tg : List ℕ) (vs : List (Option X)) (lists : ℕ → List ℕ) : Type 0 where
     pub each : (l : ℕ) → l < 64 → IsList nx pv tg vs l (lists l)
-    pub every : (k : ℕ) (x : X) → 64 ≤ k → get_or vs k None ≡ Some x → (get_or tg k 0 < 64) × IsIn k (lists (get_or tg k 0))
+    pub every : (k : ℕ) (x : X) → 64 ≤ k → get_or vs k None ≡ Some x → (get_or tg k 0 < 64)
+        × IsIn k (lists (get_or tg k 0))
     pub heads : (l : ℕ) → l < 64 → get_or vs l None ≡ None
 
   -- the nodes of each list, from what is stored
@@ -66,4 +68,5 @@ module _ {X Z : Type 0} where
     pub linked : AllLinked s nodes
     pub size : (65 ≤ nodes.len) × (nodes.len ≤ 320)
     pub count : length lens ≡ 64
-    pub lists : AreLists (nexts nodes.items) (prevs nodes.items) (tags nodes.items) (values nodes.items) (lists_of nodes.items lens)
+    pub lists : AreLists (nexts nodes.items) (prevs nodes.items) (tags nodes.items)
+        (values nodes.items) (lists_of nodes.items lens)

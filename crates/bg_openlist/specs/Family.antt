@@ -27,7 +27,8 @@ module _ {X : Type 0} where
   -- of lists numbered from l on, the one that has the node k, with the value there
   abbrev pub place_among : List (List (ℕ × X)) → ℕ → ℕ → Option (ℕ × X)
   place_among [] l k = None
-  place_among (xs ∷ rest) l k = option_or (option_map (λ x. (l, x)) (value_in xs k)) (place_among rest (suc l) k)
+  place_among (xs ∷ rest) l k = option_or (option_map (λ x. (l, x)) (value_in xs k))
+      (place_among rest (suc l) k)
 
   -- for each node, its list and its value, or None where it is free
   abbrev pub places : Family X → List (Option (ℕ × X))
@@ -79,4 +80,5 @@ module _ {X : Type 0} where
     pub once : Distinct (linked_nodes f.lists)
     -- a node's place is where a list has it
     pub found : (l k : ℕ) (x : X) → value_in (list_at f l) k ≡ Some x → place_of f k ≡ Some (l, x)
-    pub held : (l k : ℕ) (x : X) → place_of f k ≡ Some (l, x) → (l < 64) × (k < f.nodes) × (value_in (list_at f l) k ≡ Some x)
+    pub held : (l k : ℕ) (x : X) → place_of f k ≡ Some (l, x) → (l < 64) × (k < f.nodes)
+        × (value_in (list_at f l) k ≡ Some x)

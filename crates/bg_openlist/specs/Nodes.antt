@@ -44,6 +44,7 @@ module _ (s : ℕ) {X Z : Type 0} where
 
   -- the first k nodes lead to themselves
   pub record IsLoop (v : Vec (Node X) Z) (k : ℕ) : Type 0 where
-    pub at : (j : ℕ) (d : Node X) → j < k → IsAt v (get_or v.items j d).prev × IsAt v (get_or v.items j d).next
+    pub at : (j : ℕ) (d : Node X) → j < k → IsAt v (get_or v.items j d).prev
+        × IsAt v (get_or v.items j d).next
     pub next : (j : ℕ) (d : Node X) → j < k → (get_or v.items j d).next.index ≡ j
     pub prev : (j : ℕ) (d : Node X) → j < k → (get_or v.items j d).prev.index ≡ j

@@ -1,4 +1,5 @@
--- A list of nodes as a ring: from its head through the nodes and back to the head, forward along nx and backward along pv.
+-- A list of nodes as a ring: from its head through the nodes and back to the head, forward along nx
+-- and backward along pv.
 use Rattle.std.specs.Prelude.{◌≡◌, ℕ, zero, suc, List, [], ◌∷◌, get_or}
 
 -- each step from a through ks to b goes forward along nx, and backward along pv

@@ -41,7 +41,8 @@ pub(crate) fn node_at<T>(nodes: &Vec<Node<T>>, at: Link<T>) -> &Node<T>
 /// The list that a node bears, where it holds a value.
 pub(crate) fn list_borne<T>(nodes: &Vec<Node<T>>, index: usize) -> Option<usize>
     requires { index < vec_len nodes.now }
-    ensures { result ≡ option_map (λ _. slice_index_or (tags nodes.now.items) index 0) (slice_index_or (values nodes.now.items) index None) }
+    ensures { result ≡ option_map (λ _. slice_index_or (tags nodes.now.items) index 0)
+        (slice_index_or (values nodes.now.items) index None) }
 {
     let node = node_at(nodes, link_to(nodes, index));
     match &node.value {
@@ -55,7 +56,8 @@ pub(crate) fn node_after<T>(nodes: &Vec<Node<T>>, index: usize) -> Option<(usize
     requires within { index < vec_len nodes.now }
     requires linked { AllLinked (node_size T.row) nodes.now }
     ensures near { slice_index_or (nexts nodes.now.items) index 0 < vec_len nodes.now }
-    ensures next { let next = slice_index_or (nexts nodes.now.items) index 0 in shown result ≡ option_map (λ x. (next, x)) (slice_index_or (values nodes.now.items) next None) }
+    ensures next { let next = slice_index_or (nexts nodes.now.items) index 0 in shown result
+        ≡ option_map (λ x. (next, x)) (slice_index_or (values nodes.now.items) next None) }
 {
     let next = node_at(nodes, link_to(nodes, index)).next;
     match &node_at(nodes, next).value {
@@ -102,14 +104,16 @@ fn fill<T>(
     value: T,
 ) -> Option<T>
     requires at { IsAt (node_size T.row) nodes.old at }
-    requires between { IsAt (node_size T.row) nodes.old prev × IsAt (node_size T.row) nodes.old next }
+    requires between { IsAt (node_size T.row) nodes.old prev
+        × IsAt (node_size T.row) nodes.old next }
     requires linked { AllLinked (node_size T.row) nodes.old }
     ensures block { SameBlock nodes.old nodes.new }
     ensures linked { AllLinked (node_size T.row) nodes.new }
     ensures nexts { nexts nodes.new.items ≡ slice_set (nexts nodes.old.items) at.index next.index }
     ensures prevs { prevs nodes.new.items ≡ slice_set (prevs nodes.old.items) at.index prev.index }
     ensures tags { tags nodes.new.items ≡ slice_set (tags nodes.old.items) at.index list }
-    ensures values { values nodes.new.items ≡ slice_set (values nodes.old.items) at.index (Some value) }
+    ensures values { values nodes.new.items
+        ≡ slice_set (values nodes.old.items) at.index (Some value) }
     ensures held { result ≡ slice_index_or (values nodes.old.items) at.index None }
 {
     let node = follow_mut(nodes, at.ptr, at.index);
@@ -140,9 +144,14 @@ pub(crate) fn detach<T>(nodes: &mut Vec<Node<T>>, at: Link<T>) -> (usize, Option
     requires linked { AllLinked (node_size T.row) nodes.old }
     ensures block { SameBlock nodes.old nodes.new }
     ensures linked { AllLinked (node_size T.row) nodes.new }
-    ensures near { (slice_index_or (prevs nodes.old.items) at.index 0 < vec_len nodes.old) × (slice_index_or (nexts nodes.old.items) at.index 0 < vec_len nodes.old) }
-    ensures nexts { nexts nodes.new.items ≡ slice_set (nexts nodes.old.items) (slice_index_or (prevs nodes.old.items) at.index 0) (slice_index_or (nexts nodes.old.items) at.index 0) }
-    ensures prevs { prevs nodes.new.items ≡ slice_set (prevs nodes.old.items) (slice_index_or (nexts nodes.old.items) at.index 0) (slice_index_or (prevs nodes.old.items) at.index 0) }
+    ensures near { (slice_index_or (prevs nodes.old.items) at.index 0 < vec_len nodes.old)
+        × (slice_index_or (nexts nodes.old.items) at.index 0 < vec_len nodes.old) }
+    ensures nexts { nexts nodes.new.items ≡ slice_set (nexts nodes.old.items)
+        (slice_index_or (prevs nodes.old.items) at.index 0)
+        (slice_index_or (nexts nodes.old.items) at.index 0) }
+    ensures prevs { prevs nodes.new.items ≡ slice_set (prevs nodes.old.items)
+        (slice_index_or (nexts nodes.old.items) at.index 0)
+        (slice_index_or (prevs nodes.old.items) at.index 0) }
     ensures tags { tags nodes.new.items ≡ tags nodes.old.items }
     ensures values { values nodes.new.items ≡ slice_set (values nodes.old.items) at.index None }
     ensures list { result.0 ≡ slice_index_or (tags nodes.old.items) at.index 0 }
@@ -171,10 +180,15 @@ pub(crate) fn attach<T>(
     ensures block { SameBlock nodes.old nodes.new }
     ensures linked { AllLinked (node_size T.row) nodes.new }
     ensures near { slice_index_or (prevs nodes.old.items) head.index 0 < vec_len nodes.old }
-    ensures nexts { nexts nodes.new.items ≡ slice_set (slice_set (nexts nodes.old.items) at.index head.index) (slice_index_or (prevs nodes.old.items) head.index 0) at.index }
-    ensures prevs { prevs nodes.new.items ≡ slice_set (slice_set (prevs nodes.old.items) at.index (slice_index_or (prevs nodes.old.items) head.index 0)) head.index at.index }
+    ensures nexts { nexts nodes.new.items ≡ slice_set
+        (slice_set (nexts nodes.old.items) at.index head.index)
+        (slice_index_or (prevs nodes.old.items) head.index 0) at.index }
+    ensures prevs { prevs nodes.new.items ≡ slice_set
+        (slice_set (prevs nodes.old.items) at.index
+        (slice_index_or (prevs nodes.old.items) head.index 0)) head.index at.index }
     ensures tags { tags nodes.new.items ≡ slice_set (tags nodes.old.items) at.index list }
-    ensures values { values nodes.new.items ≡ slice_set (values nodes.old.items) at.index (Some value) }
+    ensures values { values nodes.new.items
+        ≡ slice_set (values nodes.old.items) at.index (Some value) }
     ensures held { result ≡ slice_index_or (values nodes.old.items) at.index None }
 {
     let last = node_at(nodes, head).prev;
@@ -186,7 +200,8 @@ pub(crate) fn attach<T>(
 
 /// As many nodes as are asked for, each empty and linked to itself.
 pub(crate) fn empty_nodes<T: Drop>(alloc: Global, count: usize) -> Result<Vec<Node<T>>, AllocError>
-    ensures { IfOk result (λ v. (vec_len v ≡ count) × IsLoop (node_size T.row) v count × (values v.items ≡ replicate count None)) }
+    ensures { IfOk result (λ v. (vec_len v ≡ count) × IsLoop (node_size T.row) v count
+        × (values v.items ≡ replicate count None)) }
 {
     let mut nodes = Vec::with_capacity(alloc, count)?;
     for _ in 0..count {

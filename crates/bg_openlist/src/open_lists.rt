@@ -98,7 +98,8 @@ impl<T> OpenLists<T> {
         requires list { list < 64 }
         requires node { node < self.old.nodes }
         requires free { is_linked self.old node ≡ false }
-        ensures lists { self.new.lists ≡ slice_set self.old.lists list (list_at self.old list ++ (node, value) ∷ []) }
+        ensures lists { self.new.lists ≡ slice_set self.old.lists list
+            (list_at self.old list ++ (node, value) ∷ []) }
         ensures others { (l : ℕ) → (l ≢ list) → list_at self.new l ≡ list_at self.old l }
         ensures nodes { self.new.nodes ≡ self.old.nodes }
         ensures places { places self.new ≡ slice_set (places self.old) node (Some (list, value)) }
@@ -120,7 +121,8 @@ impl<T> OpenLists<T> {
         requires { is_linked self.old node ≡ true }
         ensures value { value_of self.old node ≡ Some result }
         ensures lists { self.new.lists ≡ map (without node) self.old.lists }
-        ensures others { (l : ℕ) → (list_of self.old node ≢ Some l) → list_at self.new l ≡ list_at self.old l }
+        ensures others { (l : ℕ) → (list_of self.old node ≢ Some l)
+            → list_at self.new l ≡ list_at self.old l }
         ensures nodes { self.new.nodes ≡ self.old.nodes }
         ensures places { places self.new ≡ slice_set (places self.old) node None }
         ensures family { IsFamily self.new }

@@ -20,7 +20,8 @@ impl Model for Seats {
 
     ghost view = { λ a. places a.lists };
 
-    ghost invariant = { λ a. (a.held.items ≡ places a.lists) × (length a.held.items ≡ a.lists.nodes) };
+    ghost invariant = { λ a. (a.held.items ≡ places a.lists)
+        × (length a.held.items ≡ a.lists.nodes) };
 }
 
 impl Seats {
@@ -61,7 +62,8 @@ impl Seats {
     /// The request of a seat leaves its list, wherever it stands there.
     pub fn leave(&mut self, seat: usize) -> u64
         requires { IsSome (slice_index_or self.old seat None) }
-        ensures number { option_map (λ held. held.1) (slice_index_or self.old seat None) ≡ Some result }
+        ensures number { option_map (λ held. held.1) (slice_index_or self.old seat None)
+            ≡ Some result }
         ensures seats { self.new ≡ slice_set self.old seat None }
     {
         self.held[seat] = None;

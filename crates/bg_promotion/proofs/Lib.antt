@@ -1,2 +1,1 @@
 mod Attempts
-pub mod Neutral

@@ -1,5 +1,5 @@
 -- What each command is answered, and what the services select.
-use Rattle.std.specs.Prelude.{Bool, true, false, cond, not, List, Result, Ok, Err}
+use Rattle.std.specs.Prelude.{Bool, true, false, if◌then◌else◌, not, List, Result, Ok, Err}
 use Rattle.bg_history.specs.declared.entry.Entry.{Entry}
 use Rattle.bg_history.specs.declared.entry.Analysis.{Analysis}
 use Rattle.bg_history.specs.declared.entry.Outcome.{Outcome}
@@ -24,34 +24,47 @@ use Rattle.bg_promotion.specs.declared.faults.VerdictFault.TheVariants as verdic
 
 -- the revisions that are active, preview, stable and newest
 abbrev pub selectors_of : List Entry → Selectors
-selectors_of past = record { active = active_of past; preview = preview_of past; stable = stable_of past; newest = newest_of past }
+selectors_of past = record {
+  active = active_of past;
+  preview = preview_of past;
+  stable = stable_of past;
+  newest = newest_of past;
+}
 
 -- an abort is refused where the last attempt is stopped already, and where none runs
 abbrev pub abort_answer : List Entry → Result (Unit {0}) abort.AbortFault
 abort_answer past =
-    cond (is_halted past) (Err abort_fault.AlreadyAborted)
-    (cond (is_running past) (Ok tt) (Err abort_fault.NothingToAbort))
+    if is_halted past then Err abort_fault.AlreadyAborted
+    else if is_running past then Ok tt
+    else Err abort_fault.NothingToAbort
 
 -- a retry is refused where the last attempt isn't stopped
 abbrev pub retry_answer : List Entry → Result (Unit {0}) retry.RetryFault
-retry_answer past = cond (is_halted past) (Ok tt) (Err retry_fault.NotAborted)
+retry_answer past = if is_halted past then Ok tt else Err retry_fault.NotAborted
 
--- a promotion is accepted in a pause alone; elsewhere it is told whether the last attempt is stopped
+-- a promotion is accepted in a pause alone; elsewhere it is told whether the last attempt is
+-- stopped
 abbrev pub promote_answer : Strategy → List Entry → Result (Unit {0}) promote.PromoteFault
 promote_answer s past =
-    cond (is_paused s past) (Ok tt)
-    (cond (is_halted past) (Err promote_fault.Aborted) (Err promote_fault.NotPaused))
+    if is_paused s past then Ok tt
+    else if is_halted past then Err promote_fault.Aborted
+    else Err promote_fault.NotPaused
 
--- a full promotion is refused where the last attempt is stopped, where none runs, and where one was given in this attempt
+-- a full promotion is refused where the last attempt is stopped, where none runs, and where one was
+-- given in this attempt
 abbrev pub promote_full_answer : List Entry → Result (Unit {0}) full.PromoteFullFault
 promote_full_answer past =
-    cond (is_halted past) (Err full_fault.Aborted)
-    (cond (not (is_running past)) (Err full_fault.NothingToPromote)
-    (cond (has_promote_full past) (Err full_fault.AlreadyFull) (Ok tt)))
+    if is_halted past then Err full_fault.Aborted
+    else if not (is_running past) then Err full_fault.NothingToPromote
+    else if has_promote_full past then Err full_fault.AlreadyFull
+    else Ok tt
 
 -- a verdict is refused where its analysis isn't awaited
-abbrev pub verdict_answer : Analysis → Strategy → List Entry → Result (Unit {0}) verdict.VerdictFault
-verdict_answer analysis s past = cond (awaits analysis s past) (Ok tt) (Err verdict_fault.NoAnalysis)
+abbrev pub verdict_answer : Analysis → Strategy → List Entry
+    → Result (Unit {0}) verdict.VerdictFault
+verdict_answer analysis s past =
+    if awaits analysis s past then Ok tt
+    else Err verdict_fault.NoAnalysis
 
 -- the outcome is a step of an attempt
 abbrev pub is_step : Outcome → Bool

@@ -1,5 +1,5 @@
 -- The phase of a past.
-use Rattle.std.specs.Prelude.{cond, List, Option, Some, None}
+use Rattle.std.specs.Prelude.{if◌then◌else◌, List, Option, Some, None}
 use Rattle.bg_history.specs.declared.entry.Entry.{Entry}
 use Rattle.bg_strategy.specs.declared.strategy.Strategy.{Strategy}
 use Rattle.bg_history.specs.Turns.{is_halted}
@@ -7,13 +7,15 @@ use Rattle.bg_history.specs.Phases.{is_steady, is_scaling, awaits_pre, is_paused
 use Rattle.bg_promotion.specs.declared.phase.Phase.{Phase}
 use Rattle.bg_promotion.specs.declared.phase.Phase.TheVariants.{Steady, Scaling, PreAnalysis, Paused, Sizing, PostAnalysis, Aborted}
 
--- the first phase whose test the past passes, if there is one (Argo Rollouts, "BlueGreen Deployment Strategy", sequence of events)
+-- the first phase whose test the past passes, if there is one (Argo Rollouts, "BlueGreen Deployment
+-- Strategy", sequence of events)
 abbrev pub phase_of : Strategy → List Entry → Option Phase
 phase_of s past =
-    cond (is_halted past) (Some Aborted)
-    (cond (is_steady past) (Some Steady)
-    (cond (is_scaling past) (Some Scaling)
-    (cond (awaits_pre s past) (Some PreAnalysis)
-    (cond (is_paused s past) (Some Paused)
-    (cond (is_sizing past) (Some Sizing)
-    (cond (awaits_post s past) (Some PostAnalysis) None))))))
+    if is_halted past then Some Aborted
+    else if is_steady past then Some Steady
+    else if is_scaling past then Some Scaling
+    else if awaits_pre s past then Some PreAnalysis
+    else if is_paused s past then Some Paused
+    else if is_sizing past then Some Sizing
+    else if awaits_post s past then Some PostAnalysis
+    else None

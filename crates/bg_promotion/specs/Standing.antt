@@ -1,7 +1,21 @@
 -- What the core keeps.
-use Rattle.std.specs.Prelude.{ℕ, Bool, Option}
+use Rattle.std.specs.Prelude.{ℕ, Bool, false, None}
+use Rattle.bg_promotion.specs.declared.promotion.attempt.Attempt.{Attempt}
 
--- the settings that promotion goes by, what has happened in the running attempt, and the selected revisions
+-- an attempt in which nothing has happened
+abbrev pub begun : Attempt
+begun = record {
+  ready = false;
+  resumed = false;
+  switched = false;
+  promote_given = false;
+  promote_full_given = false;
+  post_passed = false;
+  passed_at = None;
+}
+
+-- the settings that promotion goes by, what has happened in the running attempt, and the selected
+-- revisions
 pub record Standing : Type 0 where
   -- the endpoints of a revision at full size
   pub replicas : ℕ
@@ -19,20 +33,8 @@ pub record Standing : Type 0 where
   pub running : Bool
   -- the last attempt was stopped
   pub halted : Bool
-  -- the new revision is ready
-  pub ready : Bool
-  -- the pause is over
-  pub resumed : Bool
-  -- the active service has switched to the new revision
-  pub switched : Bool
-  -- an operator ended the pause
-  pub promote_given : Bool
-  -- an operator skipped the analyses and pauses
-  pub promote_full_given : Bool
-  -- the analysis after the switch has passed
-  pub post_passed : Bool
-  -- the moment at which the new revision was ready and the analysis before the switch had passed
-  pub passed_at : Option ℕ
+  -- what has happened in the running attempt
+  pub attempt : Attempt
   -- the revision that the active service selects
   pub active : ℕ
   -- the revision that was last promoted

@@ -5,43 +5,43 @@ use thiserror::Error;
 /// Why an abort is refused.
 #[derive(Clone, Copy, PartialEq, Eq, Debug, Drop, Error)]
 pub enum AbortFault {
-    #[error("the last attempt is aborted already")]
+    #[error("the last attempt was already aborted")]
     AlreadyAborted,
-    #[error("no attempt runs that could be aborted")]
+    #[error("there is no attempt to abort")]
     NothingToAbort,
 }
 
 /// Why a retry is refused.
 #[derive(Clone, Copy, PartialEq, Eq, Debug, Drop, Error)]
 pub enum RetryFault {
-    #[error("the last attempt isn't aborted")]
+    #[error("the last attempt was not aborted")]
     NotAborted,
 }
 
 /// Why a promotion is refused.
 #[derive(Clone, Copy, PartialEq, Eq, Debug, Drop, Error)]
 pub enum PromoteFault {
-    #[error("the last attempt is aborted")]
+    #[error("the last attempt was aborted")]
     Aborted,
-    #[error("the rollout isn't paused")]
+    #[error("the rollout is not paused")]
     NotPaused,
 }
 
 /// Why a full promotion is refused.
 #[derive(Clone, Copy, PartialEq, Eq, Debug, Drop, Error)]
 pub enum PromoteFullFault {
-    #[error("the last attempt is aborted")]
+    #[error("the last attempt was aborted")]
     Aborted,
-    #[error("no attempt runs that could be promoted")]
+    #[error("there is no attempt to promote")]
     NothingToPromote,
-    #[error("the attempt is promoted in full already")]
+    #[error("this attempt was already promoted in full")]
     AlreadyFull,
 }
 
 /// Why a verdict is refused.
 #[derive(Clone, Copy, PartialEq, Eq, Debug, Drop, Error)]
 pub enum VerdictFault {
-    #[error("no such analysis is awaited")]
+    #[error("this analysis is not awaited")]
     NoAnalysis,
 }
 
@@ -56,39 +56,39 @@ mod tests {
         let texts = [
             (
                 format!(in alloc; "{}", AbortFault::AlreadyAborted)?,
-                "the last attempt is aborted already",
+                "the last attempt was already aborted",
             ),
             (
                 format!(in alloc; "{}", AbortFault::NothingToAbort)?,
-                "no attempt runs that could be aborted",
+                "there is no attempt to abort",
             ),
             (
                 format!(in alloc; "{}", RetryFault::NotAborted)?,
-                "the last attempt isn't aborted",
+                "the last attempt was not aborted",
             ),
             (
                 format!(in alloc; "{}", PromoteFault::Aborted)?,
-                "the last attempt is aborted",
+                "the last attempt was aborted",
             ),
             (
                 format!(in alloc; "{}", PromoteFault::NotPaused)?,
-                "the rollout isn't paused",
+                "the rollout is not paused",
             ),
             (
                 format!(in alloc; "{}", PromoteFullFault::Aborted)?,
-                "the last attempt is aborted",
+                "the last attempt was aborted",
             ),
             (
                 format!(in alloc; "{}", PromoteFullFault::NothingToPromote)?,
-                "no attempt runs that could be promoted",
+                "there is no attempt to promote",
             ),
             (
                 format!(in alloc; "{}", PromoteFullFault::AlreadyFull)?,
-                "the attempt is promoted in full already",
+                "this attempt was already promoted in full",
             ),
             (
                 format!(in alloc; "{}", VerdictFault::NoAnalysis)?,
-                "no such analysis is awaited",
+                "this analysis is not awaited",
             ),
         ];
         for (text, want) in &texts {

@@ -44,9 +44,35 @@ impl Model for Core {
 
     ghost Value = { Standing };
 
-    ghost view = { λ c. record { replicas = c.replicas; preview_replicas = c.preview_replicas; auto_promotion = c.auto_promotion; auto_seconds = c.auto_seconds; pre = c.pre; post = c.post; running = c.running; halted = c.halted; ready = c.attempt.ready; resumed = c.attempt.resumed; switched = c.attempt.switched; promote_given = c.attempt.promote_given; promote_full_given = c.attempt.promote_full_given; post_passed = c.attempt.post_passed; passed_at = c.attempt.passed_at; active = c.active; stable = c.stable; newest = c.newest } };
+    ghost view = { λ c. record {
+      replicas = c.replicas;
+      preview_replicas = c.preview_replicas;
+      auto_promotion = c.auto_promotion;
+      auto_seconds = c.auto_seconds;
+      pre = c.pre;
+      post = c.post;
+      running = c.running;
+      halted = c.halted;
+      attempt = c.attempt;
+      active = c.active;
+      stable = c.stable;
+      newest = c.newest;
+    } };
 
-    ghost inverse = { λ s. record { replicas = s.replicas; preview_replicas = s.preview_replicas; auto_promotion = s.auto_promotion; auto_seconds = s.auto_seconds; pre = s.pre; post = s.post; running = s.running; halted = s.halted; attempt = record { ready = s.ready; resumed = s.resumed; switched = s.switched; promote_given = s.promote_given; promote_full_given = s.promote_full_given; post_passed = s.post_passed; passed_at = s.passed_at }; active = s.active; stable = s.stable; newest = s.newest } };
+    ghost inverse = { λ s. record {
+      replicas = s.replicas;
+      preview_replicas = s.preview_replicas;
+      auto_promotion = s.auto_promotion;
+      auto_seconds = s.auto_seconds;
+      pre = s.pre;
+      post = s.post;
+      running = s.running;
+      halted = s.halted;
+      attempt = s.attempt;
+      active = s.active;
+      stable = s.stable;
+      newest = s.newest;
+    } };
 }
 
 impl Core {
@@ -72,8 +98,10 @@ impl Core {
 
     /// The phase. While steps of the attempt are still to be taken none may apply: then it is sizing.
     pub fn phase(&self) -> Phase
-        ensures phase { (s : Strategy) (past : List Entry) → StandsFor s self.now past → IfSome (phase_of s past) (λ p. result ≡ p) }
-        ensures none { (s : Strategy) (past : List Entry) → StandsFor s self.now past → IfNone (phase_of s past) (result ≡ Phase.Sizing) }
+        ensures phase { (s : Strategy) (past : List Entry) → StandsFor s self.now past
+            → IfSome (phase_of s past) (λ p. result ≡ p) }
+        ensures none { (s : Strategy) (past : List Entry) → StandsFor s self.now past
+            → IfNone (phase_of s past) (result ≡ Phase.Sizing) }
     {
         if self.halted {
             Phase::Aborted
@@ -94,7 +122,8 @@ impl Core {
 
     /// Which revisions are active, preview, stable and newest.
     pub fn selectors(&self) -> Selectors
-        ensures { (s : Strategy) (past : List Entry) → StandsFor s self.now past → result ≡ selectors_of past }
+        ensures { (s : Strategy) (past : List Entry) → StandsFor s self.now past
+            → result ≡ selectors_of past }
     {
         Selectors {
             active: self.active,

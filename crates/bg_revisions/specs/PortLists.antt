@@ -9,4 +9,6 @@ are_distinct (x ∷ xs) = not (list_any (λ y. y == x) xs) && are_distinct xs
 
 -- exactly as many distinct numbers from 1 to 65535 as a revision has endpoints
 abbrev pub are_ports : ℕ → List ℕ → Bool
-are_ports replicas ports = (length ports == replicas) && list_all (λ p. nat_le 1 p && nat_le p 65535) ports && are_distinct ports
+are_ports replicas ports =
+    (length ports == replicas) && list_all (λ p. nat_le 1 p && nat_le p 65535) ports
+    && are_distinct ports

@@ -1,5 +1,5 @@
 -- The revisions that exist, by ascending number.
-use Rattle.std.specs.Prelude.{◌≡◌, ◌≤◌, ◌<◌, ℕ, Bool, true, false, cond, ◌==◌, ◌&&◌, nat_le, List, [], ◌∷◌, length, find, Option, Some, None, Result, Ok, Err}
+use Rattle.std.specs.Prelude.{◌≡◌, ◌≤◌, ◌<◌, ℕ, Bool, true, false, if◌then◌else◌, ◌==◌, ◌&&◌, nat_le, List, [], ◌∷◌, length, find, Option, Some, None, Result, Ok, Err}
 use Rattle.std.specs.Str.{bytes_eq}
 use Rattle.bg_strategy.specs.Label.{is_label}
 use Rattle.bg_revisions.specs.PortLists.{are_ports}
@@ -27,7 +27,10 @@ has_form replicas name ports = is_label name && are_ports replicas ports
 
 -- a name that is no label is refused first, then wrong ports
 abbrev pub form_of : ℕ → List ℕ → List ℕ → Result (Unit {0}) RevisionFault
-form_of replicas name ports = cond (is_label name) (cond (are_ports replicas ports) (Ok tt) (Err BadPorts)) (Err BadName)
+form_of replicas name ports =
+    if is_label name
+    then (if are_ports replicas ports then Ok tt else Err BadPorts)
+    else Err BadName
 
 -- there is a revision, and it has this name and these ports
 abbrev pub is_template : List ℕ → List ℕ → Option Revision → Bool
@@ -37,29 +40,35 @@ is_template name ports (Some v) = bytes_eq v.name name && bytes_eq v.ports ports
 -- the number of a revision with these ports, or none where there is no revision
 abbrev pub owner_of : List ℕ → Option Revision → Result (Option ℕ) RevisionFault
 owner_of ports None = Ok None
-owner_of ports (Some v) = cond (bytes_eq v.ports ports) (Ok (Some v.number)) (Err PortsDiffer)
+owner_of ports (Some v) = if bytes_eq v.ports ports then Ok (Some v.number) else Err PortsDiffer
 
 -- the newest revision's template is refused first, then other ports under the name of a revision
 abbrev pub template_of : ℕ → List ℕ → List ℕ → List Revision → Result (Option ℕ) RevisionFault
 template_of newest name ports revisions =
-    cond (is_template name ports (numbered newest revisions)) (Err SameTemplate) (owner_of ports (named name revisions))
+    if is_template name ports (numbered newest revisions) then Err SameTemplate
+    else owner_of ports (named name revisions)
 
 -- why a revision isn't added
 abbrev pub refused_by : List Revision → RevisionFault
-refused_by revisions = cond (nat_le 64 (length revisions)) TooManyRevisions OutOfMemory
+refused_by revisions = if nat_le 64 (length revisions) then TooManyRevisions else OutOfMemory
 
 -- the revision of that number wants n endpoints; where it wants none, none is available
 abbrev pub resized : ℕ → ℕ → Revision → Revision
-resized number n v = cond (v.number == number) (record v { desired = n; available = cond (n == 0) 0 v.available }) v
+resized number n v =
+    if v.number == number then record v {
+      desired = n;
+      available = (if n == 0 then 0 else v.available);
+    }
+    else v
 
 -- the revision of that number has n endpoints available
 abbrev pub reported : ℕ → ℕ → Revision → Revision
-reported number n v = cond (v.number == number) (record v { available = n }) v
+reported number n v = if v.number == number then record v { available = n } else v
 
 -- a report of n endpoints is of a revision that wants as many
 abbrev pub report_of : ℕ → Option Revision → Result (Unit {0}) RevisionFault
 report_of n None = Err NoSuchRevision
-report_of n (Some v) = cond (nat_le n v.desired) (Ok tt) (Err MoreThanDesired)
+report_of n (Some v) = if nat_le n v.desired then Ok tt else Err MoreThanDesired
 
 -- each number is above the one before it, the first above `low`, and none is above `last`
 abbrev pub Ascends : ℕ → ℕ → List Revision → Type 0

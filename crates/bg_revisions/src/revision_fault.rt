@@ -8,19 +8,19 @@ use thiserror::Error;
 /// Why a deployed revision, or a report of one, is refused.
 #[derive(Clone, Copy, PartialEq, Eq, Debug, Drop, Error)]
 pub enum RevisionFault {
-    #[error("the name is no DNS label")]
+    #[error("a name is 1 to 63 lower-case letters, digits and hyphens, with no hyphen at its ends")]
     BadName,
-    #[error("the ports are not distinct numbers from 1, one for each replica")]
+    #[error("a revision has one port for each replica, all distinct and none of them 0")]
     BadPorts,
-    #[error("the newest revision has this name and these ports")]
+    #[error("the newest revision already has this name and these ports")]
     SameTemplate,
-    #[error("a revision of this name has other ports")]
+    #[error("a revision of this name already has other ports")]
     PortsDiffer,
-    #[error("64 revisions exist")]
+    #[error("64 revisions exist already")]
     TooManyRevisions,
     #[error("no revision has this number")]
     NoSuchRevision,
-    #[error("the revision wants fewer endpoints")]
+    #[error("more endpoints are reported than the revision wants")]
     MoreThanDesired,
     #[error("out of memory")]
     OutOfMemory,

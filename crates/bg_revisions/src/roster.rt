@@ -29,9 +29,17 @@ impl Model for Roster {
 
     ghost Value = { Listing };
 
-    ghost view = { λ r. record { replicas = r.replicas; revisions = r.revisions.items; last = r.last } };
+    ghost view = { λ r. record {
+      replicas = r.replicas;
+      revisions = r.revisions.items;
+      last = r.last;
+    } };
 
-    ghost invariant = { λ r. IsRoster (record { replicas = r.replicas; revisions = r.revisions.items; last = r.last }) };
+    ghost invariant = { λ r. IsRoster (record {
+      replicas = r.replicas;
+      revisions = r.revisions.items;
+      last = r.last;
+    }) };
 }
 
 impl Roster {
@@ -166,7 +174,9 @@ impl Roster {
     /// Sets how many endpoints a revision wants; where it wants none, none is available.
     pub fn set_desired(&mut self, number: u64, desired: u32)
         requires { IsSome (numbered number self.old.revisions) }
-        ensures { self.new ≡ record self.old { revisions = map (resized number desired) self.old.revisions } }
+        ensures { self.new ≡ record self.old {
+          revisions = map (resized number desired) self.old.revisions;
+        } }
     {
         for revision in self.revisions.iter_mut() {
             resize(revision, number, desired);
@@ -178,7 +188,9 @@ impl Roster {
     pub fn set_available(&mut self, number: u64, available: u32) -> Result<(), RevisionFault>
         ensures result { result ≡ report_of available (numbered number self.old.revisions) }
         ensures reported { OnOk result
-            (self.new ≡ record self.old { revisions = map (reported number available) self.old.revisions }) }
+            (self.new ≡ record self.old {
+              revisions = map (reported number available) self.old.revisions;
+            }) }
         ensures unchanged { OnErr result (self.new ≡ self.old) }
     {
         match self.find_number(number) {

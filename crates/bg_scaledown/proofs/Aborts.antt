@@ -4,10 +4,10 @@ use Rattle.std.proofs.lemmas.Bool.Decides.{nat_tests, eqb_tells}
 use Rattle.bg_history.specs.declared.entry.Entry.{Entry}
 use Rattle.bg_history.specs.declared.entry.Entry.TheVariants.{Verdict, Abort}
 use Rattle.bg_history.specs.declared.entry.Analysis.{Analysis}
-use Rattle.bg_history.specs.declared.entry.Finding.TheVariants.{Failed, Error}
+use Rattle.bg_history.specs.declared.entry.AnalysisResult.TheVariants.{Failed, Error}
 use Rattle.bg_history.specs.Turns.{moment, stable_of, newest_of}
 use Rattle.bg_history.specs.Selections.{active_of}
-use Rattle.bg_history.specs.Marks.{Kind, Left, Cleared, kind_of}
+use Rattle.bg_history.specs.Marks.{MarkKind, Left, Cleared, kind_of}
 use Rattle.bg_scaledown.specs.declared.mark.Mark.{Mark}
 use Rattle.bg_scaledown.specs.declared.mark.Cause.TheVariants as cause
 use Rattle.bg_scaledown.specs.Due.{without}
@@ -36,15 +36,15 @@ kind-active_left past other older = grind (arith, nat_tests)
 kind-stable_same : (past : List Entry) → (active_of past == stable_of past) ≡ true → (stable_of past == newest_of past) ≡ false → kind_of (stable_of past) Abort past ≡ None
 kind-stable_same past same attempt = grind (arith, nat_tests)
 
-kind-along : (q r : ℕ) (past : List Entry) (k : Option Kind) → q ≡ r → kind_of r Abort past ≡ k → kind_of q Abort past ≡ k
+kind-along : (q r : ℕ) (past : List Entry) (k : Option MarkKind) → q ≡ r → kind_of r Abort past ≡ k → kind_of q Abort past ≡ k
 kind-along q r past k is h = rw is h
 
 -- the three calls of an abort, of any kinds
-abbrev thrice : Option Kind → Option Kind → Option Kind → ℕ → ℕ → ℕ → ℕ → List Mark → List Mark
+abbrev thrice : Option MarkKind → Option MarkKind → Option MarkKind → ℕ → ℕ → ℕ → ℕ → List Mark → List Mark
 thrice ka ks kn a st n at marks = marked ka a at (marked ks st at (marked kn n at marks))
 
 -- the active revision is the stable one
-case-same : (a st n at : ℕ) (marks : List Mark) (ka ks kn : Option Kind) → (a == st) ≡ true → kn ≡ Some Cleared → ks ≡ None → ka ≡ None
+case-same : (a st n at : ℕ) (marks : List Mark) (ka ks kn : Option MarkKind) → (a == st) ≡ true → kn ≡ Some Cleared → ks ≡ None → ka ≡ None
     → thrice ka ks kn a st n at marks ≡ aborted a st n at marks
 case-same a st n at marks ka ks kn same en es ea = rw (en, es, ea, same) refl
 
@@ -55,13 +55,13 @@ without-again n st marks =
     filter-swap (other n) (other st) (without n marks) ∙ ap (without st) (filter-twice (other n) marks)
 
 -- it is the newest one
-case-newest : (a st n at : ℕ) (marks : List Mark) (ka ks kn : Option Kind) → (a == st) ≡ false → (a == n) ≡ true → a ≡ n → kn ≡ Some Cleared → ks ≡ Some Cleared → ka ≡ Some Cleared
+case-newest : (a st n at : ℕ) (marks : List Mark) (ka ks kn : Option MarkKind) → (a == st) ≡ false → (a == n) ≡ true → a ≡ n → kn ≡ Some Cleared → ks ≡ Some Cleared → ka ≡ Some Cleared
     → thrice ka ks kn a st n at marks ≡ aborted a st n at marks
 case-newest a st n at marks ka ks kn other newest is en es ea =
     rw (en, es, ea, other, newest, is) (without-again n st marks)
 
 -- it is an older one
-case-left : (a st n at : ℕ) (marks : List Mark) (ka ks kn : Option Kind) → (a == st) ≡ false → (a == n) ≡ false → kn ≡ Some Cleared → ks ≡ Some Cleared → ka ≡ Some Left
+case-left : (a st n at : ℕ) (marks : List Mark) (ka ks kn : Option MarkKind) → (a == st) ≡ false → (a == n) ≡ false → kn ≡ Some Cleared → ks ≡ Some Cleared → ka ≡ Some Left
     → thrice ka ks kn a st n at marks ≡ aborted a st n at marks
 case-left a st n at marks ka ks kn other older en es ea = rw (en, es, ea, other, older) refl
 
@@ -71,7 +71,7 @@ pub marks-abort : (past : List Entry) → (stable_of past == newest_of past) ≡
 marks-abort past attempt =
     let a : ℕ = active_of past in let st : ℕ = stable_of past in let n : ℕ = newest_of past in
     let at : ℕ = moment past in let marks : List Mark = marks_of (stamps_of past) in
-    let ka : Option Kind = kind_of a Abort past in let ks : Option Kind = kind_of st Abort past in let kn : Option Kind = kind_of n Abort past in
+    let ka : Option MarkKind = kind_of a Abort past in let ks : Option MarkKind = kind_of st Abort past in let kn : Option MarkKind = kind_of n Abort past in
     marks-step Abort past ∙ elim (eqb_tells a st) [
       | inl h ↦ case-same a st n at marks ka ks kn h.0 (kind-newest past) (kind-stable_same past h.0 attempt)
           (kind-along a st past None h.1 (kind-stable_same past h.0 attempt))

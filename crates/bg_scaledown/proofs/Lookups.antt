@@ -6,14 +6,14 @@ use Rattle.std.proofs.lemmas.Bool.Decides.{nat_tests, eqb_tells}
 use Rattle.bg_history.specs.declared.entry.Entry.{Entry}
 use Rattle.bg_history.specs.declared.entry.Entry.TheVariants.{Deploy, Verdict, Abort, Retry, Outcome}
 use Rattle.bg_history.specs.declared.entry.Outcome.TheVariants.{Switched, ScaledDown}
-use Rattle.bg_history.specs.declared.entry.Finding.TheVariants.{Successful, Failed, Error}
+use Rattle.bg_history.specs.declared.entry.AnalysisResult.TheVariants.{Successful, Failed, Error}
 use Rattle.bg_history.specs.Turns.{moment}
-use Rattle.bg_history.specs.Marks.{Kind, Left, Superseded, Cleared, Mark, kind_of, mark}
+use Rattle.bg_history.specs.Marks.{MarkKind, Left, Superseded, Cleared, Mark, kind_of, mark}
 use Rattle.bg_scaledown.specs.declared.mark.Cause.TheVariants as cause
 use Rattle.bg_scaledown.specs.Past.{Stamp, stamp_at, others, stamp_of, stamped, touched, stamp_all, stamps_of}
 
 -- the stamp of r after a mark of that kind
-abbrev pub after : Option Kind → ℕ → ℕ → ℕ → Option Stamp → Option Stamp
+abbrev pub after : Option MarkKind → ℕ → ℕ → ℕ → Option Stamp → Option Stamp
 after None r at stood stamp = stamp
 after (Some Left) r at stood stamp = Some (stamp_at r cause.Left at stood)
 after (Some Superseded) r at stood stamp = Some (stamp_at r cause.Superseded at stood)
@@ -35,13 +35,13 @@ stamp_of-others_other q r [] ne = refl
 stamp_of-others_other q r (stamp ∷ stamps) ne = grind (arith, nat_tests, stamp_of-others_other q r stamps ne)
 
 -- a mark for r changes the stamp of r, and that of no other revision
-stamp_of-stamped_same : (k : Option Kind) (r at stood : ℕ) (stamps : List Stamp) → stamp_of r (stamped k r at stood stamps) ≡ after k r at stood (stamp_of r stamps)
+stamp_of-stamped_same : (k : Option MarkKind) (r at stood : ℕ) (stamps : List Stamp) → stamp_of r (stamped k r at stood stamps) ≡ after k r at stood (stamp_of r stamps)
 stamp_of-stamped_same None r at stood stamps = refl
 stamp_of-stamped_same (Some Left) r at stood stamps = grind (arith, nat_tests)
 stamp_of-stamped_same (Some Superseded) r at stood stamps = grind (arith, nat_tests)
 stamp_of-stamped_same (Some Cleared) r at stood stamps = stamp_of-others_same r stamps
 
-stamp_of-stamped_other : (k : Option Kind) (q r at stood : ℕ) (stamps : List Stamp) → (q == r) ≡ false → stamp_of r (stamped k q at stood stamps) ≡ stamp_of r stamps
+stamp_of-stamped_other : (k : Option MarkKind) (q r at stood : ℕ) (stamps : List Stamp) → (q == r) ≡ false → stamp_of r (stamped k q at stood stamps) ≡ stamp_of r stamps
 stamp_of-stamped_other None q r at stood stamps ne = refl
 stamp_of-stamped_other (Some Left) q r at stood stamps ne = grind (arith, nat_tests, stamp_of-others_other q r stamps ne)
 stamp_of-stamped_other (Some Superseded) q r at stood stamps ne = grind (arith, nat_tests, stamp_of-others_other q r stamps ne)
@@ -60,13 +60,13 @@ untouched r (Verdict analysis Successful) before out = grind (arith, nat_tests)
 untouched r _ before out = grind (arith, nat_tests)
 
 -- a mark that comes twice counts once
-after_twice : (k : Option Kind) (r at stood : ℕ) (stamp : Option Stamp) → after k r at stood (after k r at stood stamp) ≡ after k r at stood stamp
+after_twice : (k : Option MarkKind) (r at stood : ℕ) (stamp : Option Stamp) → after k r at stood (after k r at stood stamp) ≡ after k r at stood stamp
 after_twice None r at stood stamp = refl
 after_twice (Some Left) r at stood stamp = refl
 after_twice (Some Superseded) r at stood stamp = refl
 after_twice (Some Cleared) r at stood stamp = refl
 
-after_cond : (b : Bool) (k : Option Kind) (r at stood : ℕ) (stamp : Option Stamp) → after k r at stood (cond b (after k r at stood stamp) stamp) ≡ after k r at stood stamp
+after_cond : (b : Bool) (k : Option MarkKind) (r at stood : ℕ) (stamp : Option Stamp) → after k r at stood (cond b (after k r at stood stamp) stamp) ≡ after k r at stood stamp
 after_cond true k r at stood stamp = after_twice k r at stood stamp
 after_cond false k r at stood stamp = refl
 
@@ -112,7 +112,7 @@ stamp_of-step r e before =
       settled r e before false none = rw (none refl) refl
 
 -- one more mark is the newest
-live_step : (k : Option Kind) (r at stood : ℕ) (m : Option Mark)
+live_step : (k : Option MarkKind) (r at stood : ℕ) (m : Option Mark)
     → live r (option_or (option_map (λ kind. record { kind = kind; moment = at; stood = stood }) k) m) ≡ after k r at stood (live r m)
 live_step None r at stood m = refl
 live_step (Some Left) r at stood m = refl

@@ -3,7 +3,7 @@ use Rattle.std.proofs.Common.{◌≡◌, ℕ, Bool, true, false, not, cond, ◌=
 use Rattle.std.proofs.lemmas.Bool.Decides.{nat_tests}
 use Rattle.bg_history.specs.declared.entry.Entry.{Entry}
 use Rattle.bg_history.specs.Turns.{moment}
-use Rattle.bg_history.specs.Marks.{Kind, Left, Superseded, Cleared, kind_of}
+use Rattle.bg_history.specs.Marks.{MarkKind, Left, Superseded, Cleared, kind_of}
 use Rattle.bg_scaledown.specs.Past.{Stamp, others, stamped, touched, stamp_all, stamps_of}
 use Rattle.bg_scaledown.proofs.Counts.{member, Distinct}
 
@@ -39,7 +39,7 @@ distinct-others q (stamp ∷ stamps) h =
     distinct-cond (not (stamp.mark.revision == q)) stamp (others q stamps) (member-others stamp.mark.revision q stamps h.0) (distinct-others q stamps h.1)
 
 -- and over an entry's marks
-distinct-stamped : (k : Option Kind) (q at stood : ℕ) (stamps : List Stamp) → Distinct (revisions stamps) → Distinct (revisions (stamped k q at stood stamps))
+distinct-stamped : (k : Option MarkKind) (q at stood : ℕ) (stamps : List Stamp) → Distinct (revisions stamps) → Distinct (revisions (stamped k q at stood stamps))
 distinct-stamped None q at stood stamps h = h
 distinct-stamped (Some Left) q at stood stamps h = (member-others_same q stamps, distinct-others q stamps h)
 distinct-stamped (Some Superseded) q at stood stamps h = (member-others_same q stamps, distinct-others q stamps h)

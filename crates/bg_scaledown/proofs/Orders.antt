@@ -4,7 +4,7 @@ use Rattle.std.proofs.lemmas.Bool.Decides.{nat_tests}
 use Rattle.bg_history.specs.declared.entry.Entry.{Entry}
 use Rattle.bg_history.specs.Turns.{moment}
 use Rattle.bg_history.specs.Selections.{active_of}
-use Rattle.bg_history.specs.Marks.{Kind, Left, Superseded, Cleared, kind_of}
+use Rattle.bg_history.specs.Marks.{MarkKind, Left, Superseded, Cleared, kind_of}
 use Rattle.bg_scaledown.specs.declared.mark.Cause.TheVariants as cause
 use Rattle.bg_scaledown.specs.Due.{is_left}
 use Rattle.bg_scaledown.specs.Past.{Stamp, stamp_at, others, stamped, touched, stamp_all, stamps_of}
@@ -99,7 +99,7 @@ within-superseded n a q at stamps h =
     }
 
 -- over an entry's mark for one revision, and for several
-within-stamped : (q : ℕ) (e : Entry) (before : List Entry) (k : Option Kind) (at : ℕ) (stamps : List Stamp) → kind_of q e before ≡ k
+within-stamped : (q : ℕ) (e : Entry) (before : List Entry) (k : Option MarkKind) (at : ℕ) (stamps : List Stamp) → kind_of q e before ≡ k
     → Within (length before) (active_of before) stamps → Within (length before) (active_of before) (stamped k q at (length before) stamps)
 within-stamped q e before None at stamps is h = h
 within-stamped q e before (Some Left) at stamps is h = rw (← left_is_active q e before is) (within-left (length before) (active_of before) at stamps h)

@@ -5,7 +5,7 @@ use Rattle.std.proofs.lemmas.Bool.Decides.{nat_tests}
 use Rattle.bg_history.specs.declared.entry.Entry.{Entry}
 use Rattle.bg_strategy.specs.declared.strategy.Strategy.{Strategy}
 use Rattle.bg_history.specs.Turns.{moment}
-use Rattle.bg_history.specs.Marks.{Kind, Left, Superseded, Cleared, Mark, mark}
+use Rattle.bg_history.specs.Marks.{MarkKind, Left, Superseded, Cleared, Mark, mark}
 use Rattle.bg_history.specs.Deadlines as history
 use Rattle.bg_scaledown.specs.declared.mark.Cause.TheVariants as cause
 use Rattle.bg_scaledown.specs.Due as due
@@ -28,7 +28,7 @@ mark_of-stamps r (stamp ∷ stamps) = go (stamp.mark.revision == r) r stamp stam
 time-live : (s : Strategy) (r : ℕ) (m : Option Mark) → option_map (due.time_of s.delay) (option_map (λ stamp. stamp.mark) (live r m)) ≡ history.deadline_of s m
 time-live s r None = refl
 time-live s r (Some m) = go m.kind m.moment m.stood where
-  go : (k : Kind) (at stood : ℕ) → option_map (due.time_of s.delay) (option_map (λ stamp. stamp.mark) (live r (Some (record { kind = k; moment = at; stood = stood })))) ≡ history.time_of s k at
+  go : (k : MarkKind) (at stood : ℕ) → option_map (due.time_of s.delay) (option_map (λ stamp. stamp.mark) (live r (Some (record { kind = k; moment = at; stood = stood })))) ≡ history.time_of s k at
   go Left at stood = refl
   go Superseded at stood = refl
   go Cleared at stood = refl
@@ -62,7 +62,7 @@ due-by_mark : (s : Strategy) (r : ℕ) (past : List Entry) (m : Option Mark) →
     → due.is_due_in (table_of s past) r (moment past) (selected_of past) ≡ history.is_due s r past
 due-by_mark s r past None is stands = due-none s r past (stamp_of-past r past ∙ ap (live r) is) (rw is refl)
 due-by_mark s r past (Some m) is stands = due-by_kind s r past m.kind m.moment m.stood is stands where
-  due-by_kind : (s : Strategy) (r : ℕ) (past : List Entry) (k : Kind) (at stood : ℕ) → mark r past ≡ Some (record { kind = k; moment = at; stood = stood }) → StampsStand s past
+  due-by_kind : (s : Strategy) (r : ℕ) (past : List Entry) (k : MarkKind) (at stood : ℕ) → mark r past ≡ Some (record { kind = k; moment = at; stood = stood }) → StampsStand s past
       → due.is_due_in (table_of s past) r (moment past) (selected_of past) ≡ history.is_due s r past
   due-by_kind s r past Left at stood is stands =
       let me : Stamp = stamp_at r cause.Left at stood in

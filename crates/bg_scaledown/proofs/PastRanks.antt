@@ -6,7 +6,7 @@ use Rattle.bg_history.specs.declared.entry.Entry.{Entry}
 use Rattle.bg_strategy.specs.declared.strategy.Strategy.{Strategy}
 use Rattle.bg_history.specs.Selections.{is_selected}
 use Rattle.bg_history.specs.Sizes.{existing, is_scaled}
-use Rattle.bg_history.specs.Marks.{Kind, Left, Superseded, Cleared, Mark, mark}
+use Rattle.bg_history.specs.Marks.{MarkKind, Left, Superseded, Cleared, Mark, mark}
 use Rattle.bg_history.specs.Deadlines.{is_spare, left_later, rank_after}
 use Rattle.bg_scaledown.specs.Due.{one_if, rank_in}
 use Rattle.bg_scaledown.specs.Past.{Stamp, stamp_of, stamps_of, marks_of}
@@ -46,7 +46,7 @@ later-is_count counted stood (stamp ∷ stamps) distinct =
 stamp_later-live : (stood q : ℕ) (m : Option Mark) → stamp_later stood (live q m) ≡ left_later stood m
 stamp_later-live stood q None = refl
 stamp_later-live stood q (Some m) = stamp_later-kind stood q m.kind m.moment m.stood where
-  stamp_later-kind : (stood q : ℕ) (k : Kind) (at n : ℕ) → stamp_later stood (live q (Some (record { kind = k; moment = at; stood = n }))) ≡ left_later stood (Some (record { kind = k; moment = at; stood = n }))
+  stamp_later-kind : (stood q : ℕ) (k : MarkKind) (at n : ℕ) → stamp_later stood (live q (Some (record { kind = k; moment = at; stood = n }))) ≡ left_later stood (Some (record { kind = k; moment = at; stood = n }))
   stamp_later-kind stood q Left at n = refl
   stamp_later-kind stood q Superseded at n = refl
   stamp_later-kind stood q Cleared at n = refl

@@ -2,14 +2,14 @@
 use Rattle.std.proofs.Common.{◌≡◌, ℕ, Bool, true, false, not, cond, ◌==◌, List, [], ◌∷◌, Option, Some, None, refl, ◌∙◌, ap}
 use Rattle.bg_history.specs.declared.entry.Entry.{Entry}
 use Rattle.bg_history.specs.Turns.{moment}
-use Rattle.bg_history.specs.Marks.{Kind, Left, Superseded, Cleared, kind_of}
+use Rattle.bg_history.specs.Marks.{MarkKind, Left, Superseded, Cleared, kind_of}
 use Rattle.bg_scaledown.specs.declared.mark.Mark.{Mark}
 use Rattle.bg_scaledown.specs.declared.mark.Cause.TheVariants as cause
 use Rattle.bg_scaledown.specs.Due.{without}
 use Rattle.bg_scaledown.specs.Past.{Stamp, others, stamped, touched, stamp_all, stamps_of, marks_of}
 
 -- the marks after the call of that kind for q: `left_active`, `superseded`, `clear` or none
-abbrev pub marked : Option Kind → ℕ → ℕ → List Mark → List Mark
+abbrev pub marked : Option MarkKind → ℕ → ℕ → List Mark → List Mark
 marked None q at marks = marks
 marked (Some Left) q at marks = record { revision = q; cause = cause.Left; moment = at } ∷ without q marks
 marked (Some Superseded) q at marks = record { revision = q; cause = cause.Superseded; moment = at } ∷ without q marks
@@ -30,7 +30,7 @@ marks-others r (stamp ∷ stamps) = go (stamp.mark.revision == r) (marks-others 
   go false h = ap (λ marks. stamp.mark ∷ marks) h
 
 -- what a stamp does to the stamps its call does to the marks
-marks-stamped : (k : Option Kind) (q at stood : ℕ) (stamps : List Stamp) → marks_of (stamped k q at stood stamps) ≡ marked k q at (marks_of stamps)
+marks-stamped : (k : Option MarkKind) (q at stood : ℕ) (stamps : List Stamp) → marks_of (stamped k q at stood stamps) ≡ marked k q at (marks_of stamps)
 marks-stamped None q at stood stamps = refl
 marks-stamped (Some Left) q at stood stamps = ap (λ marks. record { revision = q; cause = cause.Left; moment = at } ∷ marks) (marks-others q stamps)
 marks-stamped (Some Superseded) q at stood stamps = ap (λ marks. record { revision = q; cause = cause.Superseded; moment = at } ∷ marks) (marks-others q stamps)

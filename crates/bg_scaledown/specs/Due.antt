@@ -1,5 +1,5 @@
 -- When a revision with a mark may be scaled down.
-use Rattle.std.specs.Prelude.{ℕ, Bool, true, false, not, cond, ◌+◌, ◌==◌, ◌&&◌, ◌||◌, nat_lt, nat_le, is_some, length, List, [], ◌∷◌, filter, find, Option, Some, None}
+use Rattle.std.specs.Prelude.{ℕ, Bool, true, false, not, if◌then◌else◌, ◌+◌, ◌==◌, ◌&&◌, ◌||◌, nat_lt, nat_le, is_some, length, List, [], ◌∷◌, filter, find, Option, Some, None}
 use Rattle.std.specs.Option.{option_map}
 use Rattle.bg_history.specs.Deadlines.{is_over}
 use Rattle.bg_scaledown.specs.declared.mark.Mark.{Mark}
@@ -27,7 +27,7 @@ is_left Superseded = false
 
 -- a revision that left the active service waits for the delay, one that was superseded does not
 abbrev pub time_of : ℕ → Mark → ℕ
-time_of delay m = cond (is_left m.cause) (m.moment + delay) m.moment
+time_of delay m = if is_left m.cause then m.moment + delay else m.moment
 
 -- the moment from which the revision may be scaled down
 abbrev pub deadline_in : Table → ℕ → Option ℕ
@@ -39,12 +39,15 @@ exempts x r = (r == x.active) || (r == x.preview) || (r == x.stable)
 
 -- one where the test holds
 abbrev pub one_if : Bool → ℕ
-one_if b = cond b 1 0
+one_if b = if b then 1 else 0
 
--- how many marks newer than the revision's are of revisions that left the active service and pass the test
+-- how many marks newer than the revision's are of revisions that left the active service and pass
+-- the test
 abbrev pub rank_in : (ℕ → Bool) → ℕ → List Mark → ℕ
 rank_in counted r [] = 0
-rank_in counted r (m ∷ older) = cond (m.revision == r) 0 (one_if (is_left m.cause && counted m.revision) + rank_in counted r older)
+rank_in counted r (m ∷ older) =
+    if m.revision == r then 0
+    else one_if (is_left m.cause && counted m.revision) + rank_in counted r older
 
 -- how many revisions that aren't exempt left the active service later
 abbrev pub rank_of : Selected → ℕ → List Mark → ℕ
@@ -52,7 +55,8 @@ rank_of x r marks = rank_in (λ q. not (exempts x q)) r marks
 
 -- the mark's time has come, or it left and its rank is at least the limit
 abbrev pub mark_is_due : Table → ℕ → ℕ → Mark → Bool
-mark_is_due t now rank m = nat_le (time_of t.delay m) now || (is_left m.cause && is_over t.limit rank)
+mark_is_due t now rank m =
+    nat_le (time_of t.delay m) now || (is_left m.cause && is_over t.limit rank)
 
 -- there is a mark, and it is due
 abbrev pub found_is_due : Table → ℕ → ℕ → Option Mark → Bool
@@ -61,16 +65,18 @@ found_is_due t now rank (Some m) = mark_is_due t now rank m
 
 -- the revision isn't exempt, and its mark is due
 abbrev pub is_due_in : Table → ℕ → ℕ → Selected → Bool
-is_due_in t r now x = not (exempts x r) && found_is_due t now (rank_of x r t.marks) (mark_of r t.marks)
+is_due_in t r now x =
+    not (exempts x r) && found_is_due t now (rank_of x r t.marks) (mark_of r t.marks)
 
 -- the smaller of two numbers, where both are there
 abbrev pub smaller : Option ℕ → Option ℕ → Option ℕ
 smaller None b = b
 smaller (Some a) None = Some a
-smaller (Some a) (Some b) = cond (nat_le a b) (Some a) (Some b)
+smaller (Some a) (Some b) = if nat_le a b then Some a else Some b
 
 -- the least number among the marks whose revision is due and passes the test
 abbrev pub least_due : Table → ℕ → Selected → (ℕ → Bool) → List Mark → Option ℕ
 least_due t now x p [] = None
 least_due t now x p (m ∷ older) =
-    smaller (cond (is_due_in t m.revision now x && p m.revision) (Some m.revision) None) (least_due t now x p older)
+    smaller (if is_due_in t m.revision now x && p m.revision then Some m.revision else None)
+    (least_due t now x p older)

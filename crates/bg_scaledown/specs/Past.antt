@@ -3,10 +3,10 @@ use Rattle.std.specs.Prelude.{ℕ, not, ◌==◌, List, [], ◌∷◌, length, O
 use Rattle.bg_history.specs.declared.entry.Entry.{Entry}
 use Rattle.bg_history.specs.declared.entry.Entry.TheVariants.{Deploy, Verdict, Abort, Retry, Outcome}
 use Rattle.bg_history.specs.declared.entry.Outcome.TheVariants.{Switched, ScaledDown}
-use Rattle.bg_history.specs.declared.entry.Finding.TheVariants.{Failed, Error}
+use Rattle.bg_history.specs.declared.entry.AnalysisResult.TheVariants.{Failed, Error}
 use Rattle.bg_history.specs.Turns.{moment, stable_of, newest_of}
 use Rattle.bg_history.specs.Selections.{active_of, preview_of}
-use Rattle.bg_history.specs.Marks.{Kind, Left, Superseded, Cleared, kind_of}
+use Rattle.bg_history.specs.Marks.{MarkKind, Left, Superseded, Cleared, kind_of}
 use Rattle.bg_strategy.specs.declared.strategy.Strategy.{Strategy}
 use Rattle.bg_scaledown.specs.declared.mark.Mark.{Mark}
 use Rattle.bg_scaledown.specs.declared.mark.Cause.{Cause}
@@ -21,7 +21,14 @@ pub record Stamp : Type 0 where
 
 -- a stamp by its parts
 abbrev pub stamp_at : ℕ → Cause → ℕ → ℕ → Stamp
-stamp_at r c at stood = record { mark = record { revision = r; cause = c; moment = at }; stood = stood }
+stamp_at r c at stood = record {
+  mark = record {
+    revision = r;
+    cause = c;
+    moment = at;
+  };
+  stood = stood;
+}
 
 -- the stamps of other revisions
 abbrev pub others : ℕ → List Stamp → List Stamp
@@ -32,7 +39,7 @@ abbrev pub stamp_of : ℕ → List Stamp → Option Stamp
 stamp_of r stamps = find (λ stamp. stamp.mark.revision == r) stamps
 
 -- the stamps after an entry that is a mark of that kind for q
-abbrev pub stamped : Option Kind → ℕ → ℕ → ℕ → List Stamp → List Stamp
+abbrev pub stamped : Option MarkKind → ℕ → ℕ → ℕ → List Stamp → List Stamp
 stamped None q at stood stamps = stamps
 stamped (Some Left) q at stood stamps = stamp_at q cause.Left at stood ∷ others q stamps
 stamped (Some Superseded) q at stood stamps = stamp_at q cause.Superseded at stood ∷ others q stamps
@@ -45,14 +52,18 @@ touched Retry before = newest_of before ∷ []
 touched (Outcome (Switched r)) before = active_of before ∷ r ∷ []
 touched (Outcome (ScaledDown r)) before = r ∷ []
 touched Abort before = active_of before ∷ stable_of before ∷ newest_of before ∷ []
-touched (Verdict analysis Failed) before = active_of before ∷ stable_of before ∷ newest_of before ∷ []
-touched (Verdict analysis Error) before = active_of before ∷ stable_of before ∷ newest_of before ∷ []
+touched (Verdict analysis Failed) before =
+    active_of before ∷ stable_of before ∷ newest_of before ∷ []
+touched (Verdict analysis Error) before =
+    active_of before ∷ stable_of before ∷ newest_of before ∷ []
 touched _ before = []
 
 -- the stamps after an entry, as far as it marks these revisions
 abbrev pub stamp_all : Entry → List Entry → List ℕ → List Stamp → List Stamp
 stamp_all e before [] stamps = stamps
-stamp_all e before (q ∷ qs) stamps = stamped (kind_of q e before) q (moment (e ∷ before)) (length before) (stamp_all e before qs stamps)
+stamp_all e before (q ∷ qs) stamps =
+    stamped (kind_of q e before) q (moment (e ∷ before)) (length before)
+    (stamp_all e before qs stamps)
 
 -- the marks that the entries made, the newest first, but those that later ones replaced or cleared
 abbrev pub stamps_of : List Entry → List Stamp
@@ -66,8 +77,16 @@ marks_of (stamp ∷ stamps) = stamp.mark ∷ marks_of stamps
 
 -- the table that the deadlines have after a past
 abbrev pub table_of : Strategy → List Entry → Table
-table_of s past = record { delay = s.delay; limit = s.revision_limit; marks = marks_of (stamps_of past) }
+table_of s past = record {
+  delay = s.delay;
+  limit = s.revision_limit;
+  marks = marks_of (stamps_of past);
+}
 
 -- the revisions that are selected after a past
 abbrev pub selected_of : List Entry → Selected
-selected_of past = record { active = active_of past; preview = preview_of past; stable = stable_of past }
+selected_of past = record {
+  active = active_of past;
+  preview = preview_of past;
+  stable = stable_of past;
+}

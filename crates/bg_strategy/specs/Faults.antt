@@ -28,7 +28,8 @@ field_of _ = None
 
 -- a field that has to be there, in an object that is there, is not
 abbrev pub is_missing : Data → Field → Bool
-is_missing d f = (entry_of f).is_needed && (is_looked_at (entry_of f).place d && is_none (found f d))
+is_missing d f =
+    (entry_of f).is_needed && (is_looked_at (entry_of f).place d && is_none (found f d))
 
 -- a field has a value of another type than its kind's
 abbrev pub has_wrong_type : Data → Field → Bool

@@ -17,13 +17,13 @@ pub enum StrategyFault {
     #[error("{0} is missing")]
     Missing(Field),
     /// A field has a value of another type.
-    #[error("{0} has a value of another type")]
+    #[error("{0} has a value of the wrong type")]
     WrongType(Field),
     /// A field has a value of its type that it does not take.
-    #[error("{0} has a value outside its range")]
+    #[error("the value of {0} is outside its range")]
     OutOfRange(Field),
     /// The two services have one name.
-    #[error("activeService and previewService have one name")]
+    #[error("activeService and previewService name the same service")]
     SameService,
     /// Memory was refused.
     #[error("out of memory")]

@@ -18,7 +18,9 @@ impl Core {
     /// The next step of the attempt at the moment `now`, where the newest revision has `available`
     /// endpoints; none where none is allowed.
     pub fn next_outcome(&self, available: u32, now: u64) -> Option<Outcome>
-        ensures { (s : Strategy) (past : List Entry) → StandsFor s self.now past → available ≡ available_of (newest_of past) past → now ≡ moment past → result ≡ first_promotion s past }
+        ensures { (s : Strategy) (past : List Entry) → StandsFor s self.now past
+            → available ≡ available_of (newest_of past) past → now ≡ moment past
+            → result ≡ first_promotion s past }
     {
         if self.may_be_ready(available) {
             Some(Outcome::Ready(self.newest))
@@ -37,7 +39,9 @@ impl Core {
     /// changes nothing.
     #[tactic(auto, using(crate::proofs::Attempts::unready_unpassed))]
     pub fn apply(&mut self, outcome: &Outcome, now: u64)
-        ensures next { (s : Strategy) (past : List Entry) → StandsFor s self.old past → now ≡ moment past → first_promotion s past ≡ Some outcome.now → StandsFor s self.new (Entry.Outcome outcome.now ∷ past) }
+        ensures next { (s : Strategy) (past : List Entry) → StandsFor s self.old past
+            → now ≡ moment past → first_promotion s past ≡ Some outcome.now
+            → StandsFor s self.new (Entry.Outcome outcome.now ∷ past) }
         ensures other { is_step outcome.now ≡ false → self.new ≡ self.old }
     {
         match outcome {
@@ -64,28 +68,34 @@ impl Core {
 
     /// Whether the new revision has the endpoints that its preview needs.
     fn may_be_ready(&self, available: u32) -> bool
-        ensures { (s : Strategy) (past : List Entry) → StandsFor s self.now past → available ≡ available_of (newest_of past) past → result ≡ may_be_ready_in s (newest_of past) past }
+        ensures { (s : Strategy) (past : List Entry) → StandsFor s self.now past
+            → available ≡ available_of (newest_of past) past
+            → result ≡ may_be_ready_in s (newest_of past) past }
     {
         self.running && !self.attempt.ready && available >= self.preview_replicas
     }
 
     /// Whether the new revision may grow to full size.
     fn may_resume(&self, now: u64) -> bool
-        ensures { (s : Strategy) (past : List Entry) → StandsFor s self.now past → now ≡ moment past → result ≡ may_resume_in s (newest_of past) past }
+        ensures { (s : Strategy) (past : List Entry) → StandsFor s self.now past
+            → now ≡ moment past → result ≡ may_resume_in s (newest_of past) past }
     {
         self.running && self.attempt.ready && !self.attempt.resumed && self.ends_pause(now)
     }
 
     /// Whether the active service may switch to the new revision.
     fn may_switch(&self, available: u32) -> bool
-        ensures { (s : Strategy) (past : List Entry) → StandsFor s self.now past → available ≡ available_of (newest_of past) past → result ≡ may_switch_in s (newest_of past) past }
+        ensures { (s : Strategy) (past : List Entry) → StandsFor s self.now past
+            → available ≡ available_of (newest_of past) past
+            → result ≡ may_switch_in s (newest_of past) past }
     {
         self.running && self.attempt.resumed && !self.attempt.switched && available == self.replicas
     }
 
     /// Whether the new revision may become the stable one.
     fn may_promote(&self) -> bool
-        ensures { (s : Strategy) (past : List Entry) → StandsFor s self.now past → result ≡ may_promote_in s (newest_of past) past }
+        ensures { (s : Strategy) (past : List Entry) → StandsFor s self.now past
+            → result ≡ may_promote_in s (newest_of past) past }
     {
         self.running
             && self.attempt.switched
@@ -94,7 +104,8 @@ impl Core {
 
     /// Whether the analysis and the pause before the switch are over.
     fn ends_pause(&self, now: u64) -> bool
-        ensures { (s : Strategy) (past : List Entry) → StandsFor s self.now past → result ≡ (has_promote_full past
+        ensures { (s : Strategy) (past : List Entry) → StandsFor s self.now past
+            → result ≡ (has_promote_full past
             || (is_passed s past && not (needs_pause_in s))
             || (is_passed s past && has_promote past)
             || waited s.auto_promotion s.auto_seconds now (pass_moment s past)) }
@@ -112,7 +123,8 @@ impl Core {
 
     /// Whether the seconds of a pause that began at `at` have gone by, and may end it.
     fn has_waited(&self, at: u64, now: u64) -> bool
-        ensures { (s : Strategy) (past : List Entry) → StandsFor s self.now past → result ≡ waited s.auto_promotion s.auto_seconds now (Some at) }
+        ensures { (s : Strategy) (past : List Entry) → StandsFor s self.now past
+            → result ≡ waited s.auto_promotion s.auto_seconds now (Some at) }
     {
         self.auto_promotion
             && self.auto_seconds > 0

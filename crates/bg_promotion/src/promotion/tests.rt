@@ -3,7 +3,7 @@
 use super::Core;
 use crate::faults::{AbortFault, PromoteFault, PromoteFullFault, RetryFault, VerdictFault};
 use crate::phase::Phase;
-use bg_history::{Analysis, Finding, Outcome};
+use bg_history::{Analysis, AnalysisResult, Outcome};
 use bg_revisions::Selectors;
 use bg_strategy::{ServiceName, Strategy};
 use std::alloc::{AllocError, Global};
@@ -49,7 +49,10 @@ fn promotes_a_new_revision(rt: HostRuntime) -> Result<(), AllocError> {
 
     core.apply(&Outcome::Ready(2), 5);
     assert_eq!(rt; core.phase(), Phase::PreAnalysis);
-    assert_eq!(rt; core.verdict(Analysis::Pre, Finding::Successful, 6), Ok(()));
+    assert_eq!(rt;
+        core.verdict(Analysis::Pre, AnalysisResult::Successful, 6),
+        Ok(())
+    );
     assert_eq!(rt; core.phase(), Phase::Paused);
     assert_eq!(rt; core.next_outcome(2, 1000), None);
     assert_eq!(rt; core.promote(), Ok(()));
@@ -64,7 +67,7 @@ fn promotes_a_new_revision(rt: HostRuntime) -> Result<(), AllocError> {
     assert_eq!(rt; core.phase(), Phase::PostAnalysis);
     assert_eq!(rt; core.selectors(), selectors(2, 2, 1, 2));
     assert_eq!(rt;
-        core.verdict(Analysis::Post, Finding::Successful, 1001),
+        core.verdict(Analysis::Post, AnalysisResult::Successful, 1001),
         Ok(())
     );
     assert_eq!(rt; core.next_outcome(4, 1001), Some(Outcome::Promoted(2)));
@@ -102,10 +105,13 @@ fn aborts_retries_and_promotes_in_full(rt: HostRuntime) -> Result<(), AllocError
     assert_eq!(rt; core.next_outcome(2, 0), Some(Outcome::Resumed(2)));
 
     assert_eq!(rt;
-        core.verdict(Analysis::Post, Finding::Failed, 0),
+        core.verdict(Analysis::Post, AnalysisResult::Failed, 0),
         Err(VerdictFault::NoAnalysis)
     );
-    assert_eq!(rt; core.verdict(Analysis::Pre, Finding::Failed, 0), Ok(()));
+    assert_eq!(rt;
+        core.verdict(Analysis::Pre, AnalysisResult::Failed, 0),
+        Ok(())
+    );
     assert_eq!(rt; core.phase(), Phase::Aborted);
 
     core.deploy(1);

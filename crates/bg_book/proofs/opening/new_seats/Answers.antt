@@ -1,7 +1,7 @@
 use Rattle.std.proofs.Common.{◌≡◌, ℕ, ◌+◌, ◌<◌, ◌++◌, ◌∷◌, [], List, Bool, true, false, ◌==◌, length, slice_get, Some, zero, suc, refl, sym, ap, ◌∙◌, subst, arith, length-append}
 use Rattle.std.proofs.lemmas.Bool.Decides.{nat_tests}
 use Rattle.bg_book.specs.declared.seat.Seat.{Seat}
-use Rattle.bg_book.specs.Replies.{NewSeats}
+use Rattle.bg_book.specs.Changes.{NewSeats}
 use Rattle.bg_book.proofs.opening.new_seats.Goals as goal
 
 get-append_last : {X : Type 0} (xs : List X) (y : X) (i : ℕ) → i ≡ length xs → slice_get (xs ++ y ∷ []) i ≡ Some y

@@ -1,4 +1,4 @@
-use Rattle.bg_book.specs.Replies.{NewSeats}
+use Rattle.bg_book.specs.Changes.{NewSeats}
 use Rattle.bg_book.proofs.opening.new_seats.Given as goal
 
 abbrev pub invariant-loop-index : goal.invariant-loop-index

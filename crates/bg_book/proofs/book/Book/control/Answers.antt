@@ -7,15 +7,15 @@ use Rattle.bg_revisions.specs.Rosters.{Listing, reported}
 use Rattle.bg_book.specs.declared.calls.Control.{Control}
 use Rattle.bg_book.specs.declared.calls.Control.TheVariants.{Tick, Available}
 use Rattle.bg_book.specs.Refusals.{event_fault, is_full_for_control, event_of}
-use Rattle.bg_book.specs.Replies.{Stepped}
+use Rattle.bg_book.specs.Changes.{Stepped}
 use Rattle.bg_book.specs.Routing.{Routing}
-use Rattle.bg_book.specs.Stands.{Running, Stands, routing_of, running_of}
+use Rattle.bg_book.specs.Invariant.{RunningState, Stands, routing_of, running_of}
 use Rattle.bg_book.proofs.Events.{accepted, stands-Available, stepped_alone, kept_is, reported_ok, recorded}
 use Rattle.bg_book.proofs.Quiet.{quiet-Tick, quiet-Available}
 use Rattle.bg_book.proofs.book.Book.control.Goals as goal
 
 -- the past after an entry was pushed onto the reserved history
-stepped : (b : Routing) (k : Running) (now : Routing) (control : Control) (c : Control) (reserved pushed old : Kept) → Stands b k → b ≡ now → control ≡ c
+stepped : (b : Routing) (k : RunningState) (now : Routing) (control : Control) (c : Control) (reserved pushed old : Kept) → Stands b k → b ≡ now → control ≡ c
     → ((past : List Entry) → past ≡ b.past → Stepped b.strategy (event_of c) past (event_of c ∷ past) 0)
     → record reserved { spare = old.spare } ≡ old → old.past ≡ b.past → pushed ≡ record reserved { past = event_of c ∷ reserved.past; spare = pushed.spare }
     → Stepped now.strategy (event_of control) now.past pushed.past 0
@@ -53,6 +53,7 @@ invariant_of-self-in-Available c =
     subst (λ t. OnOk t (c.set_available-accepted.new.self ≡ record k.roster { revisions = map (reported r n) k.roster.revisions })) done c.set_available-accepted.ensures.reported in
     recorded b k (event.Available r n) c.set_available-accepted.new.self c.self.inside.moment c.push_reserved-in-Available.new.self c.reserve.new.self c.self.inside.history
     (λ spare enough. subst (λ (x : Listing). Stands (record b { past = event.Available r n ∷ b.past }) (record k { roster = x; spare = spare })) (sym roster)
-    (stands-Available b k r n spare c.self.invariant ok.0 ok.1 enough))
+    (stands-Available b k r n spare c.self.invariant
+    (c.neutral.ensures _ _ _ refl c.self.invariant.core) ok.0 ok.1 enough))
     refl c.reserve.ensures.rest c.push_reserved-in-Available.ensures.entry
     (omega (arith, c.in_ok-reserve.ensures.ok, c.push_reserved-in-Available.ensures.spare))

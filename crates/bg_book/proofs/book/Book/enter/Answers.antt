@@ -2,9 +2,9 @@ use Rattle.std.proofs.Common.{◌≡◌, ◌≤◌, ◌+◌, ◌*◌, ◌∷◌,
 use Rattle.bg_book.specs.declared.seat.Seat.{Seat}
 use Rattle.bg_book.specs.OpenLists.{OpenAt, lists_of}
 use Rattle.bg_book.specs.Refusals.{enter_refusal, IsTicket}
-use Rattle.bg_book.specs.Replies.{enter_entry, seat_in, with_past}
+use Rattle.bg_book.specs.Changes.{enter_entry, seat_in, with_past}
 use Rattle.bg_book.specs.Routing.{Routing}
-use Rattle.bg_book.specs.Stands.{Stands, routing_of, running_of}
+use Rattle.bg_book.specs.Invariant.{Stands, routing_of, running_of}
 use Rattle.bg_book.proofs.Entering.{stands-Enter, lists_entered}
 use Rattle.bg_book.proofs.Events.{seated_recorded, seated_book, stepped_by}
 use Rattle.bg_book.proofs.Offers.{selected_is}
@@ -28,7 +28,7 @@ take-requires-2 c =
     few_calls _ _ c.args.seat.now c.self.invariant (known_inside (routing_of c.self.inside) _ c.args.seat.now c.self.view_is c.requires.known)
 
 -- the lists and the records as the code leaves them, and as the past asks for them
-record Left_by (c : goal.After-push_reserved) : Type 0 where
+record Made (c : goal.After-push_reserved) : Type 0 where
   refusal : enter_refusal (routing_of c.self.inside) c.args.service ≡ None
   ticket : IsTicket (routing_of c.self.inside) c.args.service c.in_ok-ticket.ticket
   lists : slice_set c.self.inside.lists.items c.unwrap-place.result c.append.new.self
@@ -38,8 +38,8 @@ record Left_by (c : goal.After-push_reserved) : Type 0 where
   taken : c.take-2.new.self ≡ seat_in c.args.seat.now c.in_ok-ticket.ticket
   pushed : c.push_reserved.new.self ≡ record c.reserve.new.self { past = enter_entry c.args.seat.now.index c.args.service c.in_ok-ticket.ticket ∷ c.reserve.new.self.past; spare = c.push_reserved.new.self.spare }
 
-left_by : (c : goal.After-push_reserved) → Left_by c
-left_by c =
+made_by : (c : goal.After-push_reserved) → Made c
+made_by c =
     let b = routing_of c.self.inside in
     let stand : Stands b (running_of c.self.inside) = c.self.invariant in
     let t = c.in_ok-ticket.ticket in
@@ -77,25 +77,26 @@ invariant_of-self-2 c =
     let t = c.in_ok-ticket.ticket in
     let seat = c.args.seat.now in
     let e = enter_entry seat.index c.args.service t in
-    let left = left_by c in
+    let made = made_by c in
     let enough : 3 * (k.open_requests + 1) ≤ c.push_reserved.new.self.spare = omega (arith, c.in_ok-reserve.ensures.ok, c.push_reserved.ensures.spare) in
     seated_recorded b k e (lists_of (e ∷ b.past)) _ (slice_set b.seats seat.index c.take-2.new.self) _ t.number (k.open_requests + 1)
     c.push_reserved.new.self c.reserve.new.self c.self.inside.history
-    (subst (λ (v : Seat). Stands (with_past b (e ∷ b.past) (slice_set b.seats seat.index v)) (record k { given = t.number; open_requests = k.open_requests + 1; spare = c.push_reserved.new.self.spare })) (sym left.taken)
-    (stands-Enter b k c.args.service t seat c.push_reserved.new.self.spare c.self.invariant left.refusal left.ticket
+    (subst (λ (v : Seat). Stands (with_past b (e ∷ b.past) (slice_set b.seats seat.index v)) (record k { given = t.number; open_requests = k.open_requests + 1; spare = c.push_reserved.new.self.spare })) (sym made.taken)
+    (stands-Enter b k c.args.service t seat c.push_reserved.new.self.spare c.self.invariant
+    (c.neutral.ensures _ _ _ refl c.self.invariant.core) made.refusal made.ticket
     (known_inside b _ seat c.self.view_is c.requires.known) c.requires.out enough))
-    left.lists left.seats refl c.reserve.ensures.rest left.pushed
+    made.lists made.seats refl c.reserve.ensures.rest made.pushed
 
 pub returns-clause-step : goal.returns-clause-step
 returns-clause-step c =
     let b = routing_of c.self.inside in
     let t = c.in_ok-ticket.ticket in
     stepped_by b _ _ c.reserve.new.self c.push_reserved.new.self c.self.inside.history c.self.view_is
-    (quiet-Enter _ _ b.past c.args.seat.now.index c.args.service t.number t.revision t.port c.self.invariant.quiet) refl c.reserve.ensures.rest (left_by c).pushed
+    (quiet-Enter _ _ b.past c.args.seat.now.index c.args.service t.number t.revision t.port c.self.invariant.quiet) refl c.reserve.ensures.rest (made_by c).pushed
 
 pub returns-clause-book : goal.returns-clause-book
 returns-clause-book c =
     let b = routing_of c.self.inside in
-    let left = left_by c in
+    let made = made_by c in
     seated_book b _ (enter_entry c.args.seat.now.index c.args.service c.in_ok-ticket.ticket) _ _ c.args.seat.now.index c.take-2.new.self c.push_reserved.new.self c.reserve.new.self c.self.inside.history
-    c.self.view_is left.lists left.seats refl c.reserve.ensures.rest left.pushed
+    c.self.view_is made.lists made.seats refl c.reserve.ensures.rest made.pushed

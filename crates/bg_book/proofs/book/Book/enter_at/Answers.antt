@@ -3,7 +3,7 @@ use Rattle.std.proofs.lemmas.List.{set-get_or}
 use Rattle.bg_revisions.specs.declared.revision.Service.{Service}
 use Rattle.bg_book.specs.declared.calls.Reply.{Reply}
 use Rattle.bg_book.specs.declared.seat.Seat.{Seat}
-use Rattle.bg_book.specs.Replies.{seat_in, with_past}
+use Rattle.bg_book.specs.Changes.{seat_in, with_past}
 use Rattle.bg_book.specs.Routing.{Routing}
 use Rattle.bg_book.specs.Runs.{AreKnown, EnterAt}
 use Rattle.bg_book.proofs.Running.{known_after, apart_after, read, read_is, holds_one, holds_none}

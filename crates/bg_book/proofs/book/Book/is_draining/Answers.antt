@@ -1,6 +1,6 @@
 use Rattle.std.proofs.Common.{◌≡◌, false, subst}
 use Rattle.bg_book.specs.Routing.{Routing}
-use Rattle.bg_book.specs.States.{is_draining}
+use Rattle.bg_book.specs.PastState.{is_draining}
 use Rattle.bg_book.proofs.Unmarked.{not_draining}
 use Rattle.bg_book.proofs.book.Book.is_draining.Goals as goal
 

@@ -4,9 +4,9 @@ use Rattle.bg_history.specs.declared.entry.Entry.{Entry}
 use Rattle.bg_history.specs.declared.entry.Entry.TheVariants.{Leave}
 use Rattle.bg_book.specs.declared.seat.Seat.{Seat}
 use Rattle.bg_book.specs.OpenLists.{OpenAt, lists_of}
-use Rattle.bg_book.specs.Replies.{Stepped, seat_out, with_past}
+use Rattle.bg_book.specs.Changes.{Stepped, seat_out, with_past}
 use Rattle.bg_book.specs.Routing.{Routing}
-use Rattle.bg_book.specs.Stands.{Stands, routing_of, running_of}
+use Rattle.bg_book.specs.Invariant.{Stands, routing_of, running_of}
 use Rattle.bg_book.proofs.Events.{seated_recorded, seated_book, stepped_by}
 use Rattle.bg_book.proofs.Leaving.{stands-Leave, lists_left, first_place, one_open}
 use Rattle.bg_book.proofs.Quiet.{quiet-Leave}
@@ -59,7 +59,7 @@ push_reserved-requires c =
     omega (arith, one, kept)
 
 -- the lists and the records as the code leaves them, and as the past asks for them
-record Left_by (c : goal.After-push_reserved) : Type 0 where
+record Made (c : goal.After-push_reserved) : Type 0 where
   lists : slice_set c.self.inside.lists.items c.unwrap-place.result c.remove.new.self
       ≡ lists_of (Leave c.args.seat.now.index c.args.seat.now.number c.args.seat.now.revision ∷ c.self.inside.history.past)
   seats : slice_set c.self.inside.seats.items c.index-index.result c.let_go.new.self
@@ -67,8 +67,8 @@ record Left_by (c : goal.After-push_reserved) : Type 0 where
   gone : c.let_go-2.new.self ≡ seat_out c.args.seat.now
   pushed : c.push_reserved.new.self ≡ record c.self.inside.history { past = Leave c.args.seat.now.index c.args.seat.now.number c.args.seat.now.revision ∷ c.self.inside.history.past; spare = c.push_reserved.new.self.spare }
 
-left_by : (c : goal.After-push_reserved) → Left_by c
-left_by c =
+made_by : (c : goal.After-push_reserved) → Made c
+made_by c =
     let b = routing_of c.self.inside in
     let stand : Stands b (running_of c.self.inside) = c.self.invariant in
     let seat = c.args.seat.now in
@@ -104,16 +104,17 @@ invariant_of-self c =
     let k = running_of c.self.inside in
     let seat = c.args.seat.now in
     let e = Leave seat.index seat.number seat.revision in
-    let left = left_by c in
+    let made = made_by c in
     let known = known_inside b _ seat c.self.view_is c.requires.known in
     let one = (one_open b k seat c.self.invariant known c.requires.within).0 in
     let kept : 3 * k.open_requests ≤ k.spare = c.self.invariant.spare in
     let enough : 3 * (k.open_requests - 1) ≤ c.push_reserved.new.self.spare = omega (arith, one, kept, c.push_reserved.ensures.spare) in
     seated_recorded b k e (lists_of (e ∷ b.past)) _ (slice_set b.seats seat.index c.let_go-2.new.self) _ k.given (k.open_requests - 1)
     c.push_reserved.new.self c.self.inside.history c.self.inside.history
-    (subst (λ (v : Seat). Stands (with_past b (e ∷ b.past) (slice_set b.seats seat.index v)) (record k { open_requests = k.open_requests - 1; spare = c.push_reserved.new.self.spare })) (sym left.gone)
-    (stands-Leave b k seat c.push_reserved.new.self.spare c.self.invariant known c.requires.within enough))
-    left.lists left.seats refl refl left.pushed
+    (subst (λ (v : Seat). Stands (with_past b (e ∷ b.past) (slice_set b.seats seat.index v)) (record k { open_requests = k.open_requests - 1; spare = c.push_reserved.new.self.spare })) (sym made.gone)
+    (stands-Leave b k seat c.push_reserved.new.self.spare c.self.invariant
+    (c.neutral.ensures _ _ _ refl c.self.invariant.core) known c.requires.within enough))
+    made.lists made.seats refl refl made.pushed
 
 pub returns-clause-step : goal.returns-clause-step
 returns-clause-step c =
@@ -121,13 +122,13 @@ returns-clause-step c =
     let seat = c.args.seat.now in
     let stepped : Stepped c.args.self.now.strategy (Leave seat.index seat.number seat.revision) c.args.self.now.past c.push_reserved.new.self.past 0 =
     stepped_by b _ _ c.self.inside.history c.push_reserved.new.self c.self.inside.history c.self.view_is
-    (quiet-Leave _ _ b.past seat.index seat.number seat.revision c.self.invariant.quiet) refl refl (left_by c).pushed in
+    (quiet-Leave _ _ b.past seat.index seat.number seat.revision c.self.invariant.quiet) refl refl (made_by c).pushed in
     (0, stepped, omega arith)
 
 pub returns-clause-book : goal.returns-clause-book
 returns-clause-book c =
     let b = routing_of c.self.inside in
     let seat = c.args.seat.now in
-    let left = left_by c in
+    let made = made_by c in
     seated_book b _ (Leave seat.index seat.number seat.revision) _ _ seat.index c.let_go-2.new.self c.push_reserved.new.self c.self.inside.history c.self.inside.history
-    c.self.view_is left.lists left.seats refl refl left.pushed
+    c.self.view_is made.lists made.seats refl refl made.pushed

@@ -12,7 +12,8 @@ use Rattle.bg_book.specs.declared.seat.Seat.{Seat}
 use Rattle.bg_book.specs.OpenLists.{lists_of}
 use Rattle.bg_book.specs.Routing.{Routing}
 
--- the past became the new one by this event and as many outcomes, each the first that was allowed, until none was
+-- the past became the new one by this event and as many outcomes, each the first that was allowed,
+-- until none was
 pub record Stepped (s : Strategy) (e : Entry) (past new : List Entry) (n : ℕ) : Type 0 where
   pub outcomes : List Outcome
   pub step : Step s e past outcomes new
@@ -21,7 +22,13 @@ pub record Stepped (s : Strategy) (e : Entry) (past new : List Entry) (n : ℕ) 
 -- as many seats, in order of index, each without a call
 pub record NewSeats (count : ℕ) (seats : List Seat) : Type 0 where
   pub count_is : length seats ≡ count
-  pub each : (i : ℕ) → i < count → slice_get seats i ≡ Some (record { index = i; calls = 0; number = 0; revision = 0; port = 0 })
+  pub each : (i : ℕ) → i < count → slice_get seats i ≡ Some (record {
+    index = i;
+    calls = 0;
+    number = 0;
+    revision = 0;
+    port = 0;
+  })
 
 -- a book that was just opened
 abbrev pub opened : Strategy → List ℕ → List ℕ → ℕ → Limits → List Seat → Routing
@@ -35,13 +42,19 @@ opened s name ports count limits seats = record {
   seats = seats;
 }
 
--- the book with another past: its lists are those that this asks for, and these are the records of its seats
+-- the book with another past: its lists are those that this asks for, and these are the records of
+-- its seats
 abbrev pub with_past : Routing → List Entry → List Seat → Routing
 with_past b past seats = record b { past = past; lists = lists_of past; seats = seats }
 
 -- a seat after a request with this ticket entered, and after its request left: one call more
 abbrev pub seat_in : Seat → Ticket → Seat
-seat_in seat t = record seat { calls = seat.calls + 1; number = t.number; revision = t.revision; port = t.port }
+seat_in seat t = record seat {
+  calls = seat.calls + 1;
+  number = t.number;
+  revision = t.revision;
+  port = t.port;
+}
 
 abbrev pub seat_out : Seat → Seat
 seat_out seat = record seat { calls = seat.calls + 1; number = 0; revision = 0; port = 0 }

@@ -12,9 +12,9 @@ use Rattle.bg_promotion.specs.Stands.{StandsFor}
 use Rattle.bg_book.specs.declared.book.Book.TheInside.{Inside}
 use Rattle.bg_book.specs.OpenLists.{lists_of}
 use Rattle.bg_book.specs.Quiet.{Quiet}
-use Rattle.bg_book.specs.Refusals.{open_count, usual_limits}
+use Rattle.bg_book.specs.Refusals.{all_open, usual_limits}
 use Rattle.bg_book.specs.Routing.{Routing}
-use Rattle.bg_book.specs.States.{SeatsStand, revisions_of}
+use Rattle.bg_book.specs.PastState.{SeatsStand, revisions_of}
 
 -- what contracts see of the book's fields
 abbrev pub routing_of : Inside → Routing
@@ -41,15 +41,16 @@ Differ (q ∷ rest) = (list_all (are_apart q) rest ≡ true) × Differ rest
 abbrev pub has_number : ℕ → Request → Bool
 has_number greatest q = nat_le 1 q.number && nat_le q.number greatest
 
--- what holds of the open requests: all are at revision 1, none has another's seat or number, each has a number that was given
+-- what holds of the open requests: all are at revision 1, none has another's seat or number, each
+-- has a number that was given
 pub record RequestsStand (closed : List ℕ) (past : List Entry) : Type 0 where
   pub differ : Differ (open_requests past)
   pub first : list_all (λ q. q.revision == 1) (open_requests past) ≡ true
   pub given : list_all (has_number (given closed past)) (open_requests past) ≡ true
 
--- what the book keeps running beside its history: the core, the roster, the moment, the greatest number given, the count
--- of open requests, and the places that are reserved in the history
-pub record Running : Type 0 where
+-- what the book keeps running beside its history: the core, the roster, the moment, the greatest
+-- number given, the count of open requests, and the places that are reserved in the history
+pub record RunningState : Type 0 where
   pub core : Standing
   pub roster : Listing
   pub moment : ℕ
@@ -57,7 +58,7 @@ pub record Running : Type 0 where
   pub open_requests : ℕ
   pub spare : ℕ
 
-abbrev pub running_of : Inside → Running
+abbrev pub running_of : Inside → RunningState
 running_of b = record {
   core = b.core;
   roster = b.roster;
@@ -68,7 +69,7 @@ running_of b = record {
 }
 
 -- what runs is what the history says, and each open request has three places reserved
-pub record Stands (b : Routing) (k : Running) : Type 0 where
+pub record Stands (b : Routing) (k : RunningState) : Type 0 where
   pub core : StandsFor b.strategy k.core b.past
   pub revisions : k.roster.revisions ≡ revisions_of b.strategy b.opening b.past
   pub replicas : k.roster.replicas ≡ b.strategy.replicas
@@ -76,7 +77,7 @@ pub record Stands (b : Routing) (k : Running) : Type 0 where
   pub seats : SeatsStand b.opening b.closed b.past b.seats
   pub moment : k.moment ≡ moment b.past
   pub given : k.given ≡ given b.closed b.past
-  pub open_is : k.open_requests ≡ open_count b.past
+  pub open_is : k.open_requests ≡ all_open b.past
   pub legal : IsLegal b.strategy b.opening b.closed b.past
   pub quiet : Quiet b.strategy b.opening b.past
   pub available : available 1 b.past ≤ b.strategy.replicas

@@ -12,8 +12,20 @@ use Rattle.bg_book.specs.declared.seat.Seat.{Seat}
 
 -- a revision of this number, template and sizes; each revision that exists has a template
 abbrev pub sized : ℕ → ℕ → ℕ → Option Template → Revision
-sized r wanted there None = record { number = r; name = []; ports = []; desired = wanted; available = there }
-sized r wanted there (Some t) = record { number = r; name = t.name; ports = t.ports; desired = wanted; available = there }
+sized r wanted there None = record {
+  number = r;
+  name = [];
+  ports = [];
+  desired = wanted;
+  available = there;
+}
+sized r wanted there (Some t) = record {
+  number = r;
+  name = t.name;
+  ports = t.ports;
+  desired = wanted;
+  available = there;
+}
 
 -- revision r
 abbrev pub revision_of : Strategy → Opening → List Entry → ℕ → Revision
@@ -30,13 +42,20 @@ is_draining s r past = is_due s r past && not (is_empty (open_at r past))
 -- a seat with these calls and this request in hand
 abbrev pub seated : ℕ → ℕ → Option Request → Seat
 seated seat calls None = record { index = seat; calls = calls; number = 0; revision = 0; port = 0 }
-seated seat calls (Some q) = record { index = seat; calls = calls; number = q.number; revision = q.revision; port = q.port }
+seated seat calls (Some q) = record {
+  index = seat;
+  calls = calls;
+  number = q.number;
+  revision = q.revision;
+  port = q.port;
+}
 
 -- what a seat has: the calls that it was answered, and the request in hand
 abbrev pub seat_of : List ℕ → ℕ → List Entry → Seat
 seat_of closed seat past = seated seat (calls_of closed seat past) (held_by seat past)
 
 -- the record of each seat, in order of index, is what the past says
-pub record SeatsStand (o : Opening) (closed : List ℕ) (past : List Entry) (seats : List Seat) : Type 0 where
+pub record SeatsStand (o : Opening) (closed : List ℕ) (past : List Entry)
+    (seats : List Seat) : Type 0 where
   pub count : length seats ≡ o.seats
   pub each : (i : ℕ) → i < o.seats → slice_get seats i ≡ Some (seat_of closed i past)
