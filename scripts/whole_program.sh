@@ -3,6 +3,8 @@
 # on faults, and where input or output fails.
 set -eu
 cd "$(dirname -- "$0")/.."
+# Builds the program where it is stale, so that no run below has the build's messages on standard error.
+bin/bg_switch check < examples/direct.json > /dev/null
 work=$(mktemp -d)
 trap 'rm -rf "$work"' EXIT
 passed=0
@@ -39,15 +41,50 @@ expect 0 examples/two_requests.replies '' replay < examples/two_requests.txt
 expect 0 examples/direct.settings '' check < examples/direct.json
 expect 0 examples/tested_before_and_after.settings '' check < examples/tested_before_and_after.json
 
-# Words that are no order; the words of a replay.
+# Words that are no order.
 expect 2 /dev/null '?*' < /dev/null
-expect 2 /dev/null '?*' serve < /dev/null
-expect 2 /dev/null '?*' check more < /dev/null
-expect 2 /dev/null '?*' replay --seats 9 < /dev/null
+while read -r words; do
+    # the words of a line, split at its spaces
+    expect 2 /dev/null '?*' $words < /dev/null
+done << 'END'
+help
+--help
+serve
+checks
+check more
+check --seats 2
+replay --seats
+replay --seats 0
+replay --seats 9
+replay --seats four
+replay --seats 2 --seats 3
+END
 expect 2 /dev/null '?*' "$(printf '\377')" < /dev/null
 expect 2 /dev/null '?*--seats*' replay --help < /dev/null
-sed 's/^entered 2 .*/refused NoSuchSeat/' examples/two_requests.replies > "$work/one_seat"
-expect 0 "$work/one_seat" '' replay --seats 1 < examples/two_requests.txt
+
+# As many seats as the words ask for, and 4 where they ask for none: a request at each of nine places.
+{
+    echo '{"spec":{"strategy":{"blueGreen":{"activeService":"web"}}}}'
+    printf -- '---\nopen v1 9001\navailable 1 1\n'
+    seq -f 'enter %g active' 0 8
+} > "$work/nine_requests"
+
+# expect_seats SEATS WORD..: a replay with these words has so many seats.
+expect_seats() {
+    seats=$1
+    shift
+    {
+        printf 'ok 0\nok 0\n'
+        seq -f 'entered %g revision 1 port 9001' 1 "$seats"
+        yes 'refused NoSuchSeat' | head -n "$((9 - seats))"
+    } > "$work/nine_replies"
+    expect 0 "$work/nine_replies" '' replay "$@" < "$work/nine_requests"
+}
+
+expect_seats 4
+expect_seats 1 --seats 1
+expect_seats 2 --seats 2
+expect_seats 8 --seats=8
 
 # Faults, and an input without end.
 echo 'fault NotJson' > "$work/not_json"

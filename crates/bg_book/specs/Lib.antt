@@ -7,3 +7,4 @@ pub mod Headline
 pub mod Quiet
 pub mod Invariant
 pub mod Runs
+pub mod FaultNames

@@ -18,6 +18,24 @@ pub enum OpenFault {
     OutOfMemory,
 }
 
+impl OpenFault {
+    ghost use Rattle.std.specs.Prelude.{◌≡◌};
+    ghost use Rattle.bg_book.specs.FaultNames.{open_fault_name};
+
+    /// The name of the fault: that of its variant.
+    pub fn name(&self) -> &'static str
+        ensures { result.now ≡ open_fault_name self.now }
+    {
+        match self {
+            OpenFault::BadName => "BadName",
+            OpenFault::BadPorts => "BadPorts",
+            OpenFault::BadSeats => "BadSeats",
+            OpenFault::BadLimits => "BadLimits",
+            OpenFault::OutOfMemory => "OutOfMemory",
+        }
+    }
+}
+
 /// Why a request doesn't enter, in the order in which the faults are looked for.
 #[derive(Clone, Copy, PartialEq, Eq, Debug, Drop, Error)]
 pub enum EnterFault {
@@ -31,6 +49,24 @@ pub enum EnterFault {
     HistoryFull,
     #[error("out of memory")]
     OutOfMemory,
+}
+
+impl EnterFault {
+    ghost use Rattle.std.specs.Prelude.{◌≡◌};
+    ghost use Rattle.bg_book.specs.FaultNames.{enter_fault_name};
+
+    /// The name of the fault: that of its variant.
+    pub fn name(&self) -> &'static str
+        ensures { result.now ≡ enter_fault_name self.now }
+    {
+        match self {
+            EnterFault::NoPreview => "NoPreview",
+            EnterFault::NoEndpoints => "NoEndpoints",
+            EnterFault::NumbersSpent => "NumbersSpent",
+            EnterFault::HistoryFull => "HistoryFull",
+            EnterFault::OutOfMemory => "OutOfMemory",
+        }
+    }
 }
 
 /// Why an event is refused, in the order in which the faults are looked for.
@@ -48,6 +84,25 @@ pub enum ControlFault {
     HistoryFull,
     #[error("out of memory")]
     OutOfMemory,
+}
+
+impl ControlFault {
+    ghost use Rattle.std.specs.Prelude.{◌≡◌};
+    ghost use Rattle.bg_book.specs.FaultNames.{control_fault_name};
+
+    /// The name of the fault: that of its variant.
+    pub fn name(&self) -> &'static str
+        ensures { result.now ≡ control_fault_name self.now }
+    {
+        match self {
+            ControlFault::MomentTooLarge => "MomentTooLarge",
+            ControlFault::MomentBack => "MomentBack",
+            ControlFault::NoSuchRevision => "NoSuchRevision",
+            ControlFault::MoreThanDesired => "MoreThanDesired",
+            ControlFault::HistoryFull => "HistoryFull",
+            ControlFault::OutOfMemory => "OutOfMemory",
+        }
+    }
 }
 
 /// Why a list of calls wasn't begun.

@@ -19,3 +19,23 @@ pub enum Phase {
     /// The last attempt was aborted or failed, and nothing was deployed or retried since.
     Aborted,
 }
+
+impl Phase {
+    ghost use Rattle.std.specs.Prelude.{◌≡◌};
+    ghost use Rattle.bg_promotion.specs.PhaseNames.{phase_name};
+
+    /// The name of the phase, as a report has it: that of the variant, with a small first letter.
+    pub fn name(&self) -> &'static str
+        ensures { result.now ≡ phase_name self.now }
+    {
+        match self {
+            Phase::Steady => "steady",
+            Phase::Scaling => "scaling",
+            Phase::PreAnalysis => "preAnalysis",
+            Phase::Paused => "paused",
+            Phase::Sizing => "sizing",
+            Phase::PostAnalysis => "postAnalysis",
+            Phase::Aborted => "aborted",
+        }
+    }
+}

@@ -1,16 +1,3 @@
 pub mod WordsTaken
 pub mod ValuesPass
 pub mod Accepted
-pub mod Pieces
-pub mod FirstLine
-pub mod Marks
-pub mod FoundInBytes
-pub mod LineWords
-pub mod WordNumbers
-pub mod PlainLines
-pub mod CommandsRead
-pub mod ReportLines
-pub mod ScriptSteps
-pub mod ReplayedBytes
-pub mod LongLines
-pub mod SeatsOut

@@ -34,7 +34,9 @@ top = record (new_app (codes "bg_switch")).top {
 
 -- the whole command line
 abbrev pub program : App
-program = with_subcommand (with_subcommand (record { top = top; subs = [] }) check_app.top) replay_app.top
+program =
+    with_subcommand (with_subcommand (record { top = top; subs = [] }) check_app.top)
+    replay_app.top
 
 -- the number that a text of digits is
 abbrev pub number : Text → ℕ
@@ -63,7 +65,8 @@ IsOrderIn words o = (fault_of program words ≡ [])
 -- memory was refused, or `clap` refuses the words with this error
 abbrev pub IsFaultIn : List Text → OrderFault → Type 0
 IsFaultIn words OutOfMemory = Unit {0}
-IsFaultIn words (Words e) = IsAmong (kind_of e) (fault_of program words) × (kind_of e ≢ kind.OutOfMemory)
+IsFaultIn words (Words e) =
+    IsAmong (kind_of e) (fault_of program words) × (kind_of e ≢ kind.OutOfMemory)
 
 -- the fault that an error of `clap` is
 abbrev pub IsFaultFrom : Error → OrderFault → Type 0

@@ -1,11 +1,2 @@
 pub mod CommandLine
-pub mod Lines
-pub mod Reading
-pub mod Parting
-pub mod Findings
-pub mod Texts
-pub mod Checks
-pub mod CommandLines
-pub mod Answers
-pub mod Reports
-pub mod Scripts
+pub mod Orders

@@ -1,29 +1,14 @@
 //! A blue-green traffic switch: the program.
 #![tactic(auto)]
 
-mod answer;
 mod carrying_out;
-mod checking;
-mod command;
 mod command_line;
-mod finding;
-mod input;
-mod line_reading;
-mod line_words;
-mod lines;
-mod open_book;
 mod orders;
-mod replaying;
-mod report;
-mod run_end;
-mod script_lines;
-mod strategy_part;
-mod texts;
 mod words;
 
-use crate::carrying_out::{check_buffered, replay_buffered};
+use crate::carrying_out::carry_out_buffered;
 use crate::orders::{Order, OrderFault};
-use crate::run_end::RunEnd;
+use bg_script::RunEnd;
 use std::env;
 use std::io::ErrorKind;
 use std::process::ExitCode;
@@ -35,10 +20,7 @@ use std::rt::Env;
 /// whose text goes to standard error; 1 where the run ends before its end, whose reason goes there.
 fn main(rt: HostRuntime) -> ExitCode {
     let run = match process_order(&rt) {
-        Ok(Order::Check) => check_buffered(rt.alloc(), &mut rt.stdin(), rt.stdout()),
-        Ok(Order::Replay { seats }) => {
-            replay_buffered(rt.alloc(), seats, &mut rt.stdin(), rt.stdout())
-        }
+        Ok(order) => carry_out_buffered(rt.alloc(), order, &mut rt.stdin(), rt.stdout()),
         Err(OrderFault::Words(error)) => {
             let _ = eprint!(rt; "{error}");
             return ExitCode::from(2);
@@ -70,6 +52,3 @@ fn process_order<R: Env + AllocGlobal>(rt: &R) -> Result<Order, OrderFault> {
     let words: Vec<&str> = texts.iter().map(|text| text.as_str()).collect(alloc)?;
     words::order(alloc, &words)
 }
-
-#[cfg(test)]
-mod tests;

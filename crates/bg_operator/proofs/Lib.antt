@@ -1,0 +1,8 @@
+pub mod Pieces
+pub mod FirstLine
+pub mod Marks
+pub mod LineWords
+pub mod WordNumbers
+pub mod PlainLines
+pub mod CommandsRead
+pub mod LongLines

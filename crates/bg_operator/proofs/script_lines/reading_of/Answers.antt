@@ -1,0 +1,6 @@
+use Rattle.bg_operator.proofs.LongLines.{orders_nothing}
+use Rattle.bg_operator.proofs.script_lines.reading_of.Goals as goal
+
+pub returns-in-TooLong : goal.returns-in-TooLong
+returns-in-TooLong c xs ys given =
+    let long = rw c.in-TooLong.is at given in (long.0, long.1, orders_nothing long.0 long.2)

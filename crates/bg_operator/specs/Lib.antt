@@ -1,0 +1,8 @@
+pub mod Lines
+pub mod Buffer
+pub mod Reading
+pub mod Taking
+pub mod Parting
+pub mod Commands
+pub mod FaultNames
+pub mod ScriptLines

@@ -1,0 +1,24 @@
+-- What an input and its reader have unread, and the next line of it.
+use Rattle.std.specs.Prelude.{◌≡◌, ℕ, ◌<◌, ◌≤◌, List, [], ◌∷◌, length, ⊤, Option, None, Some}
+use Rattle.std.specs.Io.KnownBytes.{prepend_known}
+use Rattle.bg_operator.specs.Lines.{lines_of}
+use Rattle.bg_operator.specs.declared.lines.Found.{Found}
+use Rattle.bg_operator.specs.declared.lines.Found.TheVariants.{Line, TooLong, End}
+
+-- the bytes that were read and not yet taken, and those that the reader still gives, where these are
+-- known
+abbrev pub unread : {R : Type 0} → (R → Option (List ℕ)) → List ℕ → R → Option (List ℕ)
+unread remaining input reader = prepend_known input (remaining reader)
+
+-- a fact on the bytes that were unread and those that are unread now; known bytes stay known
+abbrev pub Known : Option (List ℕ) → Option (List ℕ) → (List ℕ → List ℕ → Type 0) → Type 0
+Known None new P = ⊤
+Known (Some xs) None P = ⊥
+Known (Some xs) (Some ys) P = P xs ys
+
+-- what was found in the bytes xs, of which ys are unread then
+abbrev pub Gives : Found → List ℕ → List ℕ → List ℕ → Type 0
+Gives Line line xs ys = (lines_of xs ≡ line ∷ lines_of ys) × (length line ≤ 4096)
+Gives TooLong line xs ys =
+    (long : List ℕ) × (lines_of xs ≡ long ∷ lines_of ys) × (4096 < length long)
+Gives End line xs ys = (xs ≡ []) × (ys ≡ [])

@@ -1,0 +1,45 @@
+//! Why a line of a script gives no command.
+ghost use Rattle.std.specs.Prelude.{◌≡◌};
+ghost use Rattle.bg_operator.specs.declared.line_fault.LineFault.TheVariants as line_fault;
+
+use std::alloc::{AllocError, AllocFailed};
+use thiserror::Error;
+
+/// Why a line of a script gives no command.
+#[derive(Clone, Copy, PartialEq, Eq, Debug, Drop, Error)]
+pub enum LineFault {
+    #[error("the line is no well formed command")]
+    UnknownWord,
+    #[error("out of memory")]
+    OutOfMemory,
+}
+
+impl LineFault {
+    ghost use Rattle.bg_operator.specs.FaultNames.{line_fault_name};
+
+    /// The name of the fault: that of its variant.
+    pub fn name(&self) -> &'static str
+        ensures { result.now ≡ line_fault_name self.now }
+    {
+        match self {
+            LineFault::UnknownWord => "UnknownWord",
+            LineFault::OutOfMemory => "OutOfMemory",
+        }
+    }
+}
+
+impl From<AllocError> for LineFault {
+    ghost from_gives = { λ _ e. e ≡ line_fault.OutOfMemory };
+
+    fn from(_refused: AllocError) -> LineFault {
+        LineFault::OutOfMemory
+    }
+}
+
+impl<T: Drop> From<AllocFailed<T>> for LineFault {
+    ghost from_gives = { λ _ e. e ≡ line_fault.OutOfMemory };
+
+    fn from(_refused: AllocFailed<T>) -> LineFault {
+        LineFault::OutOfMemory
+    }
+}

@@ -1,0 +1,64 @@
+//! The lines of a script.
+ghost use Rattle.std.specs.Prelude.{◌≡◌, IfOk};
+ghost use Rattle.std.specs.Io.BufRead.{strip_last};
+ghost use Rattle.bg_operator.specs.Reading.{unread, Known, Gives};
+
+use crate::input::{Input, LineEnd, ReadFault};
+use std::io::Read;
+
+/// How many bytes a line has at most, without its end.
+pub(crate) const LONGEST_LINE: usize = 4096;
+
+/// What a reader has next.
+#[derive(Clone, Copy, Debug, Drop, PartialEq, Eq)]
+pub enum Found {
+    Line,
+    /// The line is longer than [`LONGEST_LINE`], and is passed over.
+    TooLong,
+    End,
+}
+
+impl Input {
+    /// Takes the next line. A line ends with LF, and one CR just before it belongs to the end; what
+    /// follows the last LF is a line where it has a byte. `line` is the line's bytes, without its end,
+    /// where a line is found.
+    pub fn next_line<R: Read>(
+        &mut self,
+        reader: &mut R,
+        line: &mut Vec<u8>,
+    ) -> Result<Found, ReadFault>
+        ensures { IfOk result (λ found. Known (unread R.remaining self.old reader.old)
+            (unread R.remaining self.new reader.new) (Gives found line.new.items)) }
+    {
+        // a byte more than the longest line, and its CR
+        match self.take_line(reader, line, LONGEST_LINE + 2)? {
+            LineEnd::Break => strip_return(line),
+            LineEnd::End => {
+                if line.is_empty() {
+                    return Ok(Found::End);
+                }
+            }
+            LineEnd::Room => {
+                self.skip_line(reader)?;
+                return Ok(Found::TooLong);
+            }
+        }
+        if line.len() > LONGEST_LINE {
+            return Ok(Found::TooLong);
+        }
+        Ok(Found::Line)
+    }
+}
+
+/// Takes the CR from a line's end, if it has one there.
+fn strip_return(line: &mut Vec<u8>)
+    ensures { line.new.items ≡ strip_last 13 line.old.items }
+{
+    let length = line.len();
+    if length == 0 {
+        return;
+    }
+    if line[length - 1] == b'\r' {
+        line.truncate(length - 1);
+    }
+}

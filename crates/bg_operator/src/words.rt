@@ -1,0 +1,75 @@
+//! The words of a line, and the numbers that words are.
+ghost use Rattle.std.specs.Prelude.{◌≡◌};
+ghost use Rattle.std.specs.Char.{is_ascii_digit};
+ghost use Rattle.std.specs.List.{list_all};
+ghost use Rattle.std.specs.Iterator.{YieldsFirstRef, item_count};
+ghost use Rattle.bg_operator.specs.Commands.{number_in, words_of, words_ahead};
+
+/// How many digits a number has at most.
+const MOST_DIGITS: usize = 20;
+
+/// The words of a line that are still to come. Words are separated by one or more spaces, and spaces
+/// at both ends are passed over.
+#[derive(Clone, Copy, Drop)]
+pub struct Words<'a> {
+    rest: &'a str,
+}
+
+impl<'a> Words<'a> {
+    /// All words of the line.
+    pub fn new(line: &'a str) -> Words<'a>
+        ensures { words_ahead result ≡ words_of line.now }
+    {
+        Words { rest: line }
+    }
+}
+
+impl<'a> Iterator for Words<'a> {
+    type Item = &'a str;
+
+    ghost next_gives = { YieldsFirstRef words_ahead };
+
+    ghost remaining = { item_count words_ahead };
+
+    fn next(&mut self) -> Option<&'a str> {
+        while let Some((word, rest)) = self.rest.split_once(' ') {
+            self.rest = rest;
+            if !word.is_empty() {
+                return Some(word);
+            }
+        }
+        let last = self.rest;
+        self.rest = "";
+        if last.is_empty() { None } else { Some(last) }
+    }
+}
+
+/// The number that a word is: 1 to 20 digits whose value is below 2^64.
+pub fn long_number(word: &str) -> Option<u64>
+    ensures { result ≡ number_in 64 word.now }
+{
+    if word.len() > MOST_DIGITS || !has_digits_only(word) {
+        return None;
+    }
+    word.parse::<u64>().ok()
+}
+
+/// The same, below 2^32.
+pub fn number(word: &str) -> Option<u32>
+    ensures { result ≡ number_in 32 word.now }
+{
+    u32::try_from(long_number(word)?).ok()
+}
+
+/// The same, below 2^16.
+pub fn short_number(word: &str) -> Option<u16>
+    ensures { result ≡ number_in 16 word.now }
+{
+    u16::try_from(long_number(word)?).ok()
+}
+
+fn has_digits_only(word: &str) -> bool
+    ensures { result ≡ list_all is_ascii_digit word.now }
+{
+    word.as_bytes().iter().all(|byte| byte.is_ascii_digit())
+}

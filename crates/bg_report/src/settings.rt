@@ -1,0 +1,126 @@
+//! The lines that tell what a strategy means, or why it is refused.
+ghost use Rattle.std.specs.Prelude.{◌≡◌, Some, OnOk, codes, decimal};
+ghost use Rattle.std.specs.Io.KnownBytes.{Appends};
+ghost use Rattle.bg_report.specs.Settings.{analysis_text, fault_text, name_or_dash as name_text, number_or_dash, service_text, size_text, strategy_text, timing_text};
+
+use bg_strategy::{ServiceName, Strategy, StrategyFault};
+use std::io::Write;
+use std::{fmt, io};
+
+/// Writes a line for each of the eleven settings, its name and its value (Argo Rollouts, "Rollout
+/// Specification"). Where a write fails, a part of them may be written.
+pub fn strategy_lines<W: Write>(strategy: &Strategy, writer: &mut W) -> io::Result<()>
+    ensures { OnOk result (Appends (W.contents writer.old) (W.contents writer.new)
+        (strategy_text strategy.now)) }
+{
+    write!(
+        writer,
+        "{}{}{}{}",
+        ServiceLines(strategy),
+        SizeLines(strategy),
+        TimingLines(strategy),
+        AnalysisLines(strategy)
+    )
+}
+
+/// Writes `fault KIND`, or `fault KIND FIELD` where the fault concerns a field. Where a write fails,
+/// a part of it may be written.
+pub fn fault_line<W: Write>(fault: &StrategyFault, writer: &mut W) -> io::Result<()>
+    ensures { OnOk result (Appends (W.contents writer.old) (W.contents writer.new)
+        (fault_text fault.now)) }
+{
+    let kind = fault.kind_name();
+    match fault.field() {
+        Some(field) => writeln!(writer, "fault {kind} {}", field.name()),
+        None => writeln!(writer, "fault {kind}"),
+    }
+}
+
+/// The services.
+#[derive(Drop)]
+struct ServiceLines<'a>(&'a Strategy);
+
+impl fmt::Display for ServiceLines<'_> {
+    ghost output = { λ lines. Some (service_text lines.0.now) };
+
+    fn fmt<W: fmt::Write>(&self, f: &mut fmt::Formatter<W>) -> fmt::Result {
+        let strategy = self.0;
+        writeln!(f, "activeService {}", strategy.active_service.get())?;
+        writeln!(
+            f,
+            "previewService {}",
+            name_or_dash(&strategy.preview_service)
+        )
+    }
+}
+
+/// The sizes of a revision.
+#[derive(Drop)]
+struct SizeLines<'a>(&'a Strategy);
+
+impl fmt::Display for SizeLines<'_> {
+    ghost output = { λ lines. Some (size_text lines.0.now) };
+
+    fn fmt<W: fmt::Write>(&self, f: &mut fmt::Formatter<W>) -> fmt::Result {
+        let strategy = self.0;
+        writeln!(f, "replicas {}", strategy.replicas)?;
+        writeln!(f, "previewReplicaCount {}", strategy.preview_replicas)
+    }
+}
+
+/// When a revision is promoted, scaled down and removed.
+#[derive(Drop)]
+struct TimingLines<'a>(&'a Strategy);
+
+impl fmt::Display for TimingLines<'_> {
+    ghost output = { λ lines. Some (timing_text lines.0.now) };
+
+    fn fmt<W: fmt::Write>(&self, f: &mut fmt::Formatter<W>) -> fmt::Result {
+        let strategy = self.0;
+        let limit = NumberOrDash(strategy.revision_limit);
+        writeln!(f, "autoPromotionEnabled {}", strategy.auto_promotion)?;
+        writeln!(f, "autoPromotionSeconds {}", strategy.auto_seconds)?;
+        writeln!(f, "scaleDownDelaySeconds {}", strategy.delay)?;
+        writeln!(f, "scaleDownDelayRevisionLimit {limit}")?;
+        writeln!(f, "revisionHistoryLimit {}", strategy.history_limit)
+    }
+}
+
+/// Which analyses there are.
+#[derive(Drop)]
+struct AnalysisLines<'a>(&'a Strategy);
+
+impl fmt::Display for AnalysisLines<'_> {
+    ghost output = { λ lines. Some (analysis_text lines.0.now) };
+
+    fn fmt<W: fmt::Write>(&self, f: &mut fmt::Formatter<W>) -> fmt::Result {
+        let strategy = self.0;
+        writeln!(f, "prePromotionAnalysis {}", strategy.pre)?;
+        writeln!(f, "postPromotionAnalysis {}", strategy.post)
+    }
+}
+
+/// The name of a service, or `-` where there is none.
+fn name_or_dash(name: &Option<ServiceName>) -> &str
+    ensures { result.now ≡ name_text name.now }
+{
+    match name {
+        Some(name) => name.get(),
+        None => "-",
+    }
+}
+
+/// A number, or `-` where there is none.
+#[derive(Drop)]
+struct NumberOrDash(Option<u32>);
+
+impl fmt::Display for NumberOrDash {
+    ghost output = { λ number. Some (number_or_dash number.0) };
+
+    fn fmt<W: fmt::Write>(&self, f: &mut fmt::Formatter<W>) -> fmt::Result {
+        match self.0 {
+            Some(number) => write!(f, "{number}"),
+            None => write!(f, "-"),
+        }
+    }
+}

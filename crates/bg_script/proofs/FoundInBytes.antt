@@ -1,0 +1,51 @@
+-- What is found in a part is found in the bytes that it was taken from.
+use Rattle.std.proofs.Common.{◌≡◌, ◌≢◌, ◌≤◌, ◌⊎◌, inl, inr, ℕ, List, [], ◌++◌, length, Option, None, Some, subst}
+use Rattle.std.specs.Prelude.{Result, Ok, Err, MatchResult, IfSome}
+use Rattle.std.specs.Io.KnownBytes.{Appends, prepend_known}
+use Rattle.bg_strategy.specs.Reading.{IsStrategyIn, IsFaultIn}
+use Rattle.bg_strategy.specs.declared.fault.StrategyFault.{StrategyFault}
+use Rattle.bg_strategy.specs.declared.fault.StrategyFault.TheVariants as fault
+use Rattle.bg_script.specs.declared.finding.Finding.{Finding}
+use Rattle.bg_script.specs.declared.finding.Finding.TheVariants.{Means, Refused, TooLarge}
+use Rattle.bg_script.specs.declared.run_end.RunEnd.{RunEnd}
+use Rattle.bg_script.specs.declared.run_end.RunEnd.TheVariants as run_end
+use Rattle.bg_operator.specs.declared.strategy_part.StrategyPart.{StrategyPart}
+use Rattle.bg_operator.specs.declared.strategy_part.StrategyPart.TheVariants as part
+use Rattle.bg_operator.specs.Parting.{IsWhole, largest_strategy}
+use Rattle.bg_operator.specs.Reading.{Known}
+use Rattle.bg_script.specs.Findings.{IsFinding, IsFoundIn, status_of}
+use Rattle.bg_script.specs.Findings.{finding_text}
+use Rattle.bg_script.specs.Checks.{Checks}
+
+-- a fault of the text that is not want of memory is what was found
+pub refused_found : (part : StrategyPart) (bytes : List ℕ) (e : StrategyFault) (r : Result Finding RunEnd)
+    → ((f : Finding) → f ≡ Refused e → IsFaultIn bytes e × (e ≢ fault.OutOfMemory) → IsFoundIn part f)
+    → (e ≡ fault.OutOfMemory) ⊎ IsFaultIn bytes e
+    → MatchResult r (λ f. (f ≡ Refused e) × (e ≢ fault.OutOfMemory)) (λ end. (end ≡ run_end.OutOfMemory) × (e ≡ fault.OutOfMemory))
+    → MatchResult r (IsFoundIn part) (λ end. end ≡ run_end.OutOfMemory)
+refused_found part bytes e (Ok f) found (inl memory) is = absurd (is.1 memory)
+refused_found part bytes e (Ok f) found (inr other) is = found f is.0 (other, is.1)
+refused_found part bytes e (Err end) found why is = is.0
+
+is_finding : (p : StrategyPart) (f : Finding) (xs ys : List ℕ) → IsWhole p xs ys → IsFoundIn p f → IsFinding f xs
+is_finding (part.Whole text) (Means s) xs ys whole found =
+    (subst (λ (l : List ℕ). IsStrategyIn l s) whole.0 found, subst (λ (l : List ℕ). length l ≤ largest_strategy) whole.0 whole.2)
+is_finding (part.Whole text) (Refused e) xs ys whole found =
+    (subst (λ (l : List ℕ). IsFaultIn l e) whole.0 found.0, found.1, subst (λ (l : List ℕ). length l ≤ largest_strategy) whole.0 whole.2)
+is_finding (part.Whole text) TooLarge xs ys whole found = absurd found
+is_finding part.TooLarge (Means s) xs ys whole found = absurd found
+is_finding part.TooLarge (Refused e) xs ys whole found = absurd found
+is_finding part.TooLarge TooLarge xs ys whole found = whole
+
+-- the lines of what was found in the whole input were written
+pub checks_all : (known after first last : Option (List ℕ)) (front : List ℕ) (p : StrategyPart) (f : Finding) (status : ℕ)
+    → front ≡ [] → Known (prepend_known front known) after (IsWhole p) → IsFoundIn p f
+    → Appends first last (finding_text f) → status ≡ status_of f → IfSome known (Checks first last status)
+checks_all None after first last front p f status none taken found written is = tt
+checks_all (Some xs) None first last front p f status none taken found written is = absurd taken
+checks_all (Some xs) (Some ys) first last front p f status none taken found written is = record {
+  finding = f;
+  found = subst (λ (l : List ℕ). IsFinding f (l ++ xs)) none (is_finding p f (front ++ xs) ys taken found);
+  written = written;
+  status_is = is;
+}

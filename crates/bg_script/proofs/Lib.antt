@@ -1,0 +1,4 @@
+pub mod FoundInBytes
+pub mod ScriptSteps
+pub mod ReplayedBytes
+pub mod SeatsOut

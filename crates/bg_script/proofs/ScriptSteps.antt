@@ -1,0 +1,82 @@
+-- Lemmas on the steps of a script.
+use Rattle.std.proofs.Common.{◌≡◌, ℕ, Bool, true, false, ◌||◌, List, [], ◌∷◌, inl, inr, refl, sym, ap, ◌∙◌, subst, Option, None, Some, IfSome}
+use Rattle.std.specs.Prelude.{Result}
+use Rattle.std.specs.Io.KnownBytes.{Appends}
+use Rattle.std.proofs.KnownBytes.{Appends-trans, Appends-nil}
+use Rattle.bg_operator.specs.declared.command.Command.{Command}
+use Rattle.bg_operator.specs.declared.line_fault.LineFault.{LineFault}
+use Rattle.bg_operator.specs.Lines.{lines_of}
+use Rattle.bg_operator.specs.Reading.{Known}
+use Rattle.bg_script.specs.declared.answer.Answer.TheVariants.{Opened}
+use Rattle.bg_operator.specs.ScriptLines.{NextIs}
+use Rattle.bg_script.specs.Scripts.{Stage, Written, Said, Ran, Answered, is_fault_written, has_fault, text_of}
+use Rattle.bg_script.specs.Serving.{StepRead, Served, Wrote}
+
+-- What was written since first, with answers still to be written for the bytes ys, is answers to the
+-- bytes xs.
+abbrev pub Goes : Stage → Option (List ℕ) → Option (List ℕ) → Stage → Bool → List ℕ → List ℕ → Type 0
+Goes start first now stage faulted xs ys =
+    (last : Option (List ℕ)) (later : List Written) → Answered stage (lines_of ys) later
+    → Appends now last (text_of later) → Ran start first last (faulted || has_fault later) xs
+
+or_assoc : (a b c : Bool) → (a || (b || c)) ≡ ((a || b) || c)
+or_assoc true b c = refl
+or_assoc false b c = refl
+
+or_false : (a : Bool) → (a || false) ≡ a
+or_false true = refl
+or_false false = refl
+
+-- one more line is answered
+pub goes_on : (start stage next : Stage) (first now new : Option (List ℕ)) (faulted fault : Bool) (read : Result Command LineFault) (xs ys zs : List ℕ)
+    → Goes start first now stage faulted xs ys → NextIs (Some read) ys zs → Served stage read now new next fault
+    → Goes start first new next (faulted || fault) xs zs
+goes_on start stage next first now new faulted fault read xs ys zs p line s = λ last later answers appended.
+    let more : Answered stage (lines_of ys) (s.written ∷ later) =
+    subst (λ ls. Answered stage ls (s.written ∷ later)) (sym line.1) (next, s.step line.0 line.2, answers) in
+    let all = p last (s.written ∷ later) more (Appends-trans now new last _ _ s.wrote.appended appended) in
+    let same : (faulted || (is_fault_written s.written || has_fault later)) ≡ ((faulted || fault) || has_fault later) =
+    or_assoc faulted (is_fault_written s.written) (has_fault later) ∙ ap (λ t. (faulted || t) || has_fault later) (sym s.wrote.fault_is) in
+    subst (λ (t : Bool). Ran start first last t xs) same all
+
+-- the book is opened, which is no fault
+pub goes_open : (start stage next : Stage) (first now new : Option (List ℕ)) (faulted fault : Bool) (read : Result Command LineFault) (xs ys zs : List ℕ)
+    → Goes start first now stage faulted xs ys → NextIs (Some read) ys zs → StepRead stage read (Said Opened) next → Wrote (Said Opened) now new fault
+    → Goes start first new next faulted xs zs
+goes_open start stage next first now new faulted fault read xs ys zs p line step w =
+    let same : (faulted || fault) ≡ faulted = ap (λ t. faulted || t) w.fault_is ∙ or_false faulted in
+    subst (λ (t : Bool). Goes start first new next t xs zs) same
+    (goes_on start stage next first now new faulted fault read xs ys zs p line (record { written = Said Opened; step = step; wrote = w }))
+
+-- the script ends here
+pub goes_to_end : (start stage : Stage) (first now : Option (List ℕ)) (faulted : Bool) (xs ys zs : List ℕ)
+    → Goes start first now stage faulted xs ys → NextIs None ys zs → Ran start first now faulted xs
+goes_to_end start stage first now faulted xs ys zs p ends =
+    let none : Answered stage (lines_of ys) [] = elim ends [
+      | inl empty ↦ subst (λ (l : List ℕ). Answered stage (lines_of l) []) (sym empty) tt
+      | inr quits ↦ subst (λ (l : List (List ℕ)). Answered stage l []) (sym quits.1) quits.2
+    ] in
+    subst (λ (t : Bool). Ran start first now t xs) (or_false faulted) (p now [] none (Appends-nil now))
+
+-- a run that goes on from here
+pub goes_through : (start stage : Stage) (first now last : Option (List ℕ)) (faulted later : Bool) (xs ys : List ℕ)
+    → Goes start first now stage faulted xs ys → Ran stage now last later ys → Ran start first last (faulted || later) xs
+goes_through start stage first now last faulted later xs ys p r =
+    subst (λ (t : Bool). Ran start first last (faulted || t) xs) (sym r.fault_is) (p last r.all r.answers r.appended)
+
+pub Known-some : (P Q : List ℕ → List ℕ → Type 0) (S : List ℕ → Type 0) (first old new : Option (List ℕ)) → ((xs ys zs : List ℕ) → P xs ys → Q ys zs → S xs) → Known first old P → Known old new Q → IfSome first S
+Known-some P Q S None old new f k l = tt
+Known-some P Q S (Some xs) None new f k l = absurd k
+Known-some P Q S (Some xs) (Some ys) None f k l = absurd l
+Known-some P Q S (Some xs) (Some ys) (Some zs) f k l = f xs ys zs k l
+
+pub Known-then : (P : List ℕ → List ℕ → Type 0) (Q S : List ℕ → Type 0) (first old : Option (List ℕ)) → ((xs ys : List ℕ) → P xs ys → Q ys → S xs) → Known first old P → IfSome old Q → IfSome first S
+Known-then P Q S None old f k l = tt
+Known-then P Q S (Some xs) None f k l = absurd k
+Known-then P Q S (Some xs) (Some ys) f k l = f xs ys k l
+
+pub Known-both : (P Q S : List ℕ → List ℕ → Type 0) (first old new : Option (List ℕ)) → ((xs ys zs : List ℕ) → P xs ys → Q ys zs → S xs zs) → Known first old P → Known old new Q → Known first new S
+Known-both P Q S None old new f k l = tt
+Known-both P Q S (Some xs) None new f k l = absurd k
+Known-both P Q S (Some xs) (Some ys) None f k l = absurd l
+Known-both P Q S (Some xs) (Some ys) (Some zs) f k l = f xs ys zs k l

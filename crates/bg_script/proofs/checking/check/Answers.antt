@@ -1,0 +1,7 @@
+use Rattle.bg_script.proofs.FoundInBytes.{checks_all}
+use Rattle.bg_script.proofs.checking.check.Goals as goal
+
+pub returns-in-Ok : goal.returns-in-Ok
+returns-in-Ok g c = checks_all (g.R.Read.remaining c.args.reader.now) _ _ _ c.in_ok-input.input
+    c.in_ok-part.part c.in_ok-finding.finding c.status.result
+    c.in_ok-input.ensures c.in_ok-part.ensures c.in_ok-finding.ensures c.in-Ok.ensures c.status.ensures

@@ -1,0 +1,31 @@
+use Rattle.std.proofs.Common.{◌||◌}
+use Rattle.bg_operator.specs.ScriptLines.{NextIs}
+use Rattle.bg_script.specs.Scripts.{Ran, Running}
+use Rattle.bg_script.proofs.ScriptSteps.{Goes, goes_on, goes_to_end, Known-both, Known-some}
+use Rattle.bg_script.proofs.replaying.answer_lines.Goals as goal
+
+pub loop-preserved : goal.loop-preserved
+loop-preserved g c =
+    let start = Running c.args.opened.now.book c.args.opened.now.seats.items in
+    let stage = Running c.loop.opened.book c.loop.opened.seats.items in
+    let next = Running c.serve.new.self.book c.serve.new.self.seats.items in
+    let first = g.W.Write.contents c.args.writer.now in
+    let now = g.W.Write.contents c.loop.writer in
+    let new = g.W.Write.contents c.serve.new.writer in
+    let faulted = c.loop.faulted in
+    let fault = c.in_ok-fault.fault in
+    Known-both (Goes start first now stage faulted) (NextIs c.in_ok-read.field-0) (Goes start first new next (faulted || fault)) _ _ _
+    (λ xs ys zs p q.
+    goes_on start stage next first now new faulted fault c.in-Some.read xs ys zs p (rw c.in-Some.is at q) c.in_ok-fault.ensures)
+    c.loop.invariant c.in_ok-read.ensures
+
+pub returns-in_default : goal.returns-in_default
+returns-in_default g c =
+    let start = Running c.args.opened.now.book c.args.opened.now.seats.items in
+    let stage = Running c.loop.opened.book c.loop.opened.seats.items in
+    let first = g.W.Write.contents c.args.writer.now in
+    let now = g.W.Write.contents c.loop.writer in
+    let faulted = c.loop.faulted in
+    Known-some (Goes start first now stage faulted) (NextIs c.in_ok-read.field-0) (Ran start first now faulted) _ _ _
+    (λ xs ys zs p q. goes_to_end start stage first now faulted xs ys zs p (rw c.in_default.is at q))
+    c.loop.invariant c.in_ok-read.ensures

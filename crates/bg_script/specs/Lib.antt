@@ -1,0 +1,5 @@
+pub mod Findings
+pub mod Checks
+pub mod AnswerTexts
+pub mod Scripts
+pub mod Serving

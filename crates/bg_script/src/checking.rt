@@ -1,0 +1,27 @@
+//! `check`: what a strategy means.
+ghost use Rattle.std.specs.Prelude.{IfOk, IfSome};
+ghost use Rattle.bg_script.specs.Checks.{Checks};
+
+use crate::finding::{finding_in, write_finding};
+use crate::run_end::RunEnd;
+use bg_operator::{Input, whole_input};
+use std::alloc::Global;
+use std::io::{Read, Write};
+
+/// Tells what the strategy means that the whole input is the JSON text of, by a line for each of
+/// its settings, or its first fault. Answers the exit status: 0, or 1 after a fault.
+///
+/// An input above 1,048,576 bytes is answered `fault TooLarge`, and is not read to its end. Where a
+/// read or a write fails, or memory is refused, what was written before is of no use.
+pub fn check<R: Read, W: Write>(alloc: Global, reader: &mut R, writer: &mut W) -> Result<u8, RunEnd>
+    ensures { IfOk result (λ status. IfSome (R.remaining reader.old)
+        (Checks (W.contents writer.old) (W.contents writer.new) status)) }
+{
+    let mut input = Input::new(alloc)?;
+    let part = whole_input(alloc, &mut input, reader)?;
+    let finding = finding_in(alloc, &part)?;
+    match write_finding(&finding, writer) {
+        Ok(()) => Ok(finding.status()),
+        Err(_) => Err(RunEnd::WriteFailed),
+    }
+}

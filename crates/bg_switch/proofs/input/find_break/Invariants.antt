@@ -1,7 +1,0 @@
-use Rattle.std.proofs.Common.{◌≡◌, take, false}
-use Rattle.bg_switch.specs.Lines.{has_break}
-use Rattle.bg_switch.proofs.input.find_break.Given as goal
-
--- no break was met so far
-abbrev pub invariant-loop-i : goal.invariant-loop-i
-invariant-loop-i l = has_break (take l.i l.bytes) ≡ false
