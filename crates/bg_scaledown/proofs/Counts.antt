@@ -43,7 +43,7 @@ count-except_member p x (y ∷ ys) distinct within =
     grind (arith, nat_tests, count-except_absent p x ys, count-except_member p x ys distinct.1, distinct.0)
 
 -- what is never true is false
-is_false : (b : Bool) → (b ≡ true → ⊥) → b ≡ false
+pub is_false : (b : Bool) → (b ≡ true → ⊥) → b ≡ false
 is_false true never = absurd (never refl)
 is_false false never = refl
 

@@ -1,4 +1,4 @@
-pub mod Smaller
+pub mod Least
 pub mod Room
 pub mod Filters
 pub mod Counts

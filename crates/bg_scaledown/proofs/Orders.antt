@@ -6,23 +6,23 @@ use Rattle.bg_history.specs.Turns.{moment}
 use Rattle.bg_history.specs.Selections.{active_of}
 use Rattle.bg_history.specs.Marks.{MarkKind, Left, Superseded, Cleared, kind_of}
 use Rattle.bg_scaledown.specs.declared.mark.Cause.TheVariants as cause
-use Rattle.bg_scaledown.specs.Due.{is_left}
+use Rattle.bg_scaledown.specs.Due.{has_left}
 use Rattle.bg_scaledown.specs.Past.{Stamp, stamp_at, others, stamped, touched, stamp_all, stamps_of}
 use Rattle.bg_scaledown.proofs.Filters.{filter-swap, filter-twice}
 
 -- the stamp is of a revision that left
-abbrev pub has_left : Stamp → Bool
-has_left stamp = is_left stamp.mark.cause
+abbrev pub stamp_has_left : Stamp → Bool
+stamp_has_left stamp = has_left stamp.mark.cause
 
 -- of the stamps, each that left did so before that many entries stood
 abbrev pub LeftBefore : ℕ → List Stamp → Type 0
 LeftBefore stood [] = Unit {0}
-LeftBefore stood (stamp ∷ stamps) = (has_left stamp ≡ true → stamp.stood < stood) × LeftBefore stood stamps
+LeftBefore stood (stamp ∷ stamps) = (stamp_has_left stamp ≡ true → stamp.stood < stood) × LeftBefore stood stamps
 
 -- of the stamps that left, the later ones stand in front
 abbrev pub Ordered : List Stamp → Type 0
 Ordered [] = Unit {0}
-Ordered (stamp ∷ stamps) = (has_left stamp ≡ true → LeftBefore stamp.stood stamps) × Ordered stamps
+Ordered (stamp ∷ stamps) = (stamp_has_left stamp ≡ true → LeftBefore stamp.stood stamps) × Ordered stamps
 
 -- what left before fewer entries stood left before more did
 left_before-more : (low high : ℕ) (stamps : List Stamp) → low ≤ high → LeftBefore low stamps → LeftBefore high stamps
@@ -30,7 +30,7 @@ left_before-more low high [] le h = tt
 left_before-more low high (stamp ∷ stamps) le h = ((λ left. let lt : stamp.stood < low = h.0 left in omega arith), left_before-more low high stamps le h.1)
 
 -- one more stamp, where a test holds
-left_before-cond : (b : Bool) (low : ℕ) (stamp : Stamp) (stamps : List Stamp) → (has_left stamp ≡ true → stamp.stood < low) → LeftBefore low stamps → LeftBefore low (cond b (stamp ∷ stamps) stamps)
+left_before-cond : (b : Bool) (low : ℕ) (stamp : Stamp) (stamps : List Stamp) → (stamp_has_left stamp ≡ true → stamp.stood < low) → LeftBefore low stamps → LeftBefore low (cond b (stamp ∷ stamps) stamps)
 left_before-cond true low stamp stamps here h = (here, h)
 left_before-cond false low stamp stamps here h = h
 
@@ -40,7 +40,7 @@ left_before-others low q [] h = tt
 left_before-others low q (stamp ∷ stamps) h = left_before-cond (not (stamp.mark.revision == q)) low stamp (others q stamps) h.0 (left_before-others low q stamps h.1)
 
 -- so does the order
-ordered-cond : (b : Bool) (stamp : Stamp) (stamps : List Stamp) → (has_left stamp ≡ true → LeftBefore stamp.stood stamps) → Ordered stamps → Ordered (cond b (stamp ∷ stamps) stamps)
+ordered-cond : (b : Bool) (stamp : Stamp) (stamps : List Stamp) → (stamp_has_left stamp ≡ true → LeftBefore stamp.stood stamps) → Ordered stamps → Ordered (cond b (stamp ∷ stamps) stamps)
 ordered-cond true stamp stamps here h = (here, h)
 ordered-cond false stamp stamps here h = h
 

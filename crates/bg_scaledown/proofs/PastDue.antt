@@ -25,10 +25,10 @@ mark_of-stamps r (stamp ∷ stamps) = go (stamp.mark.revision == r) r stamp stam
   go false r stamp stamps h = h
 
 -- the time of a revision's stamp is the deadline that its newest mark gives
-time-live : (s : Strategy) (r : ℕ) (m : Option Mark) → option_map (due.time_of s.delay) (option_map (λ stamp. stamp.mark) (live r m)) ≡ history.deadline_of s m
+time-live : (s : Strategy) (r : ℕ) (m : Option Mark) → option_map (due.time_after s.delay) (option_map (λ stamp. stamp.mark) (live r m)) ≡ history.deadline_of s m
 time-live s r None = refl
 time-live s r (Some m) = go m.kind m.moment m.stood where
-  go : (k : MarkKind) (at stood : ℕ) → option_map (due.time_of s.delay) (option_map (λ stamp. stamp.mark) (live r (Some (record { kind = k; moment = at; stood = stood })))) ≡ history.time_of s k at
+  go : (k : MarkKind) (at stood : ℕ) → option_map (due.time_after s.delay) (option_map (λ stamp. stamp.mark) (live r (Some (record { kind = k; moment = at; stood = stood })))) ≡ history.time_of s k at
   go Left at stood = refl
   go Superseded at stood = refl
   go Cleared at stood = refl
@@ -36,7 +36,7 @@ time-live s r (Some m) = go m.kind m.moment m.stood where
 -- the table's deadlines are the past's
 pub deadline-is_deadline : (s : Strategy) (r : ℕ) (past : List Entry) → due.deadline_in (table_of s past) r ≡ history.deadline s r past
 deadline-is_deadline s r past =
-    ap (option_map (due.time_of s.delay)) (mark_of-stamps r (stamps_of past) ∙ ap (option_map (λ stamp. stamp.mark)) (stamp_of-past r past))
+    ap (option_map (due.time_after s.delay)) (mark_of-stamps r (stamps_of past) ∙ ap (option_map (λ stamp. stamp.mark)) (stamp_of-past r past))
     ∙ time-live s r (mark r past)
 
 stamp_of-member : (r : ℕ) (stamps : List Stamp) (me : Stamp) → stamp_of r stamps ≡ Some me → member r (revisions stamps) ≡ true
@@ -50,7 +50,7 @@ due-none s r past none no_mark = rw (mark_of-stamps r (stamps_of past), none, no
 
 -- one with a stamp is due where its mark is
 due-some : (s : Strategy) (r : ℕ) (past : List Entry) (me : Stamp) → StampsStand s past → stamp_of r (stamps_of past) ≡ Some me
-    → history.marks_due s (mark r past) past ≡ due.mark_is_due (table_of s past) (moment past) (due.rank_of (selected_of past) r (marks_of (stamps_of past))) me.mark
+    → history.marks_due s (mark r past) past ≡ due.mark_is_due (table_of s past) (moment past) (due.rank_among (selected_of past) r (marks_of (stamps_of past))) me.mark
     → due.is_due_in (table_of s past) r (moment past) (selected_of past) ≡ history.is_due s r past
 due-some s r past me stands here same =
     let within : member r (revisions (stamps_of past)) ≡ true = stamp_of-member r (stamps_of past) me here in

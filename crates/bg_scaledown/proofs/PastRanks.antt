@@ -12,14 +12,14 @@ use Rattle.bg_scaledown.specs.Due.{one_if, rank_in}
 use Rattle.bg_scaledown.specs.Past.{Stamp, stamp_of, stamps_of, marks_of}
 use Rattle.bg_scaledown.proofs.Counts.{count, member, Distinct, count-same}
 use Rattle.bg_scaledown.proofs.Lookups.{live, stamp_of-past}
-use Rattle.bg_scaledown.proofs.Orders.{has_left, stamps-ordered}
+use Rattle.bg_scaledown.proofs.Orders.{stamp_has_left, stamps-ordered}
 use Rattle.bg_scaledown.proofs.Once.{revisions, stamps-distinct}
 use Rattle.bg_scaledown.proofs.Ranks.{later, rank_in-is_later}
 
 -- the stamp left after that many entries
 abbrev pub stamp_later : ℕ → Option Stamp → Bool
 stamp_later stood None = false
-stamp_later stood (Some stamp) = has_left stamp && nat_lt stood stamp.stood
+stamp_later stood (Some stamp) = stamp_has_left stamp && nat_lt stood stamp.stood
 
 -- the revision is counted, and its stamp left after that many entries
 abbrev pub by_stamp : (ℕ → Bool) → ℕ → List Stamp → ℕ → Bool
@@ -76,7 +76,7 @@ pub record StampsStand (s : Strategy) (past : List Entry) : Type 0 where
   pub distinct : Distinct (existing past)
 
 -- the rank in the table is the number of spare revisions that left later
-pub rank_in-is_rank : (s : Strategy) (r : ℕ) (past : List Entry) (me : Stamp) → StampsStand s past → stamp_of r (stamps_of past) ≡ Some me → has_left me ≡ true
+pub rank_in-is_rank : (s : Strategy) (r : ℕ) (past : List Entry) (me : Stamp) → StampsStand s past → stamp_of r (stamps_of past) ≡ Some me → stamp_has_left me ≡ true
     → rank_in (λ q. not (is_selected q past)) r (marks_of (stamps_of past)) ≡ rank_after s me.stood past
 rank_in-is_rank s r past me stands here left =
     let spare : ℕ → Bool = λ q. is_spare s q past in

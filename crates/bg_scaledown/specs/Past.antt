@@ -8,15 +8,15 @@ use Rattle.bg_history.specs.Turns.{moment, stable_of, newest_of}
 use Rattle.bg_history.specs.Selections.{active_of, preview_of}
 use Rattle.bg_history.specs.Marks.{MarkKind, Left, Superseded, Cleared, kind_of}
 use Rattle.bg_strategy.specs.declared.strategy.Strategy.{Strategy}
-use Rattle.bg_scaledown.specs.declared.mark.Mark.{Mark}
+use Rattle.bg_scaledown.specs.declared.mark.RevisionMark.{RevisionMark}
 use Rattle.bg_scaledown.specs.declared.mark.Cause.{Cause}
 use Rattle.bg_scaledown.specs.declared.mark.Cause.TheVariants as cause
-use Rattle.bg_scaledown.specs.declared.mark.Selected.{Selected}
+use Rattle.bg_revisions.specs.declared.revision.Selectors.{Selectors}
 use Rattle.bg_scaledown.specs.Tables.{Table}
 
 -- a mark, and how many entries stood before the one that made it, which tells what came later
 pub record Stamp : Type 0 where
-  pub mark : Mark
+  pub mark : RevisionMark
   pub stood : ℕ
 
 -- a stamp by its parts
@@ -71,7 +71,7 @@ stamps_of [] = []
 stamps_of (e ∷ before) = stamp_all e before (touched e before) (stamps_of before)
 
 -- their marks
-abbrev pub marks_of : List Stamp → List Mark
+abbrev pub marks_of : List Stamp → List RevisionMark
 marks_of [] = []
 marks_of (stamp ∷ stamps) = stamp.mark ∷ marks_of stamps
 
@@ -83,10 +83,11 @@ table_of s past = record {
   marks = marks_of (stamps_of past);
 }
 
--- the revisions that are selected after a past
-abbrev pub selected_of : List Entry → Selected
+-- the revisions that are active, preview, stable and newest after a past
+abbrev pub selected_of : List Entry → Selectors
 selected_of past = record {
   active = active_of past;
   preview = preview_of past;
   stable = stable_of past;
+  newest = newest_of past;
 }

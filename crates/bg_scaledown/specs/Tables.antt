@@ -1,9 +1,9 @@
 -- What the deadlines are, as contracts see them.
 use Rattle.std.specs.Prelude.{ℕ, List, Option}
-use Rattle.bg_scaledown.specs.declared.mark.Mark.{Mark}
+use Rattle.bg_scaledown.specs.declared.mark.RevisionMark.{RevisionMark}
 
 -- the last mark of each revision, the newest first, with the delay and the limit
 pub record Table : Type 0 where
   pub delay : ℕ
   pub limit : Option ℕ
-  pub marks : List Mark
+  pub marks : List RevisionMark

@@ -1,15 +1,18 @@
-//! The deadlines of the revisions that were left or superseded.
+//! The deadlines of the revisions that left the active service or were superseded.
 ghost use Rattle.std.specs.Prelude.{◌≡◌, ◌≤◌, ◌<◌, ◌^◌, ℕ, Bool, true, [], ◌∷◌, length};
-ghost use Rattle.bg_scaledown.specs.Due.{least_due, smaller, without, has_room_for, time_of, deadline_in, is_due_in};
+ghost use Rattle.bg_scaledown.specs.Due.{marks_without, has_room_for, time_after, deadline_in};
+ghost use Rattle.bg_scaledown.specs.Due.{exempts, is_due_in, IsLeastDue};
 ghost use Rattle.bg_scaledown.specs.declared.mark.Cause.TheVariants.{Left, Superseded};
 
-use crate::mark::{Cause, Mark, Selected};
+use crate::mark::{Cause, RevisionMark};
 use crate::marks::{MOST_MARKS, Marks};
+use bg_revisions::Selectors;
 use std::marker::Model;
 
-/// The last mark of each revision that was left or superseded, in the order of the calls, with the delay
-/// and the limit of the strategy (Argo Rollouts, "BlueGreen Deployment Strategy": `scaleDownDelaySeconds`
-/// and `scaleDownDelayRevisionLimit`). Contracts see the newest mark first.
+/// The last mark of each revision that left the active service or was superseded, in the order of
+/// the calls, with the delay and the limit of the strategy (Argo Rollouts, "BlueGreen Deployment
+/// Strategy": `scaleDownDelaySeconds` and `scaleDownDelayRevisionLimit`). Contracts see the newest
+/// mark first.
 ///
 /// No call takes memory.
 #[derive(Drop)]
@@ -53,31 +56,40 @@ impl Deadlines {
     pub fn left_active(&mut self, revision: u64, now: u64)
         requires room { has_room_for revision self.old.marks ≡ true }
         requires moment { now ≤ 2 ^ 53 }
-        ensures { self.new ≡ record self.old
-            { marks = record { revision = revision; cause = Left; moment = now } ∷ without revision self.old.marks } }
+        ensures { self.new ≡ record self.old {
+          marks = record { revision = revision; cause = Left; moment = now }
+              ∷ marks_without revision self.old.marks;
+        } }
     {
-        self.marks = marked(
-            self.marks.as_slice(),
-            Mark {
-                revision,
-                cause: Cause::Left,
-                moment: now,
-            },
-        );
+        self.set_mark(revision, Cause::Left, now);
     }
 
     /// A deploy took the place of the revision, which wasn't active.
     pub fn superseded(&mut self, revision: u64, now: u64)
         requires room { has_room_for revision self.old.marks ≡ true }
         requires moment { now ≤ 2 ^ 53 }
-        ensures { self.new ≡ record self.old
-            { marks = record { revision = revision; cause = Superseded; moment = now } ∷ without revision self.old.marks } }
+        ensures { self.new ≡ record self.old {
+          marks = record { revision = revision; cause = Superseded; moment = now }
+              ∷ marks_without revision self.old.marks;
+        } }
+    {
+        self.set_mark(revision, Cause::Superseded, now);
+    }
+
+    /// The last mark of the revision is now one of this cause.
+    fn set_mark(&mut self, revision: u64, cause: Cause, now: u64)
+        requires room { has_room_for revision self.old.marks ≡ true }
+        requires moment { now ≤ 2 ^ 53 }
+        ensures { self.new ≡ record self.old {
+          marks = record { revision = revision; cause = cause; moment = now }
+              ∷ marks_without revision self.old.marks;
+        } }
     {
         self.marks = marked(
             self.marks.as_slice(),
-            Mark {
+            RevisionMark {
                 revision,
-                cause: Cause::Superseded,
+                cause,
                 moment: now,
             },
         );
@@ -85,13 +97,13 @@ impl Deadlines {
 
     /// The revision has no deadline any more.
     pub fn clear(&mut self, revision: u64)
-        ensures { self.new ≡ record self.old { marks = without revision self.old.marks } }
+        ensures { self.new ≡ record self.old { marks = marks_without revision self.old.marks } }
     {
         self.marks = others(self.marks.as_slice(), revision);
     }
 
-    /// The moment from which the revision may be scaled down: that of its mark, and where it left the
-    /// active service the delay more. None where it has no mark.
+    /// The moment from which the revision may be scaled down: that of its mark, and where it left
+    /// the active service the delay more. None where it has no mark.
     pub fn deadline(&self, revision: u64) -> Option<u64>
         ensures { result ≡ deadline_in self.now revision }
     {
@@ -103,12 +115,13 @@ impl Deadlines {
         None
     }
 
-    /// Whether the revision may be scaled down: it isn't selected, and its deadline has come, or it left
-    /// the active service and at least as many as the limit, not selected, left after it.
-    pub fn is_due(&self, revision: u64, now: u64, exempt: Selected) -> bool
+    /// Whether the revision may be scaled down: it isn't exempt, and its deadline has come, or it
+    /// left the active service and at least as many as the limit, not exempt, left after it. Exempt
+    /// are the active, the preview and the stable revision; `exempt.newest` isn't read.
+    pub fn is_due(&self, revision: u64, now: u64, exempt: Selectors) -> bool
         ensures { result ≡ is_due_in self.now revision now exempt }
     {
-        if exempt.has(revision) {
+        if exempts(exempt, revision) {
             return false;
         }
         let mut rank: u64 = 0;
@@ -116,42 +129,39 @@ impl Deadlines {
             if mark.revision == revision {
                 let time = time_after(self.delay, *mark);
                 return time <= now
-                    || (mark.cause.is_left()
+                    || (mark.cause.has_left()
                         && self.limit.is_some_and(|limit| limit as u64 <= rank));
             }
-            if mark.cause.is_left() && !exempt.has(mark.revision) {
+            if mark.cause.has_left() && !exempts(exempt, mark.revision) {
                 rank += 1;
             }
         }
         false
     }
 
-    #[tactic(auto, using(crate::proofs::Smaller::smaller_none, crate::proofs::Smaller::smaller_step))]
-    /// The least number of a revision that may be scaled down and for which `empty` says true.
-    pub fn next_due<F: Fn(u64) -> bool>(&self, now: u64, exempt: Selected, empty: F) -> Option<u64>
+    /// The least number of a revision that is due and for which `empty` says true; none where no
+    /// revision is due and empty.
+    pub fn next_due<F: Fn(u64) -> bool>(&self, now: u64, exempt: Selectors, empty: F) -> Option<u64>
         requires { F.IsAlwaysCallable empty }
+        // `p` is the test that `empty` computes.
         ensures { (p : ℕ → Bool) → ((x : ℕ) (r : Bool) → F.post empty x r → r ≡ p x)
-            → result ≡ least_due self.now now exempt p self.now.marks }
+            → IsLeastDue self.now now exempt p result }
     {
-        let mut least: Option<u64> = None;
-        for mark in self.marks.as_slice() {
-            let found = if self.is_due(mark.revision, now, exempt) && empty(mark.revision) {
-                Some(mark.revision)
-            } else {
-                None
-            };
-            least = smaller_of(least, found);
-        }
-        least
+        self.marks
+            .as_slice()
+            .iter()
+            .map(|mark| mark.revision)
+            .filter(|revision| self.is_due(*revision, now, exempt) && empty(*revision))
+            .min()
     }
 }
 
 /// The moment from which a mark's revision may be scaled down.
-fn time_after(delay: u32, mark: Mark) -> u64
+fn time_after(delay: u32, mark: RevisionMark) -> u64
     requires { mark.moment ≤ 2 ^ 53 }
-    ensures { result ≡ time_of delay mark }
+    ensures { result ≡ time_after delay mark }
 {
-    if mark.cause.is_left() {
+    if mark.cause.has_left() {
         mark.moment + delay as u64
     } else {
         mark.moment
@@ -159,9 +169,9 @@ fn time_after(delay: u32, mark: Mark) -> u64
 }
 
 /// The marks of other revisions.
-fn others(marks: &[Mark], revision: u64) -> Marks
+fn others(marks: &[RevisionMark], revision: u64) -> Marks
     requires { length marks.now ≤ 64 }
-    ensures { result ≡ without revision marks.now }
+    ensures { result ≡ marks_without revision marks.now }
 {
     let mut kept = Marks::new();
     for mark in marks {
@@ -173,10 +183,10 @@ fn others(marks: &[Mark], revision: u64) -> Marks
 }
 
 /// The mark in front of those of other revisions.
-fn marked(marks: &[Mark], newest: Mark) -> Marks
+fn marked(marks: &[RevisionMark], newest: RevisionMark) -> Marks
     requires few { length marks.now ≤ 64 }
-    requires room { length (without newest.revision marks.now) < 64 }
-    ensures { result ≡ newest ∷ without newest.revision marks.now }
+    requires room { length (marks_without newest.revision marks.now) < 64 }
+    ensures { result ≡ newest ∷ marks_without newest.revision marks.now }
 {
     let mut kept = Marks::new();
     kept.push(newest);
@@ -188,13 +198,9 @@ fn marked(marks: &[Mark], newest: Mark) -> Marks
     kept
 }
 
-/// The smaller number, where both are there.
-fn smaller_of(a: Option<u64>, b: Option<u64>) -> Option<u64>
-    ensures { result ≡ smaller a b }
+/// Whether the revision is active, preview or stable.
+fn exempts(selectors: Selectors, revision: u64) -> bool
+    ensures { result ≡ exempts selectors revision }
 {
-    match (a, b) {
-        (None, _) => b,
-        (_, None) => a,
-        (Some(x), Some(y)) => if x <= y { Some(x) } else { Some(y) },
-    }
+    revision == selectors.active || revision == selectors.preview || revision == selectors.stable
 }

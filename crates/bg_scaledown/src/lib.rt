@@ -8,4 +8,4 @@ mod marks;
 mod tests;
 
 pub use deadlines::Deadlines;
-pub use mark::{Cause, Mark, Selected};
+pub use mark::{Cause, RevisionMark};

@@ -1,6 +1,6 @@
 //! What became of a revision.
-ghost use Rattle.std.specs.Prelude.{◌≡◌, ◌||◌, ◌==◌};
-ghost use Rattle.bg_scaledown.specs.Due.{is_left as is_left_in, exempts};
+ghost use Rattle.std.specs.Prelude.{◌≡◌};
+ghost use Rattle.bg_scaledown.specs.Due.{has_left};
 
 /// Why a revision has a deadline.
 #[derive(Clone, Copy, PartialEq, Eq, Debug, Drop)]
@@ -13,7 +13,7 @@ pub enum Cause {
 
 /// The last mark of a revision.
 #[derive(Clone, Copy, PartialEq, Eq, Debug, Drop)]
-pub struct Mark {
+pub struct RevisionMark {
     /// The number of the revision.
     pub revision: u64,
     pub cause: Cause,
@@ -21,34 +21,14 @@ pub struct Mark {
     pub moment: u64,
 }
 
-/// The numbers of the revisions that are selected, which are never due.
-#[derive(Clone, Copy, PartialEq, Eq, Debug, Drop)]
-pub struct Selected {
-    /// The revision that the active service selects.
-    pub active: u64,
-    /// The revision that the preview service selects.
-    pub preview: u64,
-    /// The revision that was last promoted.
-    pub stable: u64,
-}
-
 impl Cause {
     /// Whether the revision left the active service.
-    pub fn is_left(self) -> bool
-        ensures { result ≡ is_left_in self }
+    pub(crate) fn has_left(self) -> bool
+        ensures { result ≡ has_left self }
     {
         match self {
             Cause::Left => true,
             Cause::Superseded => false,
         }
-    }
-}
-
-impl Selected {
-    /// Whether the revision is selected.
-    pub fn has(self, revision: u64) -> bool
-        ensures { result ≡ exempts self revision }
-    {
-        revision == self.active || revision == self.preview || revision == self.stable
     }
 }

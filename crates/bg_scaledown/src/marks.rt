@@ -1,13 +1,13 @@
 //! A fixed table of marks.
 ghost use Rattle.std.specs.Prelude.{◌≡◌, ◌<◌, ◌≤◌, [], ◌∷◌, ◌++◌, length};
 
-use crate::mark::{Cause, Mark};
+use crate::mark::{Cause, RevisionMark};
 use std::marker::Model;
 
 /// The most marks that a table holds: one for each revision.
 pub const MOST_MARKS: usize = 64;
 
-const NO_MARK: Mark = Mark {
+const NO_MARK: RevisionMark = RevisionMark {
     revision: 0,
     cause: Cause::Superseded,
     moment: 0,
@@ -16,15 +16,15 @@ const NO_MARK: Mark = Mark {
 /// At most 64 marks in a table of fixed size, which contracts see as a list.
 #[derive(Drop)]
 pub struct Marks {
-    table: [Mark; MOST_MARKS],
+    table: [RevisionMark; MOST_MARKS],
     count: usize,
 }
 
 impl Model for Marks {
     ghost use Rattle.std.specs.Prelude.{◌≤◌, List, take};
-    ghost use Rattle.bg_scaledown.specs.declared.mark.Mark.{Mark};
+    ghost use Rattle.bg_scaledown.specs.declared.mark.RevisionMark.{RevisionMark};
 
-    ghost Value = { List Mark };
+    ghost Value = { List RevisionMark };
 
     ghost view = { λ m. take m.count m.table };
 
@@ -43,7 +43,7 @@ impl Marks {
     }
 
     /// Adds a mark at the end.
-    pub fn push(&mut self, mark: Mark)
+    pub fn push(&mut self, mark: RevisionMark)
         requires { length self.old < 64 }
         ensures { self.new ≡ self.old ++ mark ∷ [] }
     {
@@ -52,7 +52,7 @@ impl Marks {
     }
 
     /// The marks in order.
-    pub fn as_slice(&self) -> &[Mark]
+    pub fn as_slice(&self) -> &[RevisionMark]
         ensures marks { result.now ≡ self.now }
         ensures few { length result.now ≤ 64 }
     {

@@ -1,16 +1,17 @@
 //! The deadlines beside a plain list of marks.
 
 use crate::deadlines::Deadlines;
-use crate::mark::Selected;
+use bg_revisions::Selectors;
 use std::alloc::AllocError;
 use std::process::Abort;
 use std::test::Fail;
 
 /// None of the revisions is selected.
-const NOBODY: Selected = Selected {
+const NOBODY: Selectors = Selectors {
     active: 0,
     preview: 0,
     stable: 0,
+    newest: 0,
 };
 
 /// A mark of the plain list.
@@ -50,7 +51,7 @@ impl PlainList {
         Some(mark.moment.saturating_add(wait))
     }
 
-    fn is_due(&self, revision: u64, now: u64, exempt: Selected) -> bool {
+    fn is_due(&self, revision: u64, now: u64, exempt: Selectors) -> bool {
         if is_exempt(revision, exempt) {
             return false;
         }
@@ -69,12 +70,12 @@ impl PlainList {
     }
 }
 
-fn is_exempt(revision: u64, exempt: Selected) -> bool {
+fn is_exempt(revision: u64, exempt: Selectors) -> bool {
     revision == exempt.active || revision == exempt.preview || revision == exempt.stable
 }
 
 /// Sees that both answer alike for each of the revisions 1 to 12.
-fn compare(rt: &impl Abort, deadlines: &Deadlines, plain: &PlainList, now: u64, exempt: Selected) {
+fn compare(rt: &impl Abort, deadlines: &Deadlines, plain: &PlainList, now: u64, exempt: Selectors) {
     let mut least: Option<u64> = None;
     for revision in 1..13u64 {
         assert_eq!(rt;
@@ -131,10 +132,11 @@ fn agrees_with_a_plain_list(rt: HostRuntime) -> Result<(), Fail> {
                     plain.add(revision, true, now)?;
                 }
             }
-            let exempt = Selected {
+            let exempt = Selectors {
                 active: (draw >> 20) % 13,
                 preview: (draw >> 24) % 13,
                 stable: (draw >> 28) % 13,
+                newest: 0,
             };
             compare(&rt, &deadlines, &plain, now, exempt);
         }
@@ -190,10 +192,11 @@ fn ties_go_by_number(rt: HostRuntime) {
     deadlines.clear(2);
     assert_eq!(rt; deadlines.deadline(2), None);
     assert_eq!(rt; deadlines.next_due(35, NOBODY, |_| true), Some(4));
-    let exempt = Selected {
+    let exempt = Selectors {
         active: 4,
         preview: 9,
         stable: 4,
+        newest: 0,
     };
     assert_eq!(rt; deadlines.next_due(35, exempt, |_| true), Some(7));
 }

@@ -1,9 +1,9 @@
 use Rattle.std.proofs.Common.{◌≡◌, ◌+◌, ◌≤◌, drop}
-use Rattle.bg_scaledown.specs.Due.{mark_of, rank_of}
+use Rattle.bg_scaledown.specs.Due.{mark_of, rank_among}
 use Rattle.bg_scaledown.proofs.deadlines.Deadlines.is_due.Given as goal
 
 abbrev pub invariant-loop-mark : goal.invariant-loop-mark
 invariant-loop-mark l =
     (mark_of l.revision (drop l.mark-index l.mark-items) ≡ mark_of l.revision l.mark-items)
-    × (l.rank + rank_of l.exempt l.revision (drop l.mark-index l.mark-items) ≡ rank_of l.exempt l.revision l.mark-items)
+    × (l.rank + rank_among l.exempt l.revision (drop l.mark-index l.mark-items) ≡ rank_among l.exempt l.revision l.mark-items)
     × (l.rank ≤ l.mark-index)
