@@ -4,8 +4,6 @@
 //! book. What it keeps running is what its history says (`specs/`), after every call.
 #![tactic(auto)]
 
-#[cfg(test)]
-mod ample_memory;
 mod book;
 mod calls;
 mod control;
@@ -19,8 +17,6 @@ mod opening;
 mod readers;
 mod run;
 mod seat;
-#[cfg(test)]
-mod tests;
 
 pub use book::Book;
 pub use calls::{Call, Control, Left, Reply, Ticket};

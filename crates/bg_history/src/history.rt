@@ -1,11 +1,6 @@
 //! The list of entries.
 ghost use Rattle.std.specs.Prelude.{◌≡◌, ◌+◌, ◌<◌, ◌≤◌, ◌∷◌, [], IfOk, OnOk, OnErr, slice_get, slice_index, length, reverse, option_map, replicate};
 
-#[cfg(test)]
-mod ample_memory;
-#[cfg(test)]
-mod tests;
-
 use crate::entry::Entry;
 use bg_revisions::{Name, Ports};
 use std::alloc::{AllocError, Global};

@@ -25,4 +25,11 @@ pub record AreAllFor {X : Type 0} (names : Ghosts X) (blanks : Blanks) : Type 0 
 -- the blanks of an index
 abbrev pub blanks_at : ℕ → Blanks → SeatBlanks
 blanks_at i b =
-    if i == 0 then b.first else if i == 1 then b.second else if i == 2 then b.third else if i == 3 then b.fourth else if i == 4 then b.fifth else if i == 5 then b.sixth else if i == 6 then b.seventh else b.eighth
+    if i == 0 then b.first
+    else if i == 1 then b.second
+    else if i == 2 then b.third
+    else if i == 3 then b.fourth
+    else if i == 4 then b.fifth
+    else if i == 5 then b.sixth
+    else if i == 6 then b.seventh
+    else b.eighth

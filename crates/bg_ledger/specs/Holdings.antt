@@ -8,13 +8,13 @@ abbrev pub fresh : ℕ → Holding
 fresh index = record { index = index; calls = 0; number = 0; revision = 0; port = 0 }
 
 -- one more call is answered, and this request is in hand
-abbrev pub entered : Holding → ℕ → ℕ → ℕ → Holding
-entered before number revision port =
+abbrev pub occupied : Holding → ℕ → ℕ → ℕ → Holding
+occupied before number revision port =
     record before { calls = before.calls + 1; number = number; revision = revision; port = port }
 
 -- one more call is answered, and no request is in hand
-abbrev pub left : Holding → Holding
-left before = record before { calls = before.calls + 1; number = 0; revision = 0; port = 0 }
+abbrev pub vacated : Holding → Holding
+vacated before = record before { calls = before.calls + 1; number = 0; revision = 0; port = 0 }
 
 -- what holds of every seat: a seat that is in has room for one more call, and one that is out has
 -- nothing in hand

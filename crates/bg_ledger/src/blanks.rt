@@ -1,4 +1,4 @@
-// New ledgers, with which a function over `Names` is called.
+//! New ledgers, with which a function over `Names` is called.
 ghost use Rattle.std.specs.Prelude.{◌≡◌, ◌≢◌, ◌<◌, ℕ};
 
 use std::mem::replace;
@@ -7,9 +7,13 @@ use std::sync::ledger::Blank;
 /// New ledgers for the four quantities of one index. Each has two parts, one for each side.
 #[derive(Drop)]
 pub struct SeatBlanks {
+    /// For the ledger of the calls.
     pub calls: Blank,
+    /// For that of the request numbers.
     pub number: Blank,
+    /// For that of the revision numbers.
     pub revision: Blank,
+    /// For that of the ports.
     pub port: Blank,
     pub ghost two_parts: { (calls.parts ≡ 2) × (number.parts ≡ 2) × (revision.parts ≡ 2)
         × (port.parts ≡ 2) },
@@ -18,13 +22,21 @@ pub struct SeatBlanks {
 /// New ledgers for all eight indices, first to eighth. They take no bytes.
 #[derive(Drop)]
 pub struct Blanks {
+    /// For index 0.
     pub first: SeatBlanks,
+    /// For index 1.
     pub second: SeatBlanks,
+    /// For index 2.
     pub third: SeatBlanks,
+    /// For index 3.
     pub fourth: SeatBlanks,
+    /// For index 4.
     pub fifth: SeatBlanks,
+    /// For index 5.
     pub sixth: SeatBlanks,
+    /// For index 6.
     pub seventh: SeatBlanks,
+    /// For index 7.
     pub eighth: SeatBlanks,
 }
 
@@ -57,7 +69,7 @@ impl Blanks {
         }
     }
 
-    /// Takes out the blanks of this index, and leaves new ones in their place.
+    /// Takes out the blanks of this index, 0 to 7, and leaves new ones in their place.
     pub fn take(&mut self, index: u32) -> SeatBlanks
         requires { index < 8 }
         ensures taken { result ≡ blanks_at index self.old }

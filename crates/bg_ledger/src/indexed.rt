@@ -1,5 +1,5 @@
-// The sides of the eight indices. Each index has ledgers of its own, so its sides are types of their own: here alone they are
-// told apart.
+//! The sides of the eight indices. Each index has ledgers of its own, so its sides are types of
+//! their own: here alone they are told apart.
 ghost use Rattle.std.specs.Prelude.{◌≡◌, ◌<◌};
 ghost use Rattle.bg_ledger.specs.Blanks.{AreFor};
 ghost use Rattle.bg_ledger.specs.Holdings.{fresh};
@@ -10,9 +10,9 @@ use crate::holding::{Amounts, Holding};
 use crate::names::Names;
 use crate::side::{RecordSide, SeatSide, pair_sides};
 
-// A seat's side, by its index.
+/// A seat's side, by its index.
 #[derive(Drop)]
-pub enum SeatSides<N: Names> {
+pub(crate) enum SeatSides<N: Names> {
     First(SeatSide<N, 0>),
     Second(SeatSide<N, 1>),
     Third(SeatSide<N, 2>),
@@ -23,9 +23,9 @@ pub enum SeatSides<N: Names> {
     Eighth(SeatSide<N, 7>),
 }
 
-// A record's side, by its index.
+/// A record's side, by its index.
 #[derive(Drop)]
-pub enum RecordSides<N: Names> {
+pub(crate) enum RecordSides<N: Names> {
     First(RecordSide<N, 0>),
     Second(RecordSide<N, 1>),
     Third(RecordSide<N, 2>),
@@ -36,9 +36,9 @@ pub enum RecordSides<N: Names> {
     Eighth(RecordSide<N, 7>),
 }
 
-// Both sides of an index, their quantities 0.
+/// Both sides of an index, their quantities 0.
 #[tactic(auto, unfolding(crate::specs::Sides::seat_holding, crate::specs::Sides::record_holding))]
-pub fn pair_at<N: Names>(index: u32, blanks: SeatBlanks) -> (RecordSides<N>, SeatSides<N>)
+pub(crate) fn pair_at<N: Names>(index: u32, blanks: SeatBlanks) -> (RecordSides<N>, SeatSides<N>)
     requires index { index < 8 }
     requires blanks { AreFor N.Names index blanks }
     ensures seat { seat_holding result.1 ≡ fresh index }
@@ -80,9 +80,9 @@ pub fn pair_at<N: Names>(index: u32, blanks: SeatBlanks) -> (RecordSides<N>, Sea
     }
 }
 
-// What a seat's side has.
+/// What a seat's side has.
 #[tactic(auto, unfolding(crate::specs::Sides::seat_holding, crate::specs::Sides::record_holding))]
-pub fn read<N: Names>(seat: &SeatSides<N>) -> Holding
+pub(crate) fn read<N: Names>(seat: &SeatSides<N>) -> Holding
     ensures { result ≡ seat_holding seat.now }
 {
     match seat {
@@ -97,9 +97,9 @@ pub fn read<N: Names>(seat: &SeatSides<N>) -> Holding
     }
 }
 
-// Makes both sides the next, and answers what they were.
+/// Makes both sides the next, and answers what they were.
 #[tactic(auto, unfolding(crate::specs::Sides::seat_holding, crate::specs::Sides::record_holding))]
-pub fn exchange<N: Names>(
+pub(crate) fn exchange<N: Names>(
     own: &mut RecordSides<N>,
     seat: &mut SeatSides<N>,
     next: Holding,

@@ -1,13 +1,12 @@
-// The types that name ledgers.
+//! The types that name ledgers.
 ghost use Rattle.std.specs.Prelude.{◌≤◌, ℕ};
 ghost use Rattle.std.proofs.Common.{lit≤};
 
 use std::marker::{Brand, PhantomData};
 use std::sync::ledger::Ledger;
 
-/// The names of the 32 ledgers of a book's seats, four for each index from 0 to 7, and the number of seats. The ledger
-/// types are `Calls`, `Number`, `Revision` and `Port` at each index. A function over `Names` is called with `Brand`, and the
-/// caller's proof picks the members.
+/// The names of the 32 ledgers of a book's seats, four for each index from 0 to 7, and the number of
+/// seats. A function over `Names` is called with `Brand`, and the caller's proof picks the members.
 pub trait Names: Send + Sync {
     /// How many seats there are.
     ghost seats: { ℕ };
@@ -28,7 +27,7 @@ pub trait Names: Send + Sync {
     ghost in_range: { (1 ≤ seats) × (seats ≤ 8) };
 }
 
-// What stands where no names are picked: no blank has them.
+/// What stands where no names are picked: no blank has them.
 impl Names for Brand {
     ghost seats = { 1 };
 
@@ -44,7 +43,7 @@ impl Names for Brand {
 }
 
 /// The type of the ledger of the calls of index `I`.
-pub struct Calls<N: Names, const I: u32> {
+pub(crate) struct Calls<N: Names, const I: u32> {
     names: PhantomData<N>,
 }
 
@@ -55,7 +54,7 @@ impl<N: Names, const I: u32> Ledger for Calls<N, I> {
 }
 
 /// The type of the ledger of the request numbers of index `I`.
-pub struct Number<N: Names, const I: u32> {
+pub(crate) struct Number<N: Names, const I: u32> {
     names: PhantomData<N>,
 }
 
@@ -66,7 +65,7 @@ impl<N: Names, const I: u32> Ledger for Number<N, I> {
 }
 
 /// The type of the ledger of the revision numbers of index `I`.
-pub struct Revision<N: Names, const I: u32> {
+pub(crate) struct Revision<N: Names, const I: u32> {
     names: PhantomData<N>,
 }
 
@@ -77,7 +76,7 @@ impl<N: Names, const I: u32> Ledger for Revision<N, I> {
 }
 
 /// The type of the ledger of the ports of index `I`.
-pub struct Port<N: Names, const I: u32> {
+pub(crate) struct Port<N: Names, const I: u32> {
     names: PhantomData<N>,
 }
 

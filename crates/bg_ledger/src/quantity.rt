@@ -1,12 +1,13 @@
-// One quantity that a seat and its record share, and the ledger that ties the two copies of it.
+//! One quantity that a seat and its record share, and the ledger that ties the two copies of it.
 ghost use Rattle.std.specs.Prelude.{◌≡◌};
 
 use std::marker::Model;
 use std::sync::ledger::{Blank, Ledger, Share, Total};
 
-// The seat's copy. Of the ledger's total, which never changes, its share has as much as the copy says.
+/// The seat's copy. Of the ledger's total, which never changes, its share has as much as the copy
+/// says.
 #[derive(Drop)]
-pub struct Held<L: Ledger> {
+pub(crate) struct Held<L: Ledger> {
     amount: u64,
     share: Share<L>,
 }
@@ -22,10 +23,10 @@ impl<L: Ledger> Model for Held<L> {
         × (held.share.amount ≡ held.amount) };
 }
 
-// The record's copy. Its share has what the copy lacks of the total, so the two shares make up the total exactly where the
-// copies are equal.
+/// The record's copy. Its share has what the copy lacks of the total, so the two shares make up the
+/// total exactly where the copies are equal.
 #[derive(Drop)]
-pub struct Noted<L: Ledger> {
+pub(crate) struct Noted<L: Ledger> {
     amount: u64,
     lacking: Share<L>,
     total: Total<L>,
@@ -42,8 +43,8 @@ impl<L: Ledger> Model for Noted<L> {
         × (noted.lacking.parts ≡ 1) × (noted.lacking.amount + noted.amount ≡ noted.total.amount) };
 }
 
-// Both copies of a quantity that is 0.
-pub fn pair_quantity<L: Ledger>(blank: Blank) -> (Noted<L>, Held<L>)
+/// Both copies of a quantity that is 0.
+pub(crate) fn pair_quantity<L: Ledger>(blank: Blank) -> (Noted<L>, Held<L>)
     requires name { blank.name ≡ L.name }
     requires parts { blank.parts ≡ 2 }
     requires all_parts { L.parts ≡ 2 }
@@ -62,7 +63,8 @@ pub fn pair_quantity<L: Ledger>(blank: Blank) -> (Noted<L>, Held<L>)
 }
 
 impl<L: Ledger> Held<L> {
-    pub fn amount(&self) -> u64
+    /// The quantity, as the seat has it.
+    pub(crate) fn amount(&self) -> u64
         ensures { result ≡ self.now }
     {
         self.amount
@@ -70,7 +72,8 @@ impl<L: Ledger> Held<L> {
 }
 
 impl<L: Ledger> Noted<L> {
-    // Shows that the copies are equal: the seat is lent the record's share, and has all parts of the ledger then.
+    /// Shows that the copies are equal: the seat is lent the record's share, and has all parts of
+    /// the ledger then.
     fn compare(&mut self, held: &mut Held<L>)
         ensures equal { self.old ≡ held.old }
         ensures noted { self.new ≡ self.old }
@@ -82,8 +85,8 @@ impl<L: Ledger> Noted<L> {
         held.share.give(&mut self.lacking, 1, lacked);
     }
 
-    // Makes both copies this amount, and answers what they were.
-    pub fn exchange(&mut self, held: &mut Held<L>, amount: u64) -> u64
+    /// Makes both copies this amount, and answers what they were.
+    pub(crate) fn exchange(&mut self, held: &mut Held<L>, amount: u64) -> u64
         ensures equal { self.old ≡ held.old }
         ensures was { result ≡ held.old }
         ensures noted { self.new ≡ amount }

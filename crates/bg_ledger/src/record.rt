@@ -1,7 +1,7 @@
-// The book's side.
+//! The book's side.
 ghost use Rattle.std.specs.Prelude.{◌≡◌, ◌<◌, ◌^◌};
 ghost use Rattle.bg_ledger.specs.Blanks.{AreFor};
-ghost use Rattle.bg_ledger.specs.Holdings.{fresh, entered, left};
+ghost use Rattle.bg_ledger.specs.Holdings.{fresh, occupied, vacated};
 ghost use Rattle.bg_ledger.specs.declared.holding.Holding.{Holding};
 ghost use Rattle.bg_ledger.specs.Sides.{record_holding};
 
@@ -24,7 +24,8 @@ impl<N: Names> Model for SeatRecord<N> {
     ghost view = { λ own. record_holding own.side };
 }
 
-/// The record and the seat of an index, 0 to 7, of the blanks of that index: out, and with no call answered. Takes no memory.
+/// The record and the seat of an index, 0 to 7, of the blanks of that index: out, and with no call
+/// answered. Takes no memory.
 pub fn pair<N: Names>(index: u32, blanks: SeatBlanks) -> (SeatRecord<N>, Seat<N>)
     requires index { index < 8 }
     requires blanks { AreFor N.Names index blanks }
@@ -43,7 +44,7 @@ impl<N: Names> SeatRecord<N> {
         requires number { 0 < number }
         requires calls { seat.old.calls < 2 ^ 60 }
         ensures equal { self.old ≡ seat.old }
-        ensures seat { seat.new ≡ entered seat.old number revision port }
+        ensures seat { seat.new ≡ occupied seat.old number revision port }
         ensures own { self.new ≡ seat.new }
     {
         let before = seat.holding();
@@ -63,7 +64,7 @@ impl<N: Names> SeatRecord<N> {
         requires is_in { 0 < seat.old.number }
         ensures equal { self.old ≡ seat.old }
         ensures answer { result ≡ (seat.old.number, seat.old.revision) }
-        ensures seat { seat.new ≡ left seat.old }
+        ensures seat { seat.new ≡ vacated seat.old }
         ensures own { self.new ≡ seat.new }
     {
         let before = seat.holding();
@@ -78,7 +79,8 @@ impl<N: Names> SeatRecord<N> {
         (was.number, was.revision)
     }
 
-    /// Changes nothing. What it ensures is known after it of any seat and record of one index, whatever was done to them.
+    /// Changes nothing. What it ensures is known after it of any seat and record of one index,
+    /// whatever was done to them.
     pub fn agree(&mut self, seat: &mut Seat<N>)
         requires { self.old.index ≡ seat.old.index }
         ensures equal { self.old ≡ seat.old }

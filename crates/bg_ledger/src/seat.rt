@@ -1,4 +1,4 @@
-// A worker's side.
+//! A worker's side.
 ghost use Rattle.std.specs.Prelude.{◌≡◌, ◌<◌, ◌↔◌, IsTrue};
 ghost use Rattle.bg_ledger.specs.Holdings.{IsInBounds};
 ghost use Rattle.bg_ledger.specs.declared.holding.Holding.{Holding};
@@ -9,8 +9,9 @@ use crate::indexed::{SeatSides, read};
 use crate::names::Names;
 use std::marker::Model;
 
-/// What a worker knows of the calls that it was answered. Its book has a `SeatRecord` of the same index, and only that
-/// record's calls change the seat. A seat can't be dropped: it ends in `SeatRecord::reunite`.
+/// What a worker knows of the calls that it was answered. Its book has a `SeatRecord` of the same
+/// index, and only that record's calls change the seat. A seat can't be dropped: it ends in
+/// `SeatRecord::reunite`.
 pub struct Seat<N: Names> {
     pub(crate) side: SeatSides<N>,
 }
@@ -69,7 +70,7 @@ impl<N: Names> Seat<N> {
         self.holding().index
     }
 
-    // All of it at once.
+    /// All of it at once.
     pub(crate) fn holding(&self) -> Holding
         ensures all { result ≡ self.now }
         ensures bounds { IsInBounds self.now }

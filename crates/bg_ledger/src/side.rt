@@ -1,4 +1,4 @@
-// The two sides of one index: four quantities each.
+//! The two sides of one index: four quantities each.
 ghost use Rattle.std.specs.Prelude.{◌≡◌};
 ghost use Rattle.bg_ledger.specs.Blanks.{AreFor};
 
@@ -8,9 +8,9 @@ use crate::names::{Calls, Names, Number, Port, Revision};
 use crate::quantity::{Held, Noted, pair_quantity};
 use std::marker::Model;
 
-// A seat's copies at index `I`.
+/// A seat's copies at index `I`.
 #[derive(Drop)]
-pub struct SeatSide<N: Names, const I: u32> {
+pub(crate) struct SeatSide<N: Names, const I: u32> {
     calls: Held<Calls<N, I>>,
     number: Held<Number<N, I>>,
     revision: Held<Revision<N, I>>,
@@ -30,9 +30,9 @@ impl<N: Names, const I: u32> Model for SeatSide<N, I> {
     } };
 }
 
-// A record's copies at index `I`.
+/// A record's copies at index `I`.
 #[derive(Drop)]
-pub struct RecordSide<N: Names, const I: u32> {
+pub(crate) struct RecordSide<N: Names, const I: u32> {
     calls: Noted<Calls<N, I>>,
     number: Noted<Number<N, I>>,
     revision: Noted<Revision<N, I>>,
@@ -52,8 +52,10 @@ impl<N: Names, const I: u32> Model for RecordSide<N, I> {
     } };
 }
 
-// Both sides of an index, their quantities 0.
-pub fn pair_sides<N: Names, const I: u32>(blanks: SeatBlanks) -> (RecordSide<N, I>, SeatSide<N, I>)
+/// Both sides of an index, their quantities 0.
+pub(crate) fn pair_sides<N: Names, const I: u32>(
+    blanks: SeatBlanks,
+) -> (RecordSide<N, I>, SeatSide<N, I>)
     requires { AreFor N.Names I blanks }
     ensures zero { result.0 ≡ record { calls = 0; number = 0; revision = 0; port = 0 } }
     ensures equal { result.0 ≡ result.1 }
@@ -78,7 +80,8 @@ pub fn pair_sides<N: Names, const I: u32>(blanks: SeatBlanks) -> (RecordSide<N, 
 }
 
 impl<N: Names, const I: u32> SeatSide<N, I> {
-    pub fn amounts(&self) -> Amounts
+    /// The quantities, as the seat has them.
+    pub(crate) fn amounts(&self) -> Amounts
         ensures { result ≡ self.now }
     {
         Amounts {
@@ -91,8 +94,8 @@ impl<N: Names, const I: u32> SeatSide<N, I> {
 }
 
 impl<N: Names, const I: u32> RecordSide<N, I> {
-    // Makes the quantities of both sides these amounts, and answers what they were.
-    pub fn exchange(&mut self, seat: &mut SeatSide<N, I>, amounts: Amounts) -> Amounts
+    /// Makes the quantities of both sides these amounts, and answers what they were.
+    pub(crate) fn exchange(&mut self, seat: &mut SeatSide<N, I>, amounts: Amounts) -> Amounts
         ensures equal { self.old ≡ seat.old }
         ensures was { result ≡ seat.old }
         ensures own { self.new ≡ amounts }

@@ -7,11 +7,11 @@ use mathlib.Core.Logic.{⊎_elim}
 use Rattle.std_alloc.specs.declared.vec.Vec.{Vec}
 use Rattle.bg_openlist.specs.declared.nodes.Node.{Node}
 use Rattle.bg_openlist.specs.Block.{HoldsLists, family_of}
-use Rattle.bg_openlist.specs.Family.{Family, IsFamily, is_linked, list_at, list_of, next_of, place_of, value_in, value_of, without}
+use Rattle.bg_openlist.specs.Family.{Family, IsFamily, is_linked, list_at, list_of, next_of, place_of, value_in, value_of, without_node}
 use Rattle.bg_openlist.specs.Nodes.{nexts, tags, values}
 use Rattle.bg_openlist.proofs.Cases.{none_or_some, none_some, none_true}
-use Rattle.bg_openlist.proofs.Pairs.{without_none}
-use Rattle.bg_openlist.proofs.Seen.{Linked, beside, family, front_is, len_is, linked, next_is, place_is, place_past, row_past, stored_own}
+use Rattle.bg_openlist.proofs.Pairs.{without_node_none}
+use Rattle.bg_openlist.proofs.Seen.{Linked, beside, beside_same, family, front_is, len_is, linked, next_is, place_is, place_past, row_past, stored_own}
 
 module _ {X : Type 0} where
   only_list : (l : ℕ) (o : Option X) → option_map (λ p. p.0) (beside l o) ≡ option_map (λ _. l) o
@@ -24,16 +24,11 @@ module _ {X : Type 0} where
   less_none n (Some x) e = absurd (none_some (n, x) e)
 
   pub less_some : (n : ℕ) (o : Option X) (i : ℕ) (x : X) → beside i (Some x) ≡ beside n o → beside (i - 64) (Some x) ≡ beside (n - 64) o
-  less_some n None i x e = absurd (none_some (i, x) (sym e))
-  less_some n (Some y) i x e = let had : ℕ × X = (i, x) in let want : ℕ × X = (n, y) in let pair : had ≡ want = cc in ap (λ p. beside (p.0 - 64) (Some p.1)) pair
+  less_some n o i x e = let h = beside_same n o i x e in λ j. beside (h.0 j - 64) (sym h.1 j)
 
-  some_of : (o : Option X) → is_some o ≡ true → (x : X) × (o ≡ Some x)
-  some_of None e = absurd (none_true e)
-  some_of (Some x) e = (x, refl)
-
-  first_of_some : {Y : Type 0} (o : Option Y) (h : Y → X) (x : X) → Some x ≡ option_map h o → is_some o ≡ true
-  first_of_some None h x e = absurd (none_some x (sym e))
-  first_of_some (Some y) h x e = refl
+  some_before : {Y : Type 0} (o : Option Y) (h : Y → X) (x : X) → Some x ≡ option_map h o → is_some o ≡ true
+  some_before None h x e = absurd (none_some x (sym e))
+  some_before (Some y) h x e = refl
 
 module _ {X Z : Type 0} {s : ℕ} {nodes : Vec (Node X) Z} {lens : List ℕ} {f : Family X} (inv : HoldsLists s nodes lens) (is : family_of nodes lens ≡ f) where
   pub family_seen : IsFamily f
@@ -58,7 +53,7 @@ module _ {X Z : Type 0} {s : ℕ} {nodes : Vec (Node X) Z} {lens : List ℕ} {f 
   linked_seen k e = linked inv k (ap (λ f. is_linked f k) is ∙ e)
 
   pub next_seen : (k l : ℕ) → Some l ≡ list_of f k → next_of f k ≡ beside (get_or (nexts nodes.items) (64 + k) 0 - 64) (get_or (values nodes.items) (get_or (nexts nodes.items) (64 + k) 0) None)
-  next_seen k l e = ap (λ f. next_of f k) (sym is) ∙ next_is inv k (linked_seen k (first_of_some (place_of f k) (λ p. p.0) l e))
+  next_seen k l e = ap (λ f. next_of f k) (sym is) ∙ next_is inv k (linked_seen k (some_before (place_of f k) (λ p. p.0) l e))
 
   pub not_linked : (k : ℕ) → is_linked f k ≡ false → get_or (values nodes.items) (64 + k) None ≡ None
   not_linked k e =
@@ -76,7 +71,7 @@ get_or-map_nil h e (x ∷ xs) (suc l) = get_or-map_nil h e xs l
 
 module _ {X : Type 0} where
   -- the lists of other nodes stay
-  pub others_stay : (f : Family X) (lists : List (List (ℕ × X))) (k : ℕ) → IsFamily f → lists ≡ map (without k) f.lists → (l : ℕ) → (list_of f k ≢ Some l) → get_or lists l [] ≡ list_at f l
+  pub others_stay : (f : Family X) (lists : List (List (ℕ × X))) (k : ℕ) → IsFamily f → lists ≡ map (without_node k) f.lists → (l : ℕ) → (list_of f k ≢ Some l) → get_or lists l [] ≡ list_at f l
   others_stay f lists k ok e l n =
       let none : value_in (list_at f l) k ≡ None = ⊎_elim (λ h. h) (λ h. absurd (n (ap (option_map (λ p. p.0)) (ok.found l k h.0 h.1)))) (none_or_some (value_in (list_at f l) k)) in
-      ap (λ t. get_or t l []) e ∙ get_or-map_nil (without k) refl f.lists l ∙ without_none k (list_at f l) none
+      ap (λ t. get_or t l []) e ∙ get_or-map_nil (without_node k) refl f.lists l ∙ without_node_none k (list_at f l) none

@@ -1,6 +1,7 @@
 pub mod Blocks
 pub mod Callers
 pub mod Cases
+pub mod Columns
 pub mod Counting
 pub mod Link
 pub mod Lists

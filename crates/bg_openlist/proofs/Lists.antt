@@ -6,9 +6,9 @@ use mathlib.Core.Logic.{inl, inr, ⊎_elim}
 use Rattle.std.proofs.lemmas.List.{get_or-set_same, get_or-set_other}
 use Rattle.bg_openlist.specs.Block.{IsIn, IsNode, AreNodes, IsList, AreLists}
 use Rattle.bg_openlist.specs.Distinct.{Fresh}
-use Rattle.bg_openlist.specs.Rings.{Path, last_from, first_of}
+use Rattle.bg_openlist.specs.Rings.{Path}
 use Rattle.bg_openlist.proofs.Cases.{none_some, same_or_not}
-use Rattle.bg_openlist.proofs.Rings.{frame, sides, cut, distinct_cut, distinct_at}
+use Rattle.bg_openlist.proofs.Rings.{frame, sides, cut, distinct_cut, distinct_at, first_of, last_from}
 
 -- a list, cut at one of its nodes
 pub record CutAt (x : ℕ) (ks : List ℕ) : Type 0 where
@@ -70,9 +70,9 @@ module _ {X : Type 0} where
   fresh_by_low tg vs l y low [] b = tt
   fresh_by_low tg vs l y low (k ∷ ks) b = let high = b.0.high in ((λ e. absurd (omega arith)), fresh_by_low tg vs l y low ks b.1)
 
-  near_last : (tg : List ℕ) (vs : List (Option X)) (m a : ℕ) (ps rs : List ℕ) → Near tg m a → AreNodes tg vs m (ps ++ rs) → Near tg m (last_from a ps)
-  near_last tg vs m a [] rs n b = n
-  near_last tg vs m a (p ∷ ps) rs n b = near_last tg vs m p ps rs (inr (b.0.high, b.0.list)) b.1
+  pub near_last : (tg : List ℕ) (vs : List (Option X)) (m a : ℕ) (ks : List ℕ) → Near tg m a → AreNodes tg vs m ks → Near tg m (last_from a ks)
+  near_last tg vs m a [] n b = n
+  near_last tg vs m a (k ∷ ks) n b = near_last tg vs m k ks (inr (b.0.high, b.0.list)) b.1
 
   near_first : (tg : List ℕ) (vs : List (Option X)) (m : ℕ) (ps : List ℕ) (k : ℕ) (qs : List ℕ) → AreNodes tg vs m (ps ++ k ∷ qs) → Near tg m (first_of qs m)
   near_first tg vs m [] k [] b = inl refl
@@ -82,8 +82,8 @@ module _ {X : Type 0} where
   pub near_fresh : (tg : List ℕ) (vs : List (Option X)) (m l y : ℕ) → m < 64 → (l ≢ m) → Near tg m y → (ks : List ℕ) → AreNodes tg vs l ks → Fresh y ks
   near_fresh tg vs m l y low n near ks b = ⊎_elim (λ e. fresh_by_low tg vs l y (omega arith) ks b) (λ h. fresh_by_tag tg vs l y (λ e. n (sym e ∙ h.1)) ks b) near
 
-  module _ (nx pv tg : List ℕ) (vs : List (Option X)) (fam : ℕ → List ℕ) (all : AreLists nx pv tg vs fam)
-      (m k : ℕ) (low : m < 64) (tagged : get_or tg k 0 ≡ m) (place : CutAt k (fam m)) (inside : k < length vs) (before : get_or pv k 0 < length nx) (after : get_or nx k 0 < length pv) where
+  module _ {nx pv tg : List ℕ} {vs : List (Option X)} {fam : ℕ → List ℕ} (all : AreLists nx pv tg vs fam)
+      {m k : ℕ} (low : m < 64) (tagged : get_or tg k 0 ≡ m) (place : CutAt k (fam m)) (inside : k < length vs) (before : get_or pv k 0 < length nx) (after : get_or nx k 0 < length pv) where
     abbrev p : ℕ
     p = get_or pv k 0
 
@@ -112,7 +112,7 @@ module _ {X : Type 0} where
     q_is = (sides nx pv m place.before k place.after m was.path).1
 
     p_near : Near tg m p
-    p_near = subst (Near tg m) (sym p_is) (near_last tg vs m m place.before (k ∷ place.after) (inl refl) was.nodes)
+    p_near = subst (Near tg m) (sym p_is) (near_last tg vs m m place.before (inl refl) (nodes_front tg vs m place.before (k ∷ place.after) was.nodes))
 
     q_near : Near tg m q
     q_near = subst (Near tg m) (sym q_is) (near_first tg vs m place.before k place.after was.nodes)

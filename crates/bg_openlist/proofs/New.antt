@@ -9,9 +9,10 @@ use Rattle.bg_openlist.specs.declared.nodes.Node.{Node}
 use Rattle.core.proofs.ptr.Rows.{hd}
 use Rattle.bg_openlist.specs.Block.{HoldsLists, IsList, family_of, pairs_of, seen_of}
 use Rattle.bg_openlist.specs.Family.{empty_family, place_among, places}
-use Rattle.bg_openlist.specs.Nodes.{IsAt, IsLoop, nexts, prevs, tags, values}
+use Rattle.bg_openlist.specs.Nodes.{IsAt, IsLoop, values}
 use Rattle.bg_openlist.specs.Rings.{walk}
 use Rattle.bg_openlist.proofs.Cases.{none_some}
+use Rattle.bg_openlist.proofs.Columns.{columns}
 use Rattle.bg_openlist.proofs.Tables.{table_const, table_same}
 
 get_or_all : {Y : Type 0} (n i : ℕ) (y : Y) → get_or (replicate n y) i y ≡ y
@@ -22,20 +23,31 @@ get_or_all (suc n) (suc i) y = get_or_all n i y
 pub all_free : {X : Type 0} (n : ℕ) → places (empty_family {X = X} n) ≡ replicate n None
 all_free {X = X} n = table_same (λ _. None) (place_among {X = X} (replicate 64 []) 0) 0 n (λ j le lt. refl) ∙ table_const None 0 n
 
-module _ (s : ℕ) {X Z : Type 0} (v : Vec (Node X) Z) (count : ℕ) (long : v.len ≡ 64 + count) (room : (1 ≤ count) × (count ≤ 256)) (loops : IsLoop s v (64 + count)) (none : values v.items ≡ replicate (64 + count) None) where
+-- the block's nodes are empty, and each leads to itself
+pub record IsUnused (s : ℕ) {X Z : Type 0} (v : Vec (Node X) Z) (count : ℕ) : Type 0 where
+  pub long : v.len ≡ 64 + count
+  pub room : (1 ≤ count) × (count ≤ 256)
+  pub loops : IsLoop s v (64 + count)
+  pub none : values v.items ≡ replicate (64 + count) None
+
+module _ {s : ℕ} {X Z : Type 0} {v : Vec (Node X) Z} {count : ℕ} (unused : IsUnused s v count) where
+  open unused use {loops}
+
   abbrev zeros : List ℕ
   zeros = replicate 64 0
+
+  open columns v zeros use {nx, pv, tg, vs, fam, row}
 
   first : Node X
   first = hd v.items (omega (arith, v.ok.0))
 
-  empty : (k : ℕ) → get_or (values v.items) k None ≡ None
-  empty k = ap (λ l. get_or l k None) none ∙ get_or_all (64 + count) k None
+  empty : (k : ℕ) → get_or vs k None ≡ None
+  empty k = ap (λ l. get_or l k None) unused.none ∙ get_or_all (64 + count) k None
 
-  walks : (l : ℕ) → walk (nexts v.items) (get_or zeros l 0) l ≡ []
-  walks l = ap (λ n. walk (nexts v.items) n l) (get_or_all 64 l 0)
+  no_nodes : (l : ℕ) → fam l ≡ []
+  no_nodes l = ap (λ n. walk nx n l) (get_or_all 64 l 0)
 
-  alone : (l : ℕ) → l < 64 → IsList (nexts v.items) (prevs v.items) (tags v.items) (values v.items) l []
+  alone : (l : ℕ) → l < 64 → IsList nx pv tg vs l []
   alone l lt = record {
     path = (
       get_or-map (λ (n : Node X). n.next.index) v.items l first 0 (omega (arith, v.ok.0)) ∙ loops.next l first (omega arith),
@@ -51,14 +63,14 @@ module _ (s : ℕ) {X Z : Type 0} (v : Vec (Node X) Z) (count : ℕ) (long : v.l
     size = (omega arith, omega arith);
     count = refl;
     lists = record {
-      each = λ l lt. subst (IsList (nexts v.items) (prevs v.items) (tags v.items) (values v.items) l) (sym (walks l)) (alone l lt);
+      each = λ l lt. subst (IsList nx pv tg vs l) (sym (no_nodes l)) (alone l lt);
       every = λ k x hi e. absurd (none_some x (sym (empty k) ∙ e));
       heads = λ l lt. empty l;
     };
   }
 
   seen_new : seen_of v.items zeros ≡ replicate 64 []
-  seen_new = table_same (λ _. []) (λ l. pairs_of (values v.items) (walk (nexts v.items) (get_or zeros l 0) l)) 0 64 (λ j le lt. ap (pairs_of (values v.items)) (walks j)) ∙ table_const [] 0 64
+  seen_new = table_same (λ _. []) row 0 64 (λ j le lt. ap (pairs_of vs) (no_nodes j)) ∙ table_const [] 0 64
 
   pub family_new : family_of v zeros ≡ empty_family count
   family_new = let nodes : v.len - 64 ≡ count = omega arith in λ i. record { nodes = nodes i; lists = seen_new i }

@@ -4,7 +4,7 @@ use Rattle.std.specs.Prelude.{◌≢◌, ◌==◌, if◌then◌else◌, not}
 use Rattle.std.proofs.lemmas.List.{get_or-set_other}
 use Rattle.bg_openlist.specs.Block.{IsNode, AreNodes, pair_at, pairs_of}
 use Rattle.bg_openlist.specs.Distinct.{Fresh}
-use Rattle.bg_openlist.specs.Family.{value_in, following, without}
+use Rattle.bg_openlist.specs.Family.{value_in, following, without_node}
 use Rattle.bg_openlist.proofs.Cases.{is_other, is_same, none_some}
 
 other : (y s : ℕ) → 64 ≤ y → (y ≢ 64 + s) → (y - 64 == s) ≡ false
@@ -46,16 +46,16 @@ module _ {X : Type 0} where
   following_past s [] qs h = refl
   following_past s (p ∷ ps) qs h = let n = not_first (p.0 == s) p.1 (value_in ps s) h in ap (λ b. if b then slice_get (ps ++ qs) 0 else following (ps ++ qs) s) n.0 ∙ following_past s ps qs n.1
 
-  pub without_past : (s : ℕ) (ps qs : List (ℕ × X)) → value_in ps s ≡ None → without s (ps ++ qs) ≡ ps ++ without s qs
-  without_past s [] qs h = refl
-  without_past s (p ∷ ps) qs h =
+  pub without_node_past : (s : ℕ) (ps qs : List (ℕ × X)) → value_in ps s ≡ None → without_node s (ps ++ qs) ≡ ps ++ without_node s qs
+  without_node_past s [] qs h = refl
+  without_node_past s (p ∷ ps) qs h =
       let n = not_first (p.0 == s) p.1 (value_in ps s) h in
-      ap (λ b. if not b then p ∷ without s (ps ++ qs) else without s (ps ++ qs)) n.0 ∙ ap (λ l. p ∷ l) (without_past s ps qs n.1)
+      ap (λ b. if not b then p ∷ without_node s (ps ++ qs) else without_node s (ps ++ qs)) n.0 ∙ ap (λ l. p ∷ l) (without_node_past s ps qs n.1)
 
-  pub without_none : (s : ℕ) (ps : List (ℕ × X)) → value_in ps s ≡ None → without s ps ≡ ps
-  without_none s [] h = refl
-  without_none s (p ∷ ps) h =
-      let n = not_first (p.0 == s) p.1 (value_in ps s) h in ap (λ b. if not b then p ∷ without s ps else without s ps) n.0 ∙ ap (λ l. p ∷ l) (without_none s ps n.1)
+  pub without_node_none : (s : ℕ) (ps : List (ℕ × X)) → value_in ps s ≡ None → without_node s ps ≡ ps
+  without_node_none s [] h = refl
+  without_node_none s (p ∷ ps) h =
+      let n = not_first (p.0 == s) p.1 (value_in ps s) h in ap (λ b. if not b then p ∷ without_node s ps else without_node s ps) n.0 ∙ ap (λ l. p ∷ l) (without_node_none s ps n.1)
 
   -- a node in a list of pairs
   module _ (s : ℕ) (x : X) (ps qs : List (ℕ × X)) (none : value_in ps s ≡ None) where
@@ -68,5 +68,5 @@ module _ {X : Type 0} where
     pub following_here : following (ps ++ (s, x) ∷ qs) s ≡ slice_get qs 0
     following_here = following_past s ps ((s, x) ∷ qs) none ∙ ap (λ b. if b then slice_get qs 0 else following qs s) same
 
-    pub without_here : value_in qs s ≡ None → without s (ps ++ (s, x) ∷ qs) ≡ ps ++ qs
-    without_here after = without_past s ps ((s, x) ∷ qs) none ∙ ap (λ l. ps ++ l) (ap (λ b. if not b then (s, x) ∷ without s qs else without s qs) same ∙ without_none s qs after)
+    pub without_node_here : value_in qs s ≡ None → without_node s (ps ++ (s, x) ∷ qs) ≡ ps ++ qs
+    without_node_here after = without_node_past s ps ((s, x) ∷ qs) none ∙ ap (λ l. ps ++ l) (ap (λ b. if not b then (s, x) ∷ without_node s qs else without_node s qs) same ∙ without_node_none s qs after)

@@ -3,7 +3,17 @@ use Rattle.std.proofs.Common.{◌≡◌, ℕ, ◌<◌, List, [], ◌∷◌, ◌+
 use Rattle.std.specs.Prelude.{◌≢◌}
 use Rattle.std.proofs.lemmas.List.{get_or-set_same, get_or-set_other}
 use Rattle.bg_openlist.specs.Distinct.{Fresh, Distinct}
-use Rattle.bg_openlist.specs.Rings.{Path, last_from, first_of, walk}
+use Rattle.bg_openlist.specs.Rings.{Path, walk}
+
+-- the last of the nodes, or a where there is none
+abbrev pub last_from : ℕ → List ℕ → ℕ
+last_from a [] = a
+last_from a (k ∷ ks) = last_from k ks
+
+-- the first of the nodes, or b where there is none
+abbrev pub first_of : List ℕ → ℕ → ℕ
+first_of [] b = b
+first_of (k ∷ ks) b = k
 
 turn : {x y : ℕ} → (x ≢ y) → y ≢ x
 turn n e = n (sym e)
@@ -27,13 +37,9 @@ pub last_is : (nx pv : List ℕ) (a : ℕ) (ks : List ℕ) (b : ℕ) → Path nx
 last_is nx pv a [] b h = h.1
 last_is nx pv a (k ∷ ks) b h = last_is nx pv k ks b h.2
 
-fresh_last : (x d : ℕ) (ps rs : List ℕ) → Fresh x (d ∷ (ps ++ rs)) → last_from d ps ≢ x
-fresh_last x d [] rs f = f.0
-fresh_last x d (p ∷ ps) rs f = fresh_last x p ps rs f.1
-
-fresh_last' : (x d : ℕ) (ps : List ℕ) → Fresh x (d ∷ ps) → last_from d ps ≢ x
-fresh_last' x d [] f = f.0
-fresh_last' x d (p ∷ ps) f = fresh_last' x p ps f.1
+fresh_last : (x d : ℕ) (ps : List ℕ) → Fresh x (d ∷ ps) → last_from d ps ≢ x
+fresh_last x d [] f = f.0
+fresh_last x d (p ∷ ps) f = fresh_last x p ps f.1
 
 fresh_first : (x : ℕ) (ps : List ℕ) (k : ℕ) (qs : List ℕ) (b : ℕ) → Fresh x (ps ++ k ∷ qs) → (b ≢ x) → first_of qs b ≢ x
 fresh_first x [] k [] b f n = n
@@ -81,7 +87,7 @@ cut nx pv a [] k [] b h fa d fb lp lq = (get_or-set_same nx a b 0 lp, get_or-set
 cut nx pv a [] k (c ∷ rs) b h fa d fb lp lq =
     (get_or-set_same nx a c 0 lp, get_or-set_same pv c a 0 lq, frame nx pv a c c a c rs b h.2.2 fa.1.0 fa.1.1 d.1.0 (turn fb.1.0))
 cut nx pv a (p ∷ ps) k qs b h fa d fb lp lq = (
-  get_or-set_other nx (last_from p ps) a (first_of qs b) 0 (turn (fresh_last a p ps (k ∷ qs) fa)) ∙ h.0,
+  get_or-set_other nx (last_from p ps) a (first_of qs b) 0 (turn (fresh_last a p ps (fresh_front a (p ∷ ps) (k ∷ qs) fa))) ∙ h.0,
   get_or-set_other pv (first_of qs b) p (last_from p ps) 0 (turn (fresh_first p ps k qs b d.0 (turn fb.0))) ∙ h.1,
   cut nx pv p ps k qs b h.2 d.0 d.1 fb.1 lp lq,
 )
@@ -93,12 +99,15 @@ pub push : (nx pv : List ℕ) (a : ℕ) (ks : List ℕ) (k b : ℕ) → Path nx 
 push nx pv a [] k b h ek el fa d fb fk na nb lp lq =
     (get_or-set_same nx a k 0 lp, get_or-set_other pv b k k 0 (turn nb) ∙ el, (get_or-set_other nx a k k 0 (turn na) ∙ ek, get_or-set_same pv b k 0 lq))
 push nx pv a (c ∷ ks) k b h ek el fa d fb fk na nb lp lq = (
-  get_or-set_other nx (last_from c ks) a k 0 (turn (fresh_last' a c ks fa)) ∙ h.0,
+  get_or-set_other nx (last_from c ks) a k 0 (turn (fresh_last a c ks fa)) ∙ h.0,
   get_or-set_other pv b c k 0 fb.0 ∙ h.1,
   push nx pv c ks k b h.2 ek el d.0 d.1 fb.1 fk.1 fk.0 nb lp lq,
 )
 
--- the walk along nx sees the list
-pub walk_is : (nx pv : List ℕ) (a : ℕ) (ks : List ℕ) (b : ℕ) → Path nx pv a ks b → walk nx (length ks) a ≡ ks
-walk_is nx pv a [] b h = refl
-walk_is nx pv a (k ∷ ks) b h = (λ i. h.0 i ∷ walk nx (length ks) (h.0 i)) ∙ ap (λ l. k ∷ l) (walk_is nx pv k ks b h.2)
+walk_all : (nx pv : List ℕ) (a : ℕ) (ks : List ℕ) (b : ℕ) → Path nx pv a ks b → walk nx (length ks) a ≡ ks
+walk_all nx pv a [] b h = refl
+walk_all nx pv a (k ∷ ks) b h = (λ i. h.0 i ∷ walk nx (length ks) (h.0 i)) ∙ ap (λ l. k ∷ l) (walk_all nx pv k ks b h.2)
+
+-- the walk along nx, of as many steps as there are nodes, sees the nodes
+pub walk_is : (nx pv : List ℕ) (a : ℕ) (ks : List ℕ) (b n : ℕ) → n ≡ length ks → Path nx pv a ks b → walk nx n a ≡ ks
+walk_is nx pv a ks b n e h = ap (λ j. walk nx j a) e ∙ walk_all nx pv a ks b h

@@ -1,26 +1,26 @@
 -- What a caller sees of a block that holds the lists.
-use Rattle.std.proofs.Common.{◌≡◌, ℕ, ◌+◌, ◌-◌, ◌<◌, ◌≤◌, true, List, [], ◌∷◌, ◌++◌, length, get_or, slice_get, refl, sym, ap, ◌∙◌, arith, Some, None, Option}
+use Rattle.std.proofs.Common.{◌≡◌, ℕ, ◌+◌, ◌-◌, ◌<◌, ◌≤◌, true, List, [], ◌∷◌, ◌++◌, length, get_or, set, slice_get, refl, sym, ap, ◌∙◌, arith, Some, None, Option}
 use Prim.Native.Nat.{zero, suc}
 use Rattle.std.specs.Prelude.{◌≢◌, is_some, option_map, option_and_then}
 use mathlib.Core.Path.{subst}
 use mathlib.Core.Logic.{⊎_elim}
 use Rattle.std.proofs.lemmas.Bool.Decides.{leb_tells}
-use Rattle.std.proofs.lemmas.List.{get_or_past, length-map}
+use Rattle.std.proofs.lemmas.List.{get_or_past}
 use Rattle.std_alloc.specs.declared.vec.Vec.{Vec}
 use Rattle.bg_openlist.specs.declared.nodes.Node.{Node}
-use Rattle.bg_openlist.specs.Block.{AreNodes, HoldsLists, family_of, lists_of, pairs_of, seen_of}
+use Rattle.bg_openlist.specs.Block.{AreNodes, HoldsLists, family_of, pairs_of, seen_of}
 use Rattle.bg_openlist.specs.Distinct.{Fresh, Distinct}
 use Rattle.bg_openlist.specs.Family.{Family, IsFamily, following, is_linked, list_at, next_of, place_among, place_of, places, value_in}
-use Rattle.bg_openlist.specs.Nodes.{nexts, prevs, tags, values}
-use Rattle.bg_openlist.specs.Rings.{Path, first_of, walk}
+use Rattle.bg_openlist.specs.Rings.{Path, walk}
 use Rattle.bg_openlist.specs.Tables.{table}
 use Rattle.bg_openlist.proofs.Cases.{none_or_some, none_some, none_true, same_or_not}
+use Rattle.bg_openlist.proofs.Columns.{columns, length-values}
 use Rattle.bg_openlist.proofs.Lists.{CutAt, cut_at, fresh_by_free, fresh_by_tag, nodes_front, nodes_back}
 use Rattle.bg_openlist.proofs.Names.{all_at, distinct_seen, once}
 use Rattle.bg_openlist.proofs.Pairs.{first_pair, following_here, pair_is, pairs-append, value_here, value_none}
 use Rattle.bg_openlist.proofs.Placing.{place_here, place_none}
-use Rattle.bg_openlist.proofs.Rings.{distinct_at, fresh_back, fresh_front, sides, starts}
-use Rattle.bg_openlist.proofs.Tables.{get_or-table, length-table, table_same}
+use Rattle.bg_openlist.proofs.Rings.{distinct_at, first_of, fresh_back, fresh_front, sides, starts}
+use Rattle.bg_openlist.proofs.Tables.{get_or-table, length-table, table-set, table_same}
 
 pub length-walk : (nx : List ℕ) (n a : ℕ) → length (walk nx n a) ≡ n
 length-walk nx zero a = refl
@@ -41,32 +41,12 @@ module _ {X : Type 0} where
   first_shown tg vs l (k ∷ ks) b h e = ap (λ ps. slice_get ps 0) (first_pair tg vs l k ks b.0) ∙ sym (ap (beside (k - 64)) b.0.held)
 
   -- a pair that was found, and its node
-  pub shown : (n : ℕ) (o : Option X) (i : ℕ) (x : X) → beside i (Some x) ≡ beside n o → (i ≡ n) × (o ≡ Some x)
-  shown n None i x e = absurd (none_some (i, x) (sym e))
-  shown n (Some y) i x e = let had : ℕ × X = (i, x) in let want : ℕ × X = (n, y) in let pair : had ≡ want = cc in (ap (λ p. p.0) pair, ap (λ p. Some p.1) (sym pair))
-
-  pub not_shown : (n : ℕ) (o : Option X) → None ≡ beside n o → o ≡ None
-  not_shown n None e = refl
-  not_shown n (Some y) e = absurd (none_some (n, y) e)
+  pub beside_same : (n : ℕ) (o : Option X) (i : ℕ) (x : X) → beside i (Some x) ≡ beside n o → (i ≡ n) × (o ≡ Some x)
+  beside_same n None i x e = absurd (none_some (i, x) (sym e))
+  beside_same n (Some y) i x e = let had : ℕ × X = (i, x) in let want : ℕ × X = (n, y) in let pair : had ≡ want = cc in (ap (λ p. p.0) pair, ap (λ p. Some p.1) (sym pair))
 
 module _ {X Z : Type 0} {s : ℕ} {nodes : Vec (Node X) Z} {lens : List ℕ} (inv : HoldsLists s nodes lens) where
-  abbrev nx : List ℕ
-  nx = nexts nodes.items
-
-  abbrev pv : List ℕ
-  pv = prevs nodes.items
-
-  abbrev tg : List ℕ
-  tg = tags nodes.items
-
-  abbrev vs : List (Option X)
-  vs = values nodes.items
-
-  abbrev fam : ℕ → List ℕ
-  fam l = lists_of nodes.items lens l
-
-  abbrev row : ℕ → List (ℕ × X)
-  row l = pairs_of vs (fam l)
+  open columns nodes lens use {nx, pv, tg, vs, fam, row}
 
   abbrev view : Family X
   view = family_of nodes lens
@@ -151,14 +131,11 @@ module _ {X Z : Type 0} {s : ℕ} {nodes : Vec (Node X) Z} {lens : List ℕ} (in
   pub places_are : places view ≡ table stored 0 (nodes.len - 64)
   places_are = table_same stored (place_among (seen_of nodes.items lens) 0) 0 (nodes.len - 64) (λ j le lt. place_stored j)
 
-  len_vs : length vs ≡ nodes.len
-  len_vs = length-map nodes.items (λ (n : Node X). n.value) ∙ sym nodes.ok.0
-
   -- a node beyond the block is free
   stored_past : (k : ℕ) → nodes.len - 64 ≤ k → stored k ≡ None
   stored_past k le =
       let size = inv.size in
-      ap (beside (get_or tg (64 + k) 0)) (get_or_past vs (64 + k) None (omega (arith, len_vs)))
+      ap (beside (get_or tg (64 + k) 0)) (get_or_past vs (64 + k) None (omega (arith, length-values nodes)))
 
   pub place_past : (k : ℕ) → nodes.len - 64 ≤ k → place_of view k ≡ None
   place_past k le = get_or_past (places view) k None (omega (arith, length-table (place_among (seen_of nodes.items lens) 0) 0 (nodes.len - 64)))
@@ -187,10 +164,6 @@ module _ {X Z : Type 0} {s : ℕ} {nodes : Vec (Node X) Z} {lens : List ℕ} (in
   next_is k w =
       ap (λ o. option_and_then (λ l. following (list_at view l) k) (option_map (λ p. p.0) o)) (place_is k ∙ stored_own w) ∙ ap (λ ps. following ps k) (row_at w.list w.low) ∙ next_own w
 
-  -- what is not a head is a node
-  pub is_node : (n : ℕ) (x : X) → get_or vs n None ≡ Some x → 64 ≤ n
-  is_node n x e = ⊎_elim (λ h. h.1) (λ h. absurd (none_some x (sym (inv.lists.heads n h.1) ∙ e))) (leb_tells 64 n)
-
   found : (l k : ℕ) (x : X) → value_in (list_at view l) k ≡ Some x → place_of view k ≡ Some (l, x)
   found l k x e =
       ⊎_elim
@@ -211,7 +184,7 @@ module _ {X Z : Type 0} {s : ℕ} {nodes : Vec (Node X) Z} {lens : List ℕ} (in
   held : (l k : ℕ) (x : X) → place_of view k ≡ Some (l, x) → (l < 64) × (k < nodes.len - 64) × (value_in (list_at view l) k ≡ Some x)
   held l k x e =
       let s : beside l (Some x) ≡ stored k = sym e ∙ place_is k in
-      let h = shown (get_or tg (64 + k) 0) (get_or vs (64 + k) None) l x s in
+      let h = beside_same (get_or tg (64 + k) 0) (get_or vs (64 + k) None) l x s in
       let w = holds k x h.1 in
       let at : l ≡ w.list = h.0 ∙ w.tagged in let low : l < 64 = subst (λ j. j < 64) (sym at) w.low in (
         low,
@@ -227,3 +200,12 @@ module _ {X Z : Type 0} {s : ℕ} {nodes : Vec (Node X) Z} {lens : List ℕ} (in
     found = found;
     held = held;
   }
+
+-- where the place of one node changes, and of no other
+pub places_change : {X Z : Type 0} {s : ℕ} {nodes nodes' : Vec (Node X) Z} {lens lens' : List ℕ} (old : HoldsLists s nodes lens) (new : HoldsLists s nodes' lens') (k : ℕ) (place : Option (ℕ × X))
+    → nodes'.len ≡ nodes.len → k < nodes.len - 64 → stored new k ≡ place → ((j : ℕ) → (j ≢ k) → stored new j ≡ stored old j) → places (family_of nodes' lens') ≡ set (places (family_of nodes lens)) k place
+places_change {nodes = nodes} old new k place len within here others =
+    let at_k : 0 + k ≡ k = omega arith in
+    places_are new ∙ ap (λ n. table (stored new) 0 (n - 64)) len
+    ∙ table-set (stored old) (stored new) 0 (nodes.len - 64) k place within (ap (stored new) at_k ∙ here) (λ j le lt n. others j (λ e. n (e ∙ sym at_k)))
+    ∙ ap (λ l. set l k place) (sym (places_are old))

@@ -1,4 +1,5 @@
--- The size of a cell, as a value of its own: a reader has it for good, and it may cross threads. Assumes `Logic`.
+-- The size of a cell, as a value of its own: a reader has it for good, and it may cross threads.
+-- Assumes `Logic`.
 use denote.RattleType.{RattleType}
 use denote.RawPtr.{RawPtr}
 use denote.Param.Shared.{copy_shared}

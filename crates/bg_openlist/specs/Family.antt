@@ -60,8 +60,8 @@ module _ {X : Type 0} where
   next_of f k = option_and_then (λ l. following (list_at f l) k) (list_of f k)
 
   -- the list with the node k left out
-  abbrev pub without : ℕ → List (ℕ × X) → List (ℕ × X)
-  without k = filter (λ p. not (p.0 == k))
+  abbrev pub without_node : ℕ → List (ℕ × X) → List (ℕ × X)
+  without_node k = filter (λ p. not (p.0 == k))
 
   -- the nodes of all the lists, one list after another
   abbrev pub linked_nodes : List (List (ℕ × X)) → List ℕ

@@ -7,16 +7,6 @@ abbrev pub Path : List ℕ → List ℕ → ℕ → List ℕ → ℕ → Type 0
 Path nx pv a [] b = (get_or nx a 0 ≡ b) × (get_or pv b 0 ≡ a)
 Path nx pv a (k ∷ ks) b = (get_or nx a 0 ≡ k) × (get_or pv k 0 ≡ a) × Path nx pv k ks b
 
--- the last of the nodes, or a where there is none
-abbrev pub last_from : ℕ → List ℕ → ℕ
-last_from a [] = a
-last_from a (k ∷ ks) = last_from k ks
-
--- the first of the nodes, or b where there is none
-abbrev pub first_of : List ℕ → ℕ → ℕ
-first_of [] b = b
-first_of (k ∷ ks) b = k
-
 -- the n nodes after a
 abbrev pub walk : List ℕ → ℕ → ℕ → List ℕ
 walk nx zero a = []

@@ -23,9 +23,5 @@
 mod nodes;
 mod open_lists;
 mod pointers;
-#[cfg(test)]
-mod seats;
-#[cfg(test)]
-mod tests;
 
 pub use open_lists::OpenLists;

@@ -1,6 +1,6 @@
 //! The lists.
 ghost use Rattle.std.specs.Prelude.{◌≡◌, ◌<◌, ◌≤◌, ℕ, List, [], ◌∷◌, ◌++◌, ◌≢◌, false, true, length, map, replicate, slice_get, slice_set, Some, None, IfOk};
-ghost use Rattle.bg_openlist.specs.Family.{IsFamily, empty_family, is_linked, list_at, list_of, next_of, places, shown, value_of, without};
+ghost use Rattle.bg_openlist.specs.Family.{IsFamily, empty_family, is_linked, list_at, list_of, next_of, places, shown, value_of, without_node};
 
 use crate::nodes::{Node, attach, detach, empty_nodes, link_to, list_borne, node_after};
 use crate::pointers::Stride;
@@ -10,7 +10,8 @@ use std::marker::Model;
 /// How many lists there are, and so where the first node lies behind their heads.
 const LISTS: usize = 64;
 
-/// Sixty-four lists over one block of nodes. Each node is free, or in one of the lists with a value.
+/// Sixty-four lists over one block of nodes. Each node is free, or in one of the lists with a
+/// value.
 #[derive(Drop)]
 pub struct OpenLists<T> {
     nodes: Vec<Node<T>>,
@@ -120,7 +121,7 @@ impl<T> OpenLists<T> {
     pub fn unlink(&mut self, node: usize) -> T
         requires { is_linked self.old node ≡ true }
         ensures value { value_of self.old node ≡ Some result }
-        ensures lists { self.new.lists ≡ map (without node) self.old.lists }
+        ensures lists { self.new.lists ≡ map (without_node node) self.old.lists }
         ensures others { (l : ℕ) → (list_of self.old node ≢ Some l)
             → list_at self.new l ≡ list_at self.old l }
         ensures nodes { self.new.nodes ≡ self.old.nodes }

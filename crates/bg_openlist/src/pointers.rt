@@ -106,7 +106,8 @@ pub(crate) fn follow_mut<X, B: Allocator>(
     index: usize,
 ) -> &mut X
     requires { LeadsTo (type_size X.row) block.old ptr index }
-    ensures* writes_back { sem 𝓛 (vec_follows_item X.row B.row B.Allocator block.entry index result) }
+    ensures* writes_back { sem 𝓛
+        (vec_follows_item X.row B.row B.Allocator block.entry index result) }
     ensures value { result.now ≡ slice_index_or block.old.items index result.now }
 {
     unsafe { &mut *ptr }

@@ -20,6 +20,7 @@ pub enum ReadFault {
     /// A read failed, or there were 2^24 reads that gave no end.
     #[error("the input could not be read")]
     ReadFailed,
+    /// Memory for what was read was refused.
     #[error("out of memory")]
     OutOfMemory,
 }

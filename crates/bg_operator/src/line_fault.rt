@@ -8,8 +8,10 @@ use thiserror::Error;
 /// Why a line of a script gives no command.
 #[derive(Clone, Copy, PartialEq, Eq, Debug, Drop, Error)]
 pub enum LineFault {
-    #[error("the line is no well formed command")]
+    /// It is none of the commands, or has more than 4,096 bytes.
+    #[error("the line is not a well-formed command")]
     UnknownWord,
+    /// It is a well formed `open`, and memory for its name or its ports was refused.
     #[error("out of memory")]
     OutOfMemory,
 }

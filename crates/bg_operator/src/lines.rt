@@ -12,9 +12,11 @@ pub(crate) const LONGEST_LINE: usize = 4096;
 /// What a reader has next.
 #[derive(Clone, Copy, Debug, Drop, PartialEq, Eq)]
 pub enum Found {
+    /// A line of at most 4,096 bytes.
     Line,
-    /// The line is longer than [`LONGEST_LINE`], and is passed over.
+    /// A line that is longer, and was passed over.
     TooLong,
+    /// No further byte.
     End,
 }
 

@@ -15,6 +15,7 @@ const LARGEST_STRATEGY: usize = 1 << 20;
 /// The text of a strategy.
 #[derive(Debug, Drop)]
 pub enum StrategyPart {
+    /// All of its bytes, at most 1,048,576.
     Whole(Vec<u8>),
     /// There are more bytes than a strategy may have; they are not read to their end.
     TooLarge,

@@ -9,8 +9,6 @@ ghost use Rattle.bg_promotion.specs.Answers.{selectors_of};
 mod attempt;
 mod events;
 mod outcomes;
-#[cfg(test)]
-mod tests;
 
 use crate::phase::Phase;
 use attempt::Attempt;

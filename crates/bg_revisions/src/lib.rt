@@ -1,16 +1,12 @@
 //! The revisions of a rollout, and which of them the services select.
 #![tactic(auto)]
 
-#[cfg(test)]
-mod ample_memory;
 mod form;
 mod name;
 mod ports;
 mod revision;
 mod revision_fault;
 mod roster;
-#[cfg(test)]
-mod tests;
 
 pub use form::has_ports_form;
 pub use name::Name;

@@ -4,8 +4,6 @@
 mod deadlines;
 mod mark;
 mod marks;
-#[cfg(test)]
-mod tests;
 
 pub use deadlines::Deadlines;
 pub use mark::{Cause, RevisionMark};

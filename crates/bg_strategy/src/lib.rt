@@ -17,14 +17,3 @@ pub use reading::read;
 pub use service_name::ServiceName;
 pub use strategy::Strategy;
 pub use table::Field;
-
-#[cfg(test)]
-mod ample_memory;
-#[cfg(test)]
-mod copy_tests;
-#[cfg(test)]
-mod document_tests;
-#[cfg(test)]
-mod part_tests;
-#[cfg(test)]
-mod samples;

@@ -1,5 +1,22 @@
-//! The tests of the libraries, over their public calls.
+//! The tests of the libraries, over their public calls. They stand in a crate of their own, since a crate that has
+//! tests is proved twice: with them and without.
 #![tactic(auto)]
 
 #[cfg(test)]
+mod book;
+#[cfg(test)]
+mod history;
+#[cfg(test)]
+mod ledger;
+#[cfg(test)]
+mod openlist;
+#[cfg(test)]
+mod promotion;
+#[cfg(test)]
+mod revisions;
+#[cfg(test)]
+mod scaledown;
+#[cfg(test)]
 mod script;
+#[cfg(test)]
+mod strategy;

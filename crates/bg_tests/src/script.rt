@@ -6,7 +6,6 @@ mod input_lines;
 mod large_inputs;
 mod replies;
 mod reports;
-mod rows;
 mod runs;
 mod strategy_parts;
 mod streams;

@@ -1,11 +1,35 @@
-//! Each row over memory, byte by byte, and with each read and each write failing.
-use crate::script::rows::{Command, ROWS, Row};
+//! `check` and `replay` over readers and writers that are slow or fail. What they answer stands in rows/.
 use crate::script::streams::{Failing, Page, Slow};
 use bg_script::{RunEnd, check, replay};
 use std::alloc::Global;
 use std::io::{Read, Write};
 use std::process::Abort;
 use std::test::Fail;
+
+/// What is run.
+#[derive(Clone, Copy, Drop)]
+enum Command {
+    Check,
+    /// With one seat.
+    Replay,
+}
+
+/// A strategy, a fault, a script, and a script with a fault.
+const RUNS: [(Command, &str); 4] = [
+    (
+        Command::Check,
+        "{\"spec\": {\"strategy\": {\"blueGreen\": {\"activeService\": \"web\"}}}}",
+    ),
+    (Command::Check, "{\"spec\": 5}"),
+    (
+        Command::Replay,
+        "{\"spec\":{\"strategy\":{\"blueGreen\":{\"activeService\":\"web\"}}}}\r\n---\nopen v1 9001\r\navailable 1 1\nenter 0 active\nreport",
+    ),
+    (
+        Command::Replay,
+        "{\"spec\":{\"strategy\":{\"blueGreen\":{\"activeService\":\"web\"}}}}\n---\nopen\nopen v1 9001\nquit\nreport\n",
+    ),
+];
 
 /// Runs a command.
 fn run<R: Read, W: Write>(
@@ -16,47 +40,44 @@ fn run<R: Read, W: Write>(
 ) -> Result<u8, RunEnd> {
     match command {
         Command::Check => check(alloc, reader, writer),
-        Command::Replay { seats } => replay(alloc, seats, reader, writer),
+        Command::Replay => replay(alloc, 1, reader, writer),
     }
 }
 
 #[test]
-fn answers_each_row(rt: HostRuntime) -> Result<(), Fail> {
-    for row in ROWS {
-        let mut reader = row.input.as_bytes();
+fn reads_and_writes_byte_by_byte(rt: HostRuntime) -> Result<(), Fail> {
+    for (command, input) in &RUNS {
+        let mut reader = input.as_bytes();
         let mut writer = Vec::new(rt.alloc());
-        let status = run(rt.alloc(), row.command, &mut reader, &mut writer);
-        assert_eq!(rt; status, Ok(row.status), "{}", row.name);
-        assert_eq!(rt; writer.as_slice(), row.replies.as_bytes(), "{}", row.name);
+        let status = run(rt.alloc(), *command, &mut reader, &mut writer);
+        assert!(rt; status.is_ok(), "{input}");
+
+        let mut slow_reader = Slow::new(input.as_bytes(), 1000);
+        let mut slow_writer = Page::new();
+        let slow_status = run(rt.alloc(), *command, &mut slow_reader, &mut slow_writer);
+        assert_eq!(rt; slow_status, status, "{input}");
+        assert_eq!(rt; slow_writer.as_slice(), writer.as_slice(), "{input}");
     }
     Ok(())
 }
 
 #[test]
-fn reads_and_writes_byte_by_byte(rt: HostRuntime) {
-    for row in ROWS {
-        let mut reader = Slow::new(row.input.as_bytes(), 1000);
-        let mut writer = Page::new();
-        let status = run(rt.alloc(), row.command, &mut reader, &mut writer);
-        assert_eq!(rt; status, Ok(row.status), "{}", row.name);
-        assert_eq!(rt; writer.as_slice(), row.replies.as_bytes(), "{}", row.name);
-    }
-}
-
-#[test]
 fn fails_with_each_read(rt: HostRuntime) {
-    for row in ROWS {
-        assert!(rt; 0 < reads_taken(&rt, rt.alloc(), row), "{}", row.name);
+    for (command, input) in &RUNS {
+        assert!(rt;
+            0 < reads_taken(&rt, rt.alloc(), *command, input),
+            "{input}"
+        );
     }
 }
 
-/// How many reads a row takes, a byte each; with fewer it fails. 0 where it fails with 1,000 too.
-fn reads_taken(rt: &impl Abort, alloc: Global, row: &Row) -> usize {
+/// How many reads a run takes, a byte each; with fewer it fails. 0 where it fails with 1,000 too.
+fn reads_taken(rt: &impl Abort, alloc: Global, command: Command, input: &str) -> usize {
     for reads_left in 0..1000usize {
-        let mut reader = Slow::new(row.input.as_bytes(), reads_left);
-        match run(alloc, row.command, &mut reader, &mut Page::new()) {
+        let mut reader = Slow::new(input.as_bytes(), reads_left);
+        match run(alloc, command, &mut reader, &mut Page::new()) {
             Ok(_) => return reads_left,
-            Err(end) => assert_eq!(rt; end, RunEnd::ReadFailed, "{} reads", reads_left),
+            Err(end) => assert_eq!(rt; end, RunEnd::ReadFailed, "{reads_left} reads"),
         }
     }
     0
@@ -64,24 +85,21 @@ fn reads_taken(rt: &impl Abort, alloc: Global, row: &Row) -> usize {
 
 #[test]
 fn fails_with_each_write(rt: HostRuntime) {
-    for row in ROWS {
-        let writes = writes_taken(&rt, rt.alloc(), row);
-        assert!(rt; 0 < writes || row.replies.is_empty(), "{}", row.name);
+    for (command, input) in &RUNS {
+        assert!(rt;
+            0 < writes_taken(&rt, rt.alloc(), *command, input),
+            "{input}"
+        );
     }
 }
 
-/// How many writes a row takes; with fewer it fails. 0 where it fails with 200 too.
-fn writes_taken(rt: &impl Abort, alloc: Global, row: &Row) -> usize {
+/// How many writes a run takes; with fewer it fails. 0 where it fails with 200 too.
+fn writes_taken(rt: &impl Abort, alloc: Global, command: Command, input: &str) -> usize {
     for writes_left in 0..200usize {
-        let mut reader = row.input.as_bytes();
-        match run(
-            alloc,
-            row.command,
-            &mut reader,
-            &mut Failing { writes_left },
-        ) {
+        let mut reader = input.as_bytes();
+        match run(alloc, command, &mut reader, &mut Failing { writes_left }) {
             Ok(_) => return writes_left,
-            Err(end) => assert_eq!(rt; end, RunEnd::WriteFailed, "{} writes", writes_left),
+            Err(end) => assert_eq!(rt; end, RunEnd::WriteFailed, "{writes_left} writes"),
         }
     }
     0

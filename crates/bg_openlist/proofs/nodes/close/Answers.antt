@@ -1,9 +1,9 @@
-use Rattle.std.proofs.Common.{◌+◌, ap, refl}
+use Rattle.std.proofs.Common.{◌+◌, refl}
 use mathlib.Core.Path.{subst, sym}
 use denote.Param.{param}
-use Rattle.std.proofs.Math.Seq.{map-set_same}
 use Rattle.std_alloc.specs.Vec.{with_item}
 use Rattle.bg_openlist.specs.Nodes.{IsLoop, node_size}
+use Rattle.bg_openlist.proofs.Columns.{column_same}
 use Rattle.bg_openlist.proofs.Loops.{loop_more}
 use Rattle.bg_openlist.proofs.nodes.close.Goals as goal
 
@@ -15,5 +15,4 @@ returns-clause-loops g c =
     subst (λ i. IsLoop s (with_item c.args.nodes.now at.index m) (i + 1)) is.index more
 
 pub returns-clause-values : goal.returns-clause-values
-returns-clause-values g c =
-    map-set_same (λ n. n.value) c.args.nodes.now.items c.link_to-at.result.index _ c.follow_mut-node.result.now (ap (λ n. n.value) c.follow_mut-node.ensures.value)
+returns-clause-values g c = column_same (λ n. n.value) _ _ _ _ c.follow_mut-node.ensures.value refl

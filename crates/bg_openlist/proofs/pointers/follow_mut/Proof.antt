@@ -1,4 +1,5 @@
--- `follow_mut` lends one element of a Vec, and the Vec follows what is written there. Assumes `Logic`.
+-- `follow_mut` lends one element of a Vec, and the Vec follows what is written there. Assumes
+-- `Logic`.
 use mathlib.Core.Path.{◌≡◌, refl}
 use Prim.Native.Nat.{◌+◌, ◌*◌, ◌<◌}
 use native.Mathlib.Omega.{arith}

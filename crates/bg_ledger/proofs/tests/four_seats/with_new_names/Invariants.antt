@@ -1,5 +1,0 @@
-use Rattle.bg_ledger.proofs.Picks.{names_of}
-use Rattle.bg_ledger.proofs.tests.four_seats.with_new_names.Given as goal
-
-abbrev pub ghosts-work_four_seats : goal.ghosts-work_four_seats
-ghosts-work_four_seats g a = names_of 4 a.blanks

@@ -1,6 +1,0 @@
-use Rattle.std.specs.Prelude.{◌≡◌, ◌*◌}
-use Rattle.bg_ledger.specs.Holdings.{fresh}
-use Rattle.bg_ledger.proofs.tests.four_seats.work.Given as goal
-
-abbrev pub invariant-loop-round : goal.invariant-loop-round
-invariant-loop-round g l = l.seat ≡ record (fresh l.fn.seat.index) { calls = 2 * l.round }

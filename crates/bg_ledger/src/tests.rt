@@ -1,3 +1,0 @@
-mod each_index;
-mod four_seats;
-mod sizes;

@@ -1,0 +1,8 @@
+//! The routing book.
+
+mod openings;
+mod requests;
+mod rows;
+mod runs;
+mod samples;
+mod state;

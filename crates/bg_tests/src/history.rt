@@ -1,0 +1,3 @@
+//! The list of entries.
+
+mod entries;

@@ -1,0 +1,5 @@
+//! The lists linked by pointers.
+
+mod lists;
+mod plain_vectors;
+mod seats;

@@ -1,0 +1,4 @@
+//! The promotion core.
+
+mod faults;
+mod phases;

@@ -1,0 +1,4 @@
+//! The roster of the revisions that exist.
+
+mod parts;
+mod roster;

@@ -1,0 +1,6 @@
+//! The settings of a rollout: how they are read, and what is a name.
+
+mod documents;
+mod faults;
+mod names;
+mod settings;
