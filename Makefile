@@ -1,8 +1,19 @@
-# build: proves and builds the program.  test: the gate.  demo: the program on the examples.  bench: times.
-.PHONY: build test demo bench
+# check: for the working day.  build: proves and builds the program.  test: the gate.  demo: the examples.  bench: times.
+.PHONY: check build test demo bench bg_book bg_operator bg_report
 
+check:
+	rt all check
+	scripts/whole_program.sh
+
+# The layers above the book are proved side by side.
 build:
+	$(MAKE) --no-print-directory -j bg_operator bg_report
 	cd crates/bg_switch && rt run -- check < ../../examples/direct.json > /dev/null
+
+bg_operator bg_report: bg_book
+
+bg_book bg_operator bg_report:
+	cd crates/$@ && rt lib
 
 test:
 	rt ci

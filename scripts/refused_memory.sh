@@ -1,44 +1,155 @@
 #!/bin/sh
-# Runs the tests of each crate whose calls take memory with the Nth request for memory refused, for each N up to the
-# last request that a call under test makes. A test that meets a refusal sees OutOfMemory and an unchanged state, and
-# then asks again.
+# Runs the built programs with each of their requests for memory refused, one in each run.
 #
-# That no call makes a later request is seen at the one after the last: there the tests named after ample memory pass,
-# which make the same calls and ask for nothing twice.
+# `bg_refused_memory` makes each public call of the libraries that takes memory, and asks again where it was refused:
+# whichever request is refused, it writes the very same, and each call that it makes was refused in some run.
+#
+# `bg_switch` on each row of rows/ ends with `OutOfMemory` on standard error, answers one line by `OutOfMemory` and all
+# others as without that line, or does as ever: some requests are made ahead of need, and made again.
 set -eu
 cd "$(dirname -- "$0")/.."
-LOGS=$(mktemp -d)
-export LOGS
-trap 'rm -rf "$LOGS"' EXIT
+work=$(mktemp -d)
+trap 'rm -rf "$work"' EXIT
+switch=crates/bg_switch/out/bg_switch
+callers=crates/bg_refused_memory/out/bg_refused_memory
+passed=0
+failed=0
 
-# CRATE LAST TESTS: the last request of a call under test, and a part of the names of the tests that ask again.
-crates() {
-    cat << 'END'
-bg_switch 38 says_that_memory_is_refused
-bg_book 25 tests::
-bg_strategy 27 tests::
-bg_revisions 5 tests::
-bg_history 4 tests::
-bg_openlist 1 opens_after_a_refusal
-END
+# Builds scripts/refuse_memory.c, by the kit's clang where there is no compiler else.
+build_refuser() {
+    compiler=${CC:-cc}
+    set -- -O2 -shared -fPIC -o "$work/refuse_memory.so" scripts/refuse_memory.c
+    if command -v "$compiler" > /dev/null; then
+        "$compiler" "$@"
+    else
+        toolchain=$(dirname -- "$(rt doc)")/toolchain
+        "$toolchain/bin/clang" "$@" -nostdlib -fuse-ld=lld "$toolchain/lib/libc.so.6"
+    fi
 }
 
-# CRATE N TESTS, once for each run.
-runs() {
-    crates | while read -r crate last tests; do
-        seq -f "$crate %g $tests" 1 "$last"
-        echo "$crate $((last + 1)) ample_memory"
+# Proves and builds bg_refused_memory where it is missing or older than its sources, as bin/bg_switch does the switch.
+build_callers() {
+    if [ -x "$callers" ] &&
+        [ -z "$(find crates crates.txt -name out -prune -o -type f -newer "$callers" -print | head -n 1)" ]; then
+        return
+    fi
+    (cd crates/bg_refused_memory && rt run) > "$work/built" 2>&1 || { cat "$work/built" >&2; exit 1; }
+    touch "$callers"
+}
+
+# refuse REQUEST PROGRAM WORD..: runs the program with this request for memory refused. Sets `status`, and leaves what
+# was written in the files `replies` and `complaint`. Fails where the program made no such request.
+refuse() {
+    request=$1
+    shift
+    status=0
+    REFUSED_REQUEST=$request LD_PRELOAD=$work/refuse_memory.so \
+        "$@" > "$work/replies" 2> "$work/complaint" 9> "$work/report" || status=$?
+    [ -s "$work/report" ]
+}
+
+# judge WHAT TEST..: counts whether the test holds.
+judge() {
+    what=$1
+    shift
+    if "$@"; then
+        passed=$((passed + 1))
+    else
+        failed=$((failed + 1))
+        echo "FAILED: $what"
+    fi
+}
+
+# The program writes the same as ever, and ends well.
+is_as_stored() {
+    [ "$status" -eq 0 ] && diff "$stored" "$work/replies"
+}
+
+# The calls that were refused are those that the program makes.
+all_were_refused() {
+    sed -n 's/^made //p' "$stored" | sort -u > "$work/made"
+    sed -n 's/^refused //p' "$work/complaints" | sort -u > "$work/refused"
+    diff "$work/made" "$work/refused"
+}
+
+refuse_to_libraries() {
+    stored=crates/bg_refused_memory/stdout
+    : > "$work/complaints"
+    requests=0
+    while refuse $((requests + 1)) "$callers"; do
+        requests=$((requests + 1))
+        judge "bg_refused_memory without request $requests" is_as_stored
+        cat "$work/complaint" >> "$work/complaints"
     done
+    judge 'bg_refused_memory with ample memory' is_as_stored
+    judge 'the calls that were made and those that were refused' all_were_refused
 }
 
-# Three at a time, as much as memory holds. Prints the end of what a failed run said.
-runs | xargs -P 3 -L 1 sh -c '
-    crate=$1 request=$2 tests=$3
-    log=$LOGS/$crate-$request
-    (cd "crates/$crate" && rt try --test --fail-alloc "$request" -- "$tests") > "$log" 2>&1 \
-        && grep -q "^test result: ok\. [1-9]" "$log" || {
-        echo "FAILED: $crate with request $request for memory refused"
-        tail -n 20 "$log"
-        exit 1
-    }' run
-echo "refused_memory: $(runs | wc -l) passed, 0 failed"
+# Status and replies are the row's.
+is_as_in_row() {
+    [ ! -s "$work/complaint" ] && [ "$status" = "$(cat "$row/status")" ] && cmp -s "$row/replies" "$work/replies"
+}
+
+# The run has ended for want of memory, and what it wrote until then is the row's.
+has_ended() {
+    [ "$status" -eq 1 ] && [ "$(cat "$work/complaint")" = OutOfMemory ] &&
+        head -c "$(wc -c < "$work/replies")" "$row/replies" | cmp -s - "$work/replies"
+}
+
+# Prints the place of the one reply that says OutOfMemory, from 1; a report is one reply, though of many lines.
+place_refused() {
+    awk '
+        !report { place++ }
+        /^moment / { report = 1 }
+        /^end$/ { report = 0 }
+        /^(fault|refused) OutOfMemory$/ { count++; found = place }
+        END { if (count == 1) print found }
+    ' "$work/replies"
+}
+
+# Prints the row's input without the line of the script at this place, from 1.
+without_line() {
+    awk -v place="$1" '
+        !line || NR != line + place
+        !line { sub(/\r$/, ""); if ($0 == "---") line = NR }
+    ' "$row/input"
+}
+
+# One line was refused, and all others are answered as in a run without that line, where memory is ample.
+has_refused_a_line() {
+    place=$(place_refused)
+    [ ! -s "$work/complaint" ] && [ -n "$place" ] || return
+    without_line "$place" > "$work/without"
+    wanted=0
+    "$switch" "$@" < "$work/without" > "$work/wanted" || wanted=$?
+    ! grep -qx 'fault OutOfMemory' "$work/replies" || wanted=1
+    [ "$status" -eq "$wanted" ] &&
+        sed -E '/^(fault|refused) OutOfMemory$/d' "$work/replies" | cmp -s - "$work/wanted"
+}
+
+has_said_so() {
+    has_ended || has_refused_a_line "$@" || is_as_in_row
+}
+
+refuse_to_row() {
+    row=$1
+    # shellcheck disable=SC2046  # the words of the command
+    set -- $(cat "$row/command")
+    requests=0
+    while refuse $((requests + 1)) "$switch" "$@" < "$row/input"; do
+        requests=$((requests + 1))
+        judge "$row without request $requests" has_said_so "$@"
+    done
+    judge "$row with ample memory, after $requests requests" is_as_in_row
+    judge "$row makes requests" [ "$requests" -gt 0 ]
+}
+
+build_refuser
+build_callers
+bin/bg_switch check < examples/direct.json > /dev/null
+refuse_to_libraries
+for each in rows/*; do
+    refuse_to_row "$each"
+done
+echo "refused_memory: $passed passed, $failed failed"
+[ "$failed" -eq 0 ]

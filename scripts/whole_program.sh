@@ -1,6 +1,6 @@
 #!/bin/sh
-# Runs the built program, and compares its exit status and what it writes: on the examples, on words that are no order,
-# on faults, and where input or output fails.
+# Runs the built program, and compares its exit status and what it writes: on the worked rows and the examples, on words
+# that are no order, on faults, and where input or output fails.
 set -eu
 cd "$(dirname -- "$0")/.."
 # Builds the program where it is stale, so that no run below has the build's messages on standard error.
@@ -35,6 +35,12 @@ expect_to() {
         echo "FAILED: bg_switch $*: it ended with $end"
     fi
 }
+
+# The worked rows.
+for row in rows/*; do
+    # shellcheck disable=SC2046  # the words of the command
+    expect "$(cat "$row/status")" "$row/replies" '' $(cat "$row/command") < "$row/input"
+done
 
 # The examples.
 expect 0 examples/two_requests.replies '' replay < examples/two_requests.txt

@@ -1,0 +1,29 @@
+//! Makes each public call of the libraries that takes memory. Where memory is refused, it looks at what the refused
+//! call has left, and asks again.
+//!
+//! Standard output names each call that was made, with what came of it, and is the same whichever request for memory
+//! is refused, unless a refused call has changed something. Standard error names each call that was refused.
+//! `scripts/refused_memory.sh` refuses the requests, one in each run.
+#![tactic(auto)]
+
+mod asking;
+mod desks;
+mod histories;
+mod open_lists;
+mod page;
+mod rooms;
+mod rosters;
+mod state;
+mod stop;
+mod strategies;
+
+use crate::stop::Stop;
+
+fn main(rt: HostRuntime) -> Result<(), Stop> {
+    strategies::make_calls(&rt)?;
+    rosters::make_calls(&rt)?;
+    histories::make_calls(&rt)?;
+    open_lists::make_calls(&rt)?;
+    desks::make_calls(&rt)?;
+    rooms::make_calls(&rt)
+}

@@ -1,0 +1,71 @@
+//! The calls of `bg_revisions`.
+
+use crate::asking::{change, make};
+use crate::stop::Stop;
+use bg_revisions::{Name, Ports, Roster};
+use std::alloc::Global;
+use std::fmt;
+
+/// The names of the revisions that are added.
+const NAMES: [&str; 3] = ["v1", "v2", "v3"];
+
+/// A roster, displayed as all that it answers.
+#[derive(Drop)]
+struct Revisions {
+    roster: Roster,
+}
+
+impl Revisions {
+    fn new(alloc: Global) -> Result<Revisions, Stop> {
+        Ok(Revisions {
+            roster: Roster::new(alloc, 2)?,
+        })
+    }
+
+    /// Adds a revision whose name is new.
+    fn add(&mut self, name: &str) -> Result<(), Stop> {
+        let ports = [9001, 9002];
+        self.roster.fits(name, &ports)?;
+        if self.roster.find_name(name).is_some() || self.roster.last() >= 1 << 53 {
+            return Err(Stop::OtherFault);
+        }
+        let _number = self.roster.add(name, &ports, 2)?;
+        Ok(())
+    }
+}
+
+impl fmt::Display for Revisions {
+    fn fmt<W: fmt::Write>(&self, f: &mut fmt::Formatter<W>) -> fmt::Result {
+        let roster = &self.roster;
+        writeln!(f, "last {} count {}", roster.last(), roster.count())?;
+        for place in 0..roster.count() {
+            writeln!(f, "{:?}", roster.at(place))?;
+        }
+        for name in &NAMES {
+            let found = roster.find_name(name).map(|revision| revision.number);
+            writeln!(f, "{name} {found:?}")?;
+        }
+        for number in 1..4 {
+            let found = roster.find_number(number).map(|revision| revision.number);
+            writeln!(f, "{number} {found:?}")?;
+        }
+        Ok(())
+    }
+}
+
+pub fn make_calls<R: AllocGlobal + Print + Eprint>(rt: &R) -> Result<(), Stop> {
+    let alloc = rt.alloc();
+    let name = make(rt, "Name::new", || Ok(Name::new(alloc, "v1")?))?;
+    let ports = make(rt, "Ports::new", || Ok(Ports::new(alloc, &[9001, 9002])?))?;
+    println!(rt; "{name:?} {ports:?}")?;
+    let mut revisions = make(rt, "Roster::new", || Revisions::new(alloc))?;
+    change(
+        rt,
+        "Roster::add",
+        &mut revisions,
+        &NAMES,
+        |revisions, name| { revisions.add(name) },
+    )?;
+    print!(rt; "{revisions}")?;
+    Ok(())
+}

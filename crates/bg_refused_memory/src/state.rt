@@ -1,0 +1,86 @@
+//! What a book and its seats answer of themselves.
+
+use bg_book::{Book, Seat};
+use std::fmt;
+
+/// A book and its seats, displayed as all that they answer. Of the history it is the length and the newest entry.
+#[derive(Drop)]
+pub struct State<'a> {
+    pub book: &'a Book,
+    pub seats: &'a [Seat],
+}
+
+impl fmt::Display for State<'_> {
+    fn fmt<W: fmt::Write>(&self, f: &mut fmt::Formatter<W>) -> fmt::Result {
+        let book = self.book;
+        writeln!(f, "moment {} phase {:?}", book.moment(), book.phase())?;
+        writeln!(f, "{:?}", book.selectors())?;
+        writeln!(f, "{:?}", book.strategy())?;
+        write!(f, "{}{}", Revisions(book), LastEntry(book))?;
+        for seat in self.seats {
+            write!(f, "{}", SeatLine(seat))?;
+        }
+        Ok(())
+    }
+}
+
+/// The revisions of a book.
+#[derive(Drop)]
+struct Revisions<'a>(&'a Book);
+
+impl fmt::Display for Revisions<'_> {
+    fn fmt<W: fmt::Write>(&self, f: &mut fmt::Formatter<W>) -> fmt::Result {
+        let book = self.0;
+        writeln!(f, "count {}", book.count())?;
+        for place in 0..book.count() {
+            if let Some(revision) = book.revision(place) {
+                let number = revision.number;
+                writeln!(f, "{revision:?}")?;
+                writeln!(
+                    f,
+                    "open {} deadline {:?} draining {}",
+                    book.open_count(number),
+                    book.deadline_of(number),
+                    book.is_draining(number)
+                )?;
+            }
+        }
+        Ok(())
+    }
+}
+
+/// The length of a book's history, and its newest entry.
+#[derive(Drop)]
+struct LastEntry<'a>(&'a Book);
+
+impl fmt::Display for LastEntry<'_> {
+    fn fmt<W: fmt::Write>(&self, f: &mut fmt::Formatter<W>) -> fmt::Result {
+        let history = self.0.history();
+        let len = history.len();
+        writeln!(f, "entries {len} {:?}", history.get(len.saturating_sub(1)))
+    }
+}
+
+/// What a seat answers.
+#[derive(Drop)]
+struct SeatLine<'a>(&'a Seat);
+
+impl fmt::Display for SeatLine<'_> {
+    fn fmt<W: fmt::Write>(&self, f: &mut fmt::Formatter<W>) -> fmt::Result {
+        let seat = self.0;
+        write!(
+            f,
+            "seat {} in {} calls {}",
+            seat.index(),
+            seat.is_in(),
+            seat.calls()
+        )?;
+        writeln!(
+            f,
+            " number {} revision {} port {}",
+            seat.number(),
+            seat.revision(),
+            seat.port()
+        )
+    }
+}

@@ -1,0 +1,97 @@
+//! Why a call has no answer.
+
+use bg_book::{ControlFault, EnterFault, OpenFault, RunFault};
+use bg_revisions::RevisionFault;
+use bg_strategy::StrategyFault;
+use std::alloc::AllocError;
+use std::{fmt, io};
+use thiserror::Error;
+
+/// Why a call has no answer, and where it has none the second time, why the program ends.
+#[derive(Clone, Copy, Debug, Drop, PartialEq, Eq, Error)]
+pub enum Stop {
+    #[error("memory was refused")]
+    OutOfMemory,
+    /// No call of this program has another fault than want of memory.
+    #[error("a call has another fault")]
+    OtherFault,
+    #[error("a state could not be written down")]
+    StateTooLong,
+    #[error("the output could not be written")]
+    WriteFailed,
+}
+
+impl From<AllocError> for Stop {
+    fn from(_refused: AllocError) -> Stop {
+        Stop::OutOfMemory
+    }
+}
+
+impl From<StrategyFault> for Stop {
+    fn from(fault: StrategyFault) -> Stop {
+        match fault {
+            StrategyFault::OutOfMemory => Stop::OutOfMemory,
+            StrategyFault::NotJson
+            | StrategyFault::Missing(_)
+            | StrategyFault::WrongType(_)
+            | StrategyFault::OutOfRange(_)
+            | StrategyFault::SameService => Stop::OtherFault,
+        }
+    }
+}
+
+impl From<RevisionFault> for Stop {
+    fn from(fault: RevisionFault) -> Stop {
+        match fault {
+            RevisionFault::OutOfMemory => Stop::OutOfMemory,
+            _ => Stop::OtherFault,
+        }
+    }
+}
+
+impl From<OpenFault> for Stop {
+    fn from(fault: OpenFault) -> Stop {
+        match fault {
+            OpenFault::OutOfMemory => Stop::OutOfMemory,
+            _ => Stop::OtherFault,
+        }
+    }
+}
+
+impl From<EnterFault> for Stop {
+    fn from(fault: EnterFault) -> Stop {
+        match fault {
+            EnterFault::OutOfMemory => Stop::OutOfMemory,
+            _ => Stop::OtherFault,
+        }
+    }
+}
+
+impl From<ControlFault> for Stop {
+    fn from(fault: ControlFault) -> Stop {
+        match fault {
+            ControlFault::OutOfMemory => Stop::OutOfMemory,
+            _ => Stop::OtherFault,
+        }
+    }
+}
+
+impl From<RunFault> for Stop {
+    fn from(fault: RunFault) -> Stop {
+        match fault {
+            RunFault::OutOfMemory => Stop::OutOfMemory,
+        }
+    }
+}
+
+impl From<fmt::Error> for Stop {
+    fn from(_error: fmt::Error) -> Stop {
+        Stop::StateTooLong
+    }
+}
+
+impl From<io::Error> for Stop {
+    fn from(_error: io::Error) -> Stop {
+        Stop::WriteFailed
+    }
+}
