@@ -4,8 +4,8 @@
 # `bg_refused_memory` makes each public call of the libraries that takes memory, and asks again where it was refused:
 # whichever request is refused, it writes the very same, and each call that it makes was refused in some run.
 #
-# `bg_switch` on each row of rows/ ends with `OutOfMemory` on standard error, answers one line by `OutOfMemory` and all
-# others as without that line, or does as ever: some requests are made ahead of need, and made again.
+# `bg_switch` on each row of rows/ ends with `OutOfMemory` on standard error, or answers one line by `OutOfMemory` and all
+# others as without that line, or does as ever, since std's `collect` goes on without the room that it asks for ahead.
 set -eu
 cd "$(dirname -- "$0")/.."
 work=$(mktemp -d)
@@ -78,7 +78,7 @@ refuse_to_libraries() {
     requests=0
     while refuse $((requests + 1)) "$callers"; do
         requests=$((requests + 1))
-        judge "bg_refused_memory without request $requests" is_as_stored
+        judge "bg_refused_memory with request $requests refused" is_as_stored
         cat "$work/complaint" >> "$work/complaints"
     done
     judge 'bg_refused_memory with ample memory' is_as_stored
@@ -138,7 +138,7 @@ refuse_to_row() {
     requests=0
     while refuse $((requests + 1)) "$switch" "$@" < "$row/input"; do
         requests=$((requests + 1))
-        judge "$row without request $requests" has_said_so "$@"
+        judge "$row with request $requests refused" has_said_so "$@"
     done
     judge "$row with ample memory, after $requests requests" is_as_in_row
     judge "$row makes requests" [ "$requests" -gt 0 ]

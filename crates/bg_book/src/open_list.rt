@@ -65,7 +65,9 @@ impl OpenList {
 
     /// Takes the request of this number out of the list.
     pub(crate) fn remove(&mut self, number: u64)
-        ensures { self.new ≡ record self.old { requests = without_request number self.old.requests } }
+        ensures { self.new ≡ record self.old {
+          requests = without_request number self.old.requests;
+        } }
     {
         self.requests.retain(|request| request.number != number);
     }

@@ -41,23 +41,42 @@ impl fmt::Display for Revisions {
         for place in 0..roster.count() {
             writeln!(f, "{:?}", roster.at(place))?;
         }
+        write!(f, "{}", LookUps(roster))
+    }
+}
+
+/// What a roster finds by name and by number.
+#[derive(Drop)]
+struct LookUps<'a>(&'a Roster);
+
+impl fmt::Display for LookUps<'_> {
+    fn fmt<W: fmt::Write>(&self, f: &mut fmt::Formatter<W>) -> fmt::Result {
         for name in &NAMES {
-            let found = roster.find_name(name).map(|revision| revision.number);
-            writeln!(f, "{name} {found:?}")?;
+            writeln!(f, "{name} {:?}", self.0.find_name(name))?;
         }
         for number in 1..4 {
-            let found = roster.find_number(number).map(|revision| revision.number);
-            writeln!(f, "{number} {found:?}")?;
+            writeln!(f, "{number} {:?}", self.0.find_number(number))?;
         }
         Ok(())
     }
 }
 
 pub fn make_calls<R: AllocGlobal + Print + Eprint>(rt: &R) -> Result<(), Stop> {
+    make_parts(rt)?;
+    make_revisions(rt)
+}
+
+/// Makes the parts of a revision.
+fn make_parts<R: AllocGlobal + Print + Eprint>(rt: &R) -> Result<(), Stop> {
     let alloc = rt.alloc();
     let name = make(rt, "Name::new", || Ok(Name::new(alloc, "v1")?))?;
     let ports = make(rt, "Ports::new", || Ok(Ports::new(alloc, &[9001, 9002])?))?;
     println!(rt; "{name:?} {ports:?}")?;
+    Ok(())
+}
+
+fn make_revisions<R: AllocGlobal + Print + Eprint>(rt: &R) -> Result<(), Stop> {
+    let alloc = rt.alloc();
     let mut revisions = make(rt, "Roster::new", || Revisions::new(alloc))?;
     change(
         rt,

@@ -13,16 +13,26 @@ const BASE: &str =
     "{\"spec\": {\"replicas\": 2, \"strategy\": {\"blueGreen\": {\"activeService\": \"web\"}}}}";
 
 pub fn make_calls<R: AllocGlobal + Print + Eprint>(rt: &R) -> Result<(), Stop> {
+    make_names(rt)?;
+    make_strategies(rt)
+}
+
+fn make_names<R: AllocGlobal + Print + Eprint>(rt: &R) -> Result<(), Stop> {
     let alloc = rt.alloc();
-    let name = make(rt, "ServiceName::new", || {
-        Ok(ServiceName::new(alloc, "web")?)
-    })?;
+    let name = make(
+        rt,
+        "ServiceName::new",
+        || Ok(ServiceName::new(alloc, "web")?),
+    )?;
     let copy = make(rt, "ServiceName::clone", || Ok(name.clone()?))?;
     println!(rt; "{} {}", name.get(), copy.get())?;
+    Ok(())
+}
+
+fn make_strategies<R: AllocGlobal + Print + Eprint>(rt: &R) -> Result<(), Stop> {
     let strategy = strategy_of(rt, EVERY_FIELD)?;
-    println!(rt; "{strategy:?}")?;
     let copy = copy_of(rt, &strategy)?;
-    println!(rt; "{copy:?}")?;
+    println!(rt; "{strategy:?}\n{copy:?}")?;
     Ok(())
 }
 

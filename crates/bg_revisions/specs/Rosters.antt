@@ -33,9 +33,9 @@ form_of replicas name ports =
     else Err BadName
 
 -- there is a revision, and it has this name and these ports
-abbrev pub is_template : List ℕ → List ℕ → Option Revision → Bool
-is_template name ports None = false
-is_template name ports (Some v) = bytes_eq v.name name && bytes_eq v.ports ports
+abbrev pub has_template : List ℕ → List ℕ → Option Revision → Bool
+has_template name ports None = false
+has_template name ports (Some v) = bytes_eq v.name name && bytes_eq v.ports ports
 
 -- the number of a revision with these ports, or none where there is no revision
 abbrev pub owner_of : List ℕ → Option Revision → Result (Option ℕ) RevisionFault
@@ -45,7 +45,7 @@ owner_of ports (Some v) = if bytes_eq v.ports ports then Ok (Some v.number) else
 -- the newest revision's template is refused first, then other ports under the name of a revision
 abbrev pub template_of : ℕ → List ℕ → List ℕ → List Revision → Result (Option ℕ) RevisionFault
 template_of newest name ports revisions =
-    if is_template name ports (numbered newest revisions) then Err SameTemplate
+    if has_template name ports (numbered newest revisions) then Err SameTemplate
     else owner_of ports (named name revisions)
 
 -- why a revision isn't added

@@ -2,7 +2,5 @@
 
 mod openings;
 mod requests;
-mod rows;
 mod runs;
 mod samples;
-mod state;

@@ -1,5 +1,3 @@
 //! The lists linked by pointers.
 
 mod lists;
-mod plain_vectors;
-mod seats;

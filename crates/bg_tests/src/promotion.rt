@@ -1,4 +1,3 @@
 //! The promotion core.
 
-mod faults;
 mod phases;

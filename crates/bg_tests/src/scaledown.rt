@@ -1,5 +1,3 @@
 //! The deadlines after which an old revision may be scaled down.
 
 mod deadlines;
-mod plain_list;
-mod random_marks;

@@ -1,11 +1,8 @@
 //! Lines, commands, texts, and whole runs of `check` and `replay`: over memory, and over readers
 //! and writers that are slow or fail.
 
-mod commands;
 mod input_lines;
 mod large_inputs;
-mod replies;
-mod reports;
 mod runs;
 mod strategy_parts;
 mod streams;

@@ -1,6 +1,3 @@
 //! The settings of a rollout: how they are read, and what is a name.
 
-mod documents;
-mod faults;
 mod names;
-mod settings;

@@ -1,8 +1,7 @@
 //! Two requests by the calls for one event each, and what the book and its seats then answer.
 ghost use Rattle.std.specs.Prelude.{◌≡◌};
 
-use super::samples::{BASE, strategy};
-use super::state::{SeatState, state_of_seat};
+use super::samples::strategy;
 use bg_book::{Book, Control, EnterFault, Left, Limits, Seat, Ticket};
 use bg_history::Entry;
 use bg_revisions::Service;
@@ -20,7 +19,7 @@ struct Desk {
 
 impl Desk {
     fn open(alloc: Global) -> Result<Desk, Fail> {
-        let strategy = strategy(alloc, BASE)?;
+        let strategy = strategy(alloc)?;
         let usual = Limits::usual();
         let (book, seats) = Book::open(alloc, strategy, "v1", &[9001, 9002], 4, usual)?;
         Ok(Desk { book, seats })
@@ -80,24 +79,10 @@ fn served(rt: &impl Abort, alloc: Global) -> Result<Desk, Fail> {
 fn seats_hold_their_requests(rt: HostRuntime) -> Result<(), Fail> {
     let desk = served(&rt, rt.alloc())?;
     assert_eq!(rt; desk.seats.len(), 4);
-    let gone = SeatState {
-        index: 0,
-        is_in: false,
-        number: 0,
-        revision: 0,
-        port: 0,
-        calls: 2,
-    };
-    let held = SeatState {
-        index: 1,
-        is_in: true,
-        number: 2,
-        revision: 1,
-        port: 9001,
-        calls: 1,
-    };
-    assert_eq!(rt; state_of_seat(&desk.seats[0]), gone);
-    assert_eq!(rt; state_of_seat(&desk.seats[1]), held);
+    let (gone, held) = (&desk.seats[0], &desk.seats[1]);
+    assert_eq!(rt; (gone.is_in(), gone.number(), gone.calls()), (false, 0, 2));
+    assert_eq!(rt; (held.is_in(), held.number(), held.calls()), (true, 2, 1));
+    assert_eq!(rt; (held.revision(), held.port()), (1, 9001));
     Ok(())
 }
 

@@ -1,13 +1,17 @@
-//! The worked rows, each call alone and all at once.
+//! Lists of calls, and calls at the limits of a book.
 ghost use Rattle.bg_book.specs.Runs.{AreKnown, AreApart};
 
-use super::rows::{End, ROWS, Row};
 use super::samples::strategy;
-use super::state::{State, state_of};
-use bg_book::{Book, Call, Reply, RunFault, Seat};
+use bg_book::{Book, Call, Control, ControlFault, EnterFault, Left, Limits, Reply, Seat, Ticket};
+use bg_revisions::Service;
 use std::alloc::Global;
-use std::process::Abort;
 use std::test::Fail;
+
+/// Revision 1 has both its endpoints.
+const AVAILABLE: Call = Call::Control(Control::Available {
+    revision: 1,
+    size: 2,
+});
 
 /// A book and the seats at which calls are made.
 #[derive(Drop)]
@@ -19,9 +23,9 @@ struct Room {
 }
 
 impl Room {
-    fn open(alloc: Global, row: &Row) -> Result<Room, Fail> {
-        let strategy = strategy(alloc, row.strategy)?;
-        let (book, seats) = Book::open(alloc, strategy, "v1", row.ports, 4, row.limits)?;
+    fn open(alloc: Global, limits: Limits) -> Result<Room, Fail> {
+        let strategy = strategy(alloc)?;
+        let (book, seats) = Book::open(alloc, strategy, "v1", &[9001, 9002], 4, limits)?;
         Ok(Room { book, seats })
     }
 
@@ -29,65 +33,83 @@ impl Room {
         self.book.call(&mut self.seats, &call)
     }
 
-    fn run(&mut self, calls: &[Call]) -> Result<Vec<Reply>, RunFault> {
-        self.book.run(&mut self.seats, calls)
-    }
-
-    fn state(&self) -> State {
-        state_of(&self.book, &self.seats)
-    }
-
-    fn end(&self) -> End {
-        let state = self.state();
-        End {
-            moment: state.moment,
-            available: state.available,
-            open: state.open,
-            entries: state.entries,
-        }
-    }
-
-    /// Makes one call of a row, and compares the answer. A refusal changes nothing.
-    fn expect(&mut self, rt: &impl Abort, row: &str, call: Call, want: Reply) {
-        let before = self.state();
-        let reply = self.call(call);
-        assert_eq!(rt; reply, want, "{row}: {call:?}");
-        if !matches!(reply, Reply::Entered(_) | Reply::Left(_) | Reply::Done(_)) {
-            assert_eq!(rt; self.state(), before, "{row}: {call:?}");
-        }
+    fn run(&mut self, calls: &[Call]) -> Result<Vec<Reply>, Fail> {
+        Ok(self.book.run(&mut self.seats, calls)?)
     }
 }
 
-fn answer_each_call(rt: &impl Abort, alloc: Global, row: &Row) -> Result<(), Fail> {
-    let mut room = Room::open(alloc, row)?;
-    let calls = row.calls(alloc)?;
-    for (call, want) in &calls {
-        room.expect(rt, row.name, *call, *want);
+fn enter(seat: u32) -> Call {
+    Call::Enter {
+        seat,
+        service: Service::Active,
     }
-    assert_eq!(rt; room.end(), row.end, "{}", row.name);
-    Ok(())
 }
 
-fn answer_all_calls(rt: &impl Abort, alloc: Global, row: &Row) -> Result<(), Fail> {
-    let mut room = Room::open(alloc, row)?;
-    let mut calls = Vec::new(alloc);
-    let mut wanted = Vec::new(alloc);
-    let rows = row.calls(alloc)?;
-    for (call, want) in &rows {
-        calls.push(*call)?;
-        wanted.push(*want)?;
-    }
-    let replies = room.run(&calls)?;
-    assert_eq!(rt; replies.as_slice(), wanted.as_slice(), "{}", row.name);
-    assert_eq!(rt; room.end(), row.end, "{}", row.name);
+fn entered(number: u64) -> Reply {
+    let port = if number % 2 == 0 { 9001 } else { 9002 };
+    Reply::Entered(Ticket {
+        number,
+        revision: 1,
+        port,
+    })
+}
+
+fn left(number: u64) -> Reply {
+    Reply::Left(Left {
+        number,
+        revision: 1,
+    })
+}
+
+#[test]
+fn answers_a_list_of_calls(rt: HostRuntime) -> Result<(), Fail> {
+    let mut room = Room::open(rt.alloc(), Limits::usual())?;
+    let replies = room.run(&[AVAILABLE, enter(0), enter(0), Call::Leave { seat: 0 }])?;
+    let want = [Reply::Done(0), entered(1), Reply::SeatBusy, left(1)];
+    assert_eq!(rt; replies.as_slice(), want.as_slice());
     Ok(())
 }
 
 #[test]
-fn answers_the_worked_rows(rt: HostRuntime) -> Result<(), Fail> {
-    for row in &ROWS {
-        answer_each_call(&rt, rt.alloc(), row)?;
-        answer_all_calls(&rt, rt.alloc(), row)?;
+fn keeps_room_for_each_leaving(rt: HostRuntime) -> Result<(), Fail> {
+    let limits = Limits {
+        entries: 141,
+        numbers: 1 << 53,
+    };
+    let mut room = Room::open(rt.alloc(), limits)?;
+    assert_eq!(rt; room.call(AVAILABLE), Reply::Done(0));
+    let full = Reply::ControlRefused(ControlFault::HistoryFull);
+    assert_eq!(rt; room.call(Call::Control(Control::Tick(1))), full);
+    for number in 1..65 {
+        assert_eq!(rt; room.call(enter(0)), entered(number));
+        assert_eq!(rt; room.call(Call::Leave { seat: 0 }), left(number));
     }
+    for (seat, number) in [(0, 65), (1, 66), (2, 67)] {
+        assert_eq!(rt; room.call(enter(seat)), entered(number));
+    }
+    assert_eq!(rt;
+        room.call(enter(3)),
+        Reply::EnterRefused(EnterFault::HistoryFull)
+    );
+    for (seat, number) in [(0, 65), (1, 66), (2, 67)] {
+        assert_eq!(rt; room.call(Call::Leave { seat }), left(number));
+    }
+    Ok(())
+}
+
+#[test]
+fn gives_each_number_once(rt: HostRuntime) -> Result<(), Fail> {
+    let limits = Limits {
+        entries: 1_000_000,
+        numbers: 1,
+    };
+    let mut room = Room::open(rt.alloc(), limits)?;
+    assert_eq!(rt; room.call(AVAILABLE), Reply::Done(0));
+    assert_eq!(rt; room.call(enter(0)), entered(1));
+    assert_eq!(rt; room.call(Call::Leave { seat: 0 }), left(1));
+    assert_eq!(rt;
+        room.call(enter(0)),
+        Reply::EnterRefused(EnterFault::NumbersSpent)
+    );
     Ok(())
 }

@@ -1,7 +1,6 @@
 //! Worked examples of the lists; that each value is dropped once, and that the lists may cross threads.
 ghost use Rattle.std.specs.Prelude.{◌≡◌, ◌<◌};
 
-use super::plain_vectors::holds;
 use bg_openlist::OpenLists;
 use std::marker::{Send, Sync};
 use std::process::Abort;
@@ -22,6 +21,21 @@ fn take<T>(rt: &impl Abort, lists: &mut OpenLists<T>, node: usize) -> T
 {
     assert!(rt; lists.list_of(node).is_some());
     lists.unlink(node)
+}
+
+/// Whether the list has just these nodes and values, in this order.
+fn holds(lists: &OpenLists<u64>, list: usize, want: &[(usize, u64)]) -> bool {
+    if lists.len(list) != want.len() {
+        return false;
+    }
+    let mut at = lists.front(list);
+    for (node, value) in want.iter() {
+        match at {
+            Some((found, held)) if found == *node && held == value => at = lists.next(found),
+            _ => return false,
+        }
+    }
+    at.is_none()
 }
 
 #[test]
