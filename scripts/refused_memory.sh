@@ -4,8 +4,9 @@
 # `bg_refused_memory` makes each public call of the libraries that takes memory, and asks again where it was refused:
 # whichever request is refused, it writes the very same, and each call that it makes was refused in some run.
 #
-# `bg_switch` on each row of rows/ ends with `OutOfMemory` on standard error, or answers one line by `OutOfMemory` and all
-# others as without that line, or does as ever, since std's `collect` goes on without the room that it asks for ahead.
+# `bg_switch` on each row of rows/ ends with `OutOfMemory` on standard error, or answers one line by `OutOfMemory` and
+# all others as without that line, or does as ever, since std's `collect` goes on without the room that it asks for
+# ahead.
 set -eu
 cd "$(dirname -- "$0")/.."
 work=$(mktemp -d)
