@@ -1,14 +1,14 @@
 -- Lemmas on the part before the mark.
-use Rattle.std.proofs.Common.{◌≡◌, ◌≢◌, ℕ, ◌+◌, ◌<◌, ◌≤◌, true, false, List, [], ◌∷◌, ◌++◌, length, if◌then◌else◌, ◌==◌, refl, sym, ap, ◌∙◌, arith, append_assoc, append-nil}
+use Rattle.std.proofs.Common.{◌≡◌, ◌≢◌, ℕ, ◌+◌, ◌<◌, ◌≤◌, Bool, take, true, false, List, [], ◌∷◌, ◌++◌, length, if◌then◌else◌, ◌==◌, refl, sym, ap, ◌∙◌, arith, append_assoc, append-nil}
 use Rattle.std.specs.Prelude.{codes, bytes_eq}
 use Rattle.std.proofs.lemmas.List.{length-append}
 use Rattle.std.proofs.lemmas.Bool.{false≢true}
 use Rattle.std.proofs.lemmas.Bool.Decides.{nat_tests}
 use Rattle.std.proofs.lemmas.Slice.Eq.{bytes_eq-Decides}
 use Rattle.bg_operator.specs.Lines.{before_break, after_break, has_break, line_of}
-use Rattle.bg_operator.specs.Taking.{line_text, TakesLine}
-use Rattle.bg_operator.specs.declared.input.LineEnd.{LineEnd}
-use Rattle.bg_operator.specs.declared.input.LineEnd.TheVariants.{Break, End, Room}
+use Rattle.bg_operator.specs.Taking.{Gathers, line_text, TakesLine}
+use Rattle.bg_operator.specs.declared.taking.LineEnd.{LineEnd}
+use Rattle.bg_operator.specs.declared.taking.LineEnd.TheVariants.{Break, End, Room}
 use Rattle.bg_operator.specs.Parting.{at_mark, part_from, rest_from, part_of, rest_of}
 use Rattle.bg_operator.proofs.Pieces.{before_no_break, taken_break, taken_front}
 use Rattle.bg_operator.proofs.FirstLine.{line_of_break, line_of_end, line_of_room}
@@ -21,6 +21,16 @@ pub record Parting (part xs ys : List ℕ) : Type 0 where
 -- whole was taken so far of the bytes xs, and ys are unread
 pub record Gathering (whole xs ys : List ℕ) : Type 0 where
   pub all : xs ≡ whole ++ ys
+
+-- a piece is taken
+pub gathers_piece : (at_end : Bool) (whole piece new xs ys : List ℕ) (kept : ℕ) → new ≡ whole ++ take kept piece → xs ≡ take kept piece ++ ys → (at_end ≡ true → ys ≡ []) → Gathers at_end whole new xs ys
+gathers_piece at_end whole piece new xs ys kept new_is split none = record {
+  all = ap (λ l. whole ++ l) split ∙ sym (append_assoc whole (take kept piece) ys) ∙ ap (λ l. l ++ ys) (sym new_is);
+  none_left = none;
+}
+
+pub none_seen : (n : ℕ) (t : Bool) → t ≡ (n == 0) → t ≡ true → n ≡ 0
+none_seen n t e is = grind (arith, nat_tests)
 
 -- lists of two lengths are two lists
 differs : (xs ys : List ℕ) → length xs ≢ length ys → bytes_eq xs ys ≡ false

@@ -1,35 +1,12 @@
 -- Lemmas on breaks in bytes that come in pieces.
-use Rattle.std.proofs.Common.{Bool, ◌≡◌, ℕ, ◌+◌, ◌-◌, ◌<◌, ◌≤◌, get_or, min, true, false, List, [], ◌∷◌, ◌++◌, length, take, drop, slice_range, if◌then◌else◌, ◌==◌, refl, sym, ap, ◌∙◌, arith, Option, None, Some, append-nil, append_assoc, subst, inl, inr}
-use Rattle.std.proofs.lemmas.List.{take-take, take_all, take_more, nil_from_length, take-append-drop, drop-drop, drop-take, drop_all, length-take}
-use Rattle.std.proofs.lemmas.Bool.{cases_lt}
+use Rattle.std.proofs.Common.{Bool, ◌≡◌, ℕ, ◌+◌, ◌<◌, ◌≤◌, get_or, true, false, List, [], ◌∷◌, ◌++◌, length, take, drop, if◌then◌else◌, ◌==◌, refl, sym, ap, ◌∙◌, arith, Option, None, Some, append-nil, append_assoc, subst}
+use Rattle.std.proofs.lemmas.List.{take-take, take_more, take-append-drop, drop-take}
 use Rattle.std.proofs.lemmas.Bool.Decides.{nat_tests}
-use Rattle.std.specs.Prelude.{nat_le, nat_lt}
-use Rattle.std.specs.Io.KnownBytes.{prepend_known, Keeps}
+use Rattle.std.specs.Prelude.{OnSome}
+use Rattle.std.specs.Io.KnownBytes.{Consumes, IsAtEnd, Keeps}
 use Rattle.bg_operator.specs.Lines.{before_break, after_break, has_break}
 use Rattle.bg_operator.specs.Reading.{Known}
-use Rattle.bg_operator.specs.Taking.{TakesPiece, TakesPieces}
-
--- the bytes of a range from further on are the range's bytes with so many dropped
-pub further : (xs : List ℕ) (a e n : ℕ) → slice_range xs (a + min (e - a) n) e ≡ drop n (slice_range xs a e)
-further xs a e n =
-    let ys = drop a xs in
-    elim (cases_lt (e - a) n) [
-      | inl h ↦
-          let none : e - (a + min (e - a) n) ≡ 0 = omega arith in
-          let all : length (take (e - a) ys) ≤ n = omega (arith, length-take (e - a) ys) in
-          ap (λ k. take k (drop (a + min (e - a) n) xs)) none ∙ sym (drop_all n (take (e - a) ys) all)
-      | inr h ↦
-          let at : a + min (e - a) n ≡ a + n = omega arith in
-          let rest : e - (a + n) ≡ e - a - n = omega arith in
-          let whole : n + (e - a - n) ≡ e - a = omega arith in
-          ap (λ k. take (e - k) (drop k xs)) at ∙ ap (λ k. take k (drop (a + n) xs)) rest
-          ∙ ap (take (e - a - n)) (sym (drop-drop n a xs))
-          ∙ sym (drop-take n (e - a - n) ys) ∙ ap (λ k. drop n (take k ys)) whole
-    ]
-
--- what is seen as empty is empty
-pub none_seen : (seen xs : List ℕ) (t : Bool) → seen ≡ xs → t ≡ (length seen == 0) → t ≡ true → xs ≡ []
-none_seen seen xs t same e is = let none : length seen ≡ 0 = grind (arith, nat_tests) in sym same ∙ nil_from_length seen none
+use Rattle.bg_operator.specs.Taking.{Grows, TakesPieces}
 
 pub has_break-append : (a b : List ℕ) → has_break (a ++ b) ≡ (if has_break a then true else has_break b)
 has_break-append [] b = refl
@@ -105,63 +82,44 @@ taken_front line xs ys p = (
 
 -- ---- how more is taken
 
-pub takes_more : (old piece new b : List ℕ) (k : ℕ) → new ≡ old ++ take k piece → b ≡ drop k piece → has_break (take k piece) ≡ false → TakesPiece false old piece new b
-takes_more old piece new b k new_is b_is none = record {
-  all = sym (ap (λ l. l ++ b) new_is ∙ append_assoc old (take k piece) b ∙ ap (λ l. old ++ (take k piece ++ l)) b_is ∙ ap (λ l. old ++ l) (take-append-drop k piece));
-  no_break = λ h. ap has_break new_is ∙ no_break_append old (take k piece) h none;
+grows_by : (old part new xs ys : List ℕ) → new ≡ old ++ part → xs ≡ part ++ ys → has_break part ≡ false → Grows old new xs ys
+grows_by old part new xs ys new_is split none = record {
+  all = ap (λ l. old ++ l) split ∙ sym (append_assoc old part ys) ∙ ap (λ l. l ++ ys) (sym new_is);
+  no_break = λ h. ap has_break new_is ∙ no_break_append old part h none;
 }
 
-pub takes_break : (old piece new b : List ℕ) (k : ℕ) → new ≡ old ++ take k piece → b ≡ drop (k + 1) piece → drop k piece ≡ 10 ∷ drop (k + 1) piece → has_break (take k piece) ≡ false → TakesPiece true old piece new b
-takes_break old piece new b k new_is b_is found none =
-    let rest : 10 ∷ b ≡ drop k piece = ap (λ l. 10 ∷ l) b_is ∙ sym found in
-    record {
-      all = sym (ap (λ l. l ++ (10 ∷ b)) new_is ∙ append_assoc old (take k piece) (10 ∷ b) ∙ ap (λ l. old ++ (take k piece ++ l)) rest ∙ ap (λ l. old ++ l) (take-append-drop k piece));
-      no_break = λ h. ap has_break new_is ∙ no_break_append old (take k piece) h none;
-    }
+take_through_break : (at : ℕ) (piece : List ℕ) → drop at piece ≡ 10 ∷ drop (at + 1) piece → take (at + 1) piece ≡ take at piece ++ (10 ∷ [])
+take_through_break at piece found =
+    sym (take-append-drop at (take (at + 1) piece))
+    ∙ ap (λ l. l ++ drop at (take (at + 1) piece)) (take-take at (at + 1) piece (omega arith))
+    ∙ ap (λ l. take at piece ++ l) (drop-take at 1 piece ∙ ap (take 1) found)
 
 -- a break that there is room for
-pub takes_break_seen : (old piece whole new b : List ℕ) (at kept amount : ℕ) → piece ≡ whole → kept ≡ at → amount ≡ kept + 1
-    → new ≡ old ++ take kept piece → b ≡ drop amount whole → drop at piece ≡ 10 ∷ drop (at + 1) piece → has_break (take at piece) ≡ false
-    → TakesPiece true old whole new b
-takes_break_seen old piece whole new b at kept amount seen same amount_is new_is b_is found none =
-    let new_at : new ≡ old ++ take at piece = new_is ∙ ap (λ k. old ++ take k piece) same in
-    let b_at : b ≡ drop (at + 1) piece = b_is ∙ ap (λ k. drop k whole) (amount_is ∙ ap (λ k. k + 1) same) ∙ ap (λ l. drop (at + 1) l) (sym seen) in
-    subst (λ w. TakesPiece true old w new b) seen (takes_break old piece new b at new_at b_at found none)
+pub takes_break : (old piece new xs ys : List ℕ) (at : ℕ) → new ≡ old ++ take at piece → drop at piece ≡ 10 ∷ drop (at + 1) piece
+    → has_break (take at piece) ≡ false → xs ≡ take (at + 1) piece ++ ys → Grows old new xs (10 ∷ ys)
+takes_break old piece new xs ys at new_is found none split =
+    grows_by old (take at piece) new xs (10 ∷ ys) new_is
+    (split ∙ ap (λ l. l ++ ys) (take_through_break at piece found) ∙ append_assoc (take at piece) (10 ∷ []) ys) none
 
 -- bytes before a break, as far as there is room
-pub takes_more_seen : (old piece whole new b : List ℕ) (at kept amount : ℕ) → piece ≡ whole → kept ≤ at → amount ≡ kept
-    → new ≡ old ++ take kept piece → b ≡ drop amount whole → has_break (take at piece) ≡ false → TakesPiece false old whole new b
-takes_more_seen old piece whole new b at kept amount seen less amount_is new_is b_is none =
-    let b_at : b ≡ drop kept piece = b_is ∙ ap (λ k. drop k whole) amount_is ∙ ap (λ l. drop kept l) (sym seen) in
-    subst (λ w. TakesPiece false old w new b) seen (takes_more old piece new b kept new_is b_at (no_break_less kept at piece less none))
-
-pub fits : (a b : ℕ) (t : Bool) → t ≡ nat_le a b → t ≡ true → a ≤ b
-fits a b t e is = grind (arith, nat_tests)
-
-pub never_less : (a b : ℕ) (t : Bool) → t ≡ nat_lt a b → t ≡ true → b ≤ a → ⊥
-never_less a b t e is less = grind (arith, nat_tests)
+pub takes_more : (old piece new xs ys : List ℕ) (at kept : ℕ) → kept ≤ at → new ≡ old ++ take kept piece
+    → has_break (take at piece) ≡ false → xs ≡ take kept piece ++ ys → Grows old new xs ys
+takes_more old piece new xs ys at kept less new_is none split =
+    grows_by old (take kept piece) new xs ys new_is split (no_break_less kept at piece less none)
 
 -- ---- how the rest of a line is passed over
 
--- of the bytes xs some were passed over that have no break, and ys are unread
-pub record Passing (xs ys : List ℕ) : Type 0 where
-  pub rest : after_break xs ≡ after_break ys
+-- a piece with the break
+pub passes_break : (piece xs ys : List ℕ) (at : ℕ) → drop at piece ≡ 10 ∷ drop (at + 1) piece → has_break (take at piece) ≡ false
+    → xs ≡ take (at + 1) piece ++ ys → ys ≡ after_break xs
+passes_break piece xs ys at found none split =
+    let all : xs ≡ take at piece ++ (10 ∷ ys) =
+    split ∙ ap (λ l. l ++ ys) (take_through_break at piece found) ∙ append_assoc (take at piece) (10 ∷ []) ys in
+    sym (taken_break (take at piece) xs ys (record { all = all; no_break = none })).2
 
 -- a piece with no break
-pub passes_more : (xs piece a b ys : List ℕ) (k : ℕ) → Passing xs (a ++ ys) → piece ≡ a → has_break (take k piece) ≡ false → length piece ≤ k → b ≡ drop (k + 1) a → Passing xs (b ++ ys)
-passes_more xs piece a b ys k p seen none all b_is =
-    let whole : take k piece ≡ piece = take_all k piece all in
-    let no_break : has_break a ≡ false = ap has_break (sym seen ∙ sym whole) ∙ none in
-    let b_none : b ≡ [] = b_is ∙ drop_all (k + 1) a (omega (arith, ap length seen)) in
-    record { rest = p.rest ∙ after_break-append a ys ∙ ap (λ t. if t then after_break a ++ ys else after_break ys) no_break ∙ ap (λ l. after_break (l ++ ys)) (sym b_none) }
-
--- a piece with the break
-pub passes_break : (xs piece a b ys : List ℕ) (k : ℕ) → Passing xs (a ++ ys) → piece ≡ a → has_break (take k piece) ≡ false → drop k piece ≡ 10 ∷ drop (k + 1) piece → b ≡ drop (k + 1) a → b ++ ys ≡ after_break xs
-passes_break xs piece a b ys k p seen none found b_is =
-    let b_seen : b ≡ drop (k + 1) piece = b_is ∙ ap (λ l. drop (k + 1) l) (sym seen) in
-    let split : TakesPieces (take k piece) a (10 ∷ b) = record { all = sym seen ∙ sym (take-append-drop k piece) ∙ ap (λ l. take k piece ++ l) (found ∙ ap (λ l. 10 ∷ l) (sym b_seen)); no_break = none } in
-    let facts = taken_break (take k piece) a b split in
-    sym (p.rest ∙ after_break-append a ys ∙ ap (λ t. if t then after_break a ++ ys else after_break ys) facts.0 ∙ ap (λ l. l ++ ys) facts.2)
+pub passes_more : (piece xs ys : List ℕ) (at : ℕ) → has_break (take at piece) ≡ false → xs ≡ take at piece ++ ys → after_break xs ≡ after_break ys
+passes_more piece xs ys at none split = (taken_front (take at piece) xs ys (record { all = split; no_break = none })).2
 
 -- ---- where the bytes are known
 
@@ -171,11 +129,18 @@ Known-kept P (Some xs) None new k e = absurd k
 Known-kept P (Some xs) (Some ys) None k e = absurd e
 Known-kept P (Some xs) (Some ys) (Some zs) k e = subst (P xs) (sym e) k
 
--- the bytes in front change
-pub Known-front : (P Q : List ℕ → List ℕ → Type 0) (first rest : Option (List ℕ)) (a b : List ℕ) → ((xs ys : List ℕ) → P xs (a ++ ys) → Q xs (b ++ ys)) → Known first (prepend_known a rest) P → Known first (prepend_known b rest) Q
-Known-front P Q None rest a b f k = tt
-Known-front P Q (Some xs) None a b f k = absurd k
-Known-front P Q (Some xs) (Some ys) a b f k = f xs ys k
+-- these bytes were taken
+pub Known-taken : (P : List ℕ → List ℕ → Type 0) (old new : Option (List ℕ)) (part : List ℕ) → ((xs ys : List ℕ) → xs ≡ part ++ ys → P xs ys) → Consumes old new part → Known old new P
+Known-taken P None new part f e = tt
+Known-taken P (Some xs) None part f e = absurd e
+Known-taken P (Some xs) (Some ys) part f e = f xs ys e
+
+-- these bytes were taken, after which there are none where t holds
+pub Known-taken_to_end : (t : Bool) (P : List ℕ → List ℕ → Type 0) (old new : Option (List ℕ)) (part : List ℕ)
+    → ((xs ys : List ℕ) → xs ≡ part ++ ys → (t ≡ true → ys ≡ []) → P xs ys) → Consumes old new part → (t ≡ true → OnSome old (IsAtEnd new)) → Known old new P
+Known-taken_to_end t P None new part f e none = tt
+Known-taken_to_end t P (Some xs) None part f e none = absurd e
+Known-taken_to_end t P (Some xs) (Some ys) part f e none = f xs ys e none
 
 pub Known-weaker : (P Q : List ℕ → List ℕ → Type 0) (first now : Option (List ℕ)) → ((xs ys : List ℕ) → P xs ys → Q xs ys) → Known first now P → Known first now Q
 Known-weaker P Q None now f k = tt

@@ -1,5 +1,4 @@
 pub mod Lines
-pub mod Buffer
 pub mod Reading
 pub mod Taking
 pub mod Parting

@@ -1,14 +1,8 @@
--- What an input and its reader have unread, and the next line of it.
+-- What a reader has unread, and the next line of it.
 use Rattle.std.specs.Prelude.{◌≡◌, ℕ, ◌<◌, ◌≤◌, List, [], ◌∷◌, length, ⊤, Option, None, Some}
-use Rattle.std.specs.Io.KnownBytes.{prepend_known}
 use Rattle.bg_operator.specs.Lines.{lines_of}
 use Rattle.bg_operator.specs.declared.lines.Found.{Found}
 use Rattle.bg_operator.specs.declared.lines.Found.TheVariants.{Line, TooLong, End}
-
--- the bytes that were read and not yet taken, and those that the reader still gives, where these are
--- known
-abbrev pub unread : {R : Type 0} → (R → Option (List ℕ)) → List ℕ → R → Option (List ℕ)
-unread remaining input reader = prepend_known input (remaining reader)
 
 -- a fact on the bytes that were unread and those that are unread now; known bytes stay known
 abbrev pub Known : Option (List ℕ) → Option (List ℕ) → (List ℕ → List ℕ → Type 0) → Type 0

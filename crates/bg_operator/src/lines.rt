@@ -1,10 +1,11 @@
 //! The lines of a script.
 ghost use Rattle.std.specs.Prelude.{◌≡◌, IfOk};
 ghost use Rattle.std.specs.Io.BufRead.{strip_last};
-ghost use Rattle.bg_operator.specs.Reading.{unread, Known, Gives};
+ghost use Rattle.bg_operator.specs.Reading.{Known, Gives};
 
-use crate::input::{Input, LineEnd, ReadFault};
-use std::io::Read;
+use crate::read_fault::ReadFault;
+use crate::taking::{LineEnd, skip_line, take_line};
+use std::io::BufRead;
 
 /// How many bytes a line has at most, without its end.
 pub(crate) const LONGEST_LINE: usize = 4096;
@@ -20,36 +21,30 @@ pub enum Found {
     End,
 }
 
-impl Input {
-    /// Takes the next line. A line ends with LF, and one CR just before it belongs to the end; what
-    /// follows the last LF is a line where it has a byte. `line` is the line's bytes, without its end,
-    /// where a line is found.
-    pub fn next_line<R: Read>(
-        &mut self,
-        reader: &mut R,
-        line: &mut Vec<u8>,
-    ) -> Result<Found, ReadFault>
-        ensures { IfOk result (λ found. Known (unread R.remaining self.old reader.old)
-            (unread R.remaining self.new reader.new) (Gives found line.new.items)) }
-    {
-        // a byte more than the longest line, and its CR
-        match self.take_line(reader, line, LONGEST_LINE + 2)? {
-            LineEnd::Break => strip_return(line),
-            LineEnd::End => {
-                if line.is_empty() {
-                    return Ok(Found::End);
-                }
-            }
-            LineEnd::Room => {
-                self.skip_line(reader)?;
-                return Ok(Found::TooLong);
+/// Takes the next line. A line ends with LF, and one CR just before it belongs to the end; what
+/// follows the last LF is a line where it has a byte. `line` is the line's bytes, without its end,
+/// where a line is found.
+pub fn next_line<B: BufRead>(reader: &mut B, line: &mut Vec<u8>) -> Result<Found, ReadFault>
+    ensures { IfOk result (λ found. Known (B.remaining reader.old) (B.remaining reader.new)
+        (Gives found line.new.items)) }
+{
+    // a byte more than the longest line, and its CR
+    match take_line(reader, line, LONGEST_LINE + 2)? {
+        LineEnd::Break => strip_return(line),
+        LineEnd::End => {
+            if line.is_empty() {
+                return Ok(Found::End);
             }
         }
-        if line.len() > LONGEST_LINE {
+        LineEnd::Room => {
+            skip_line(reader)?;
             return Ok(Found::TooLong);
         }
-        Ok(Found::Line)
     }
+    if line.len() > LONGEST_LINE {
+        return Ok(Found::TooLong);
+    }
+    Ok(Found::Line)
 }
 
 /// Takes the CR from a line's end, if it has one there.

@@ -1,13 +1,14 @@
 //! The bytes of the strategy at the front of the input.
-ghost use Rattle.std.specs.Prelude.{◌≡◌, IfOk, codes, bytes_eq};
+ghost use Rattle.std.specs.Prelude.{◌≡◌, ◌≤◌, IfOk, codes, bytes_eq, vec_len};
 ghost use Rattle.std.specs.Io.BufRead.{strip_last};
-ghost use Rattle.bg_operator.specs.Reading.{unread, Known};
-ghost use Rattle.bg_operator.specs.Parting.{IsPart, IsWhole};
-ghost use Rattle.bg_operator.specs.Taking.{line_text};
+ghost use Rattle.bg_operator.specs.Reading.{Known};
+ghost use Rattle.bg_operator.specs.Parting.{IsPart, IsWhole, largest_strategy};
+ghost use Rattle.bg_operator.specs.Taking.{Gathers, line_text};
 
-use crate::input::{Input, LineEnd, ReadFault, TURNS};
+use crate::read_fault::ReadFault;
+use crate::taking::{LineEnd, TURNS, take_line};
 use std::alloc::Global;
-use std::io::Read;
+use std::io::{BufRead, ErrorKind};
 
 /// How many bytes the text of a strategy has at most.
 const LARGEST_STRATEGY: usize = 1 << 20;
@@ -22,19 +23,18 @@ pub enum StrategyPart {
 }
 
 /// Takes all bytes before the first line `---`, and that line. Where there is no such line, all bytes.
-/// After a `ReadFault` the input is of no use.
-pub fn part_before_script<R: Read>(
+/// After a `ReadFault` the reader is of no use.
+pub fn part_before_script<B: BufRead>(
     alloc: Global,
-    input: &mut Input,
-    reader: &mut R,
+    reader: &mut B,
 ) -> Result<StrategyPart, ReadFault>
-    ensures { IfOk result (λ part. Known (unread R.remaining input.old reader.old)
-        (unread R.remaining input.new reader.new) (IsPart part)) }
+    ensures { IfOk result (λ part. Known (B.remaining reader.old) (B.remaining reader.new)
+        (IsPart part)) }
 {
     let mut part = Vec::new(alloc);
     let mut line = Vec::new(alloc);
     for _ in 0..TURNS {
-        let end = input.take_line(reader, &mut line, LARGEST_STRATEGY + 1)?;
+        let end = take_line(reader, &mut line, LARGEST_STRATEGY + 1)?;
         if is_mark(&line, end) {
             return Ok(StrategyPart::Whole(part));
         }
@@ -53,30 +53,46 @@ pub fn part_before_script<R: Read>(
     Err(ReadFault::ReadFailed)
 }
 
-/// Takes all bytes. After a `ReadFault` the input is of no use.
-pub fn whole_input<R: Read>(
-    alloc: Global,
-    input: &mut Input,
-    reader: &mut R,
-) -> Result<StrategyPart, ReadFault>
-    ensures { IfOk result (λ part. Known (unread R.remaining input.old reader.old)
-        (unread R.remaining input.new reader.new) (IsWhole part)) }
+/// Takes all bytes. After a `ReadFault` the reader is of no use.
+pub fn whole_input<B: BufRead>(alloc: Global, reader: &mut B) -> Result<StrategyPart, ReadFault>
+    ensures { IfOk result (λ part. Known (B.remaining reader.old) (B.remaining reader.new)
+        (IsWhole part)) }
 {
     let mut whole = Vec::new(alloc);
     for _ in 0..TURNS {
-        input.fill(reader)?;
-        let piece = input.as_slice();
-        let length = piece.len();
-        if length == 0 {
-            return Ok(StrategyPart::Whole(whole));
-        }
-        if length > LARGEST_STRATEGY - whole.len() {
+        let at_end = gather_piece(reader, &mut whole)?;
+        if whole.len() > LARGEST_STRATEGY {
             return Ok(StrategyPart::TooLarge);
         }
-        whole.extend_from_slice(piece)?;
-        input.consume(length);
+        if at_end {
+            return Ok(StrategyPart::Whole(whole));
+        }
     }
     Err(ReadFault::ReadFailed)
+}
+
+/// Takes the next bytes, up to one more than a strategy has. Returns whether the input is at its end,
+/// which isn't known where a read was interrupted.
+fn gather_piece<B: BufRead>(reader: &mut B, whole: &mut Vec<u8>) -> Result<bool, ReadFault>
+    requires { vec_len whole.old ≤ largest_strategy }
+    ensures { IfOk result (λ at_end. Known (B.remaining reader.old) (B.remaining reader.new)
+        (Gathers at_end whole.old.items whole.new.items)) }
+{
+    let piece = match reader.fill_buf() {
+        Ok(piece) => piece,
+        Err(error) => {
+            return if error.kind() == ErrorKind::Interrupted {
+                Ok(false)
+            } else {
+                Err(ReadFault::ReadFailed)
+            };
+        }
+    };
+    let at_end = piece.is_empty();
+    let kept = piece.len().min(LARGEST_STRATEGY + 1 - whole.len());
+    whole.extend_from_slice(&piece[..kept])?;
+    reader.consume(kept);
+    Ok(at_end)
 }
 
 /// Whether a line that ends so is the line `---`.

@@ -1,7 +1,7 @@
 -- What is found in a part is found in the bytes that it was taken from.
-use Rattle.std.proofs.Common.{◌≡◌, ◌≢◌, ◌≤◌, ◌⊎◌, inl, inr, ℕ, List, [], ◌++◌, length, Option, None, Some, subst}
+use Rattle.std.proofs.Common.{◌≡◌, ◌≢◌, ◌≤◌, ◌⊎◌, inl, inr, ℕ, List, length, Option, None, Some, subst}
 use Rattle.std.specs.Prelude.{Result, Ok, Err, MatchResult, IfSome}
-use Rattle.std.specs.Io.KnownBytes.{Appends, prepend_known}
+use Rattle.std.specs.Io.KnownBytes.{Appends}
 use Rattle.bg_strategy.specs.Reading.{IsStrategyIn, IsFaultIn}
 use Rattle.bg_strategy.specs.declared.fault.StrategyFault.{StrategyFault}
 use Rattle.bg_strategy.specs.declared.fault.StrategyFault.TheVariants as fault
@@ -38,14 +38,14 @@ is_finding part.TooLarge (Refused e) xs ys whole found = absurd found
 is_finding part.TooLarge TooLarge xs ys whole found = whole
 
 -- the lines of what was found in the whole input were written
-pub checks_all : (known after first last : Option (List ℕ)) (front : List ℕ) (p : StrategyPart) (f : Finding) (status : ℕ)
-    → front ≡ [] → Known (prepend_known front known) after (IsWhole p) → IsFoundIn p f
-    → Appends first last (finding_text f) → status ≡ status_of f → IfSome known (Checks first last status)
-checks_all None after first last front p f status none taken found written is = tt
-checks_all (Some xs) None first last front p f status none taken found written is = absurd taken
-checks_all (Some xs) (Some ys) first last front p f status none taken found written is = record {
+pub checks_all : (known after first last : Option (List ℕ)) (p : StrategyPart) (f : Finding) (status : ℕ)
+    → Known known after (IsWhole p) → IsFoundIn p f → Appends first last (finding_text f) → status ≡ status_of f
+    → IfSome known (Checks first last status)
+checks_all None after first last p f status taken found written is = tt
+checks_all (Some xs) None first last p f status taken found written is = absurd taken
+checks_all (Some xs) (Some ys) first last p f status taken found written is = record {
   finding = f;
-  found = subst (λ (l : List ℕ). IsFinding f (l ++ xs)) none (is_finding p f (front ++ xs) ys taken found);
+  found = is_finding p f xs ys taken found;
   written = written;
   status_is = is;
 }

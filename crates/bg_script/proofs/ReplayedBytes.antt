@@ -1,7 +1,6 @@
 -- What is found in the part before the script, and what is answered to the script, is so of the bytes that both were taken from.
-use Rattle.std.proofs.Common.{◌≡◌, ◌≤◌, ℕ, Bool, List, [], ◌++◌, length, if◌then◌else◌, Option, None, Some, refl, subst}
+use Rattle.std.proofs.Common.{◌≡◌, ◌≤◌, ℕ, Bool, List, length, if◌then◌else◌, Option, None, Some, refl, subst}
 use Rattle.std.specs.Prelude.{IfSome}
-use Rattle.std.specs.Io.KnownBytes.{prepend_known}
 use Rattle.bg_strategy.specs.Reading.{IsStrategyIn, IsFaultIn}
 use Rattle.bg_strategy.specs.declared.strategy.Strategy.{Strategy}
 use Rattle.bg_script.specs.declared.finding.Finding.{Finding}
@@ -34,30 +33,29 @@ refuses (Refused e) seats first last status xs other r = r
 refuses TooLarge seats first last status xs other r = r
 
 -- the fault of the strategy was written
-pub replays_refused : (known after first last : Option (List ℕ)) (front : List ℕ) (p : StrategyPart) (f : Finding) (seats status : ℕ)
-    → front ≡ [] → Known (prepend_known front known) after (IsPart p) → IsFoundIn p f → ((s : Strategy) → f ≡ Means s → ⊥)
+pub replays_refused : (known after first last : Option (List ℕ)) (p : StrategyPart) (f : Finding) (seats status : ℕ)
+    → Known known after (IsPart p) → IsFoundIn p f → ((s : Strategy) → f ≡ Means s → ⊥)
     → Refuses f first last status → IfSome known (Replays seats first last status)
-replays_refused None after first last front p f seats status none taken found other r = tt
-replays_refused (Some xs) None first last front p f seats status none taken found other r = absurd taken
-replays_refused (Some xs) (Some ys) first last front p f seats status none taken found other r = record {
+replays_refused None after first last p f seats status taken found other r = tt
+replays_refused (Some xs) None first last p f seats status taken found other r = absurd taken
+replays_refused (Some xs) (Some ys) first last p f seats status taken found other r = record {
   finding = f;
-  found = subst (λ (l : List ℕ). IsFinding f (part_of (l ++ xs))) none (part_finding p f (front ++ xs) ys taken found);
+  found = part_finding p f xs ys taken found;
   run = refuses f seats first last status xs other r;
 }
 
 -- the lines of the script were answered
-pub replays_script : (known after first last : Option (List ℕ)) (front : List ℕ) (p : StrategyPart) (s : Strategy) (seats : ℕ) (faulted : Bool) (status : ℕ)
-    → front ≡ [] → Known (prepend_known front known) after (IsPart p) → IsFoundIn p (Means s) → IfSome after (Ran (Closed s seats) first last faulted)
+pub replays_script : (known after first last : Option (List ℕ)) (p : StrategyPart) (s : Strategy) (seats : ℕ) (faulted : Bool) (status : ℕ)
+    → Known known after (IsPart p) → IsFoundIn p (Means s) → IfSome after (Ran (Closed s seats) first last faulted)
     → status ≡ (if faulted then 1 else 0) → IfSome known (Replays seats first last status)
-replays_script None after first last front p s seats faulted status none taken found ran is = tt
-replays_script (Some xs) None first last front p s seats faulted status none taken found ran is = absurd taken
-replays_script (Some xs) (Some ys) first last front p s seats faulted status none taken found ran is = record {
+replays_script None after first last p s seats faulted status taken found ran is = tt
+replays_script (Some xs) None first last p s seats faulted status taken found ran is = absurd taken
+replays_script (Some xs) (Some ys) first last p s seats faulted status taken found ran is = record {
   finding = Means s;
-  found = subst (λ (l : List ℕ). IsFinding (Means s) (part_of (l ++ xs))) none (part_finding p (Means s) (front ++ xs) ys taken found);
+  found = part_finding p (Means s) xs ys taken found;
   run = (
     faulted,
-    subst (λ (l : List ℕ). Ran (Closed s seats) first last faulted (rest_of (l ++ xs))) none
-        (subst (λ (l : List ℕ). Ran (Closed s seats) first last faulted l) (part_rest p s (front ++ xs) ys taken found) ran),
+    subst (λ (l : List ℕ). Ran (Closed s seats) first last faulted l) (part_rest p s xs ys taken found) ran,
     is,
   );
 }

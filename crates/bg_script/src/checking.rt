@@ -4,9 +4,9 @@ ghost use Rattle.bg_script.specs.Checks.{Checks};
 
 use crate::finding::{finding_in, write_finding};
 use crate::run_end::RunEnd;
-use bg_operator::{Input, whole_input};
+use bg_operator::whole_input;
 use std::alloc::Global;
-use std::io::{Read, Write};
+use std::io::{BufReader, Read, Write};
 
 /// Tells what the strategy means that the whole input is the JSON text of, by a line for each of
 /// its settings, or its first fault. Answers the exit status: 0, or 1 after a fault.
@@ -17,8 +17,10 @@ pub fn check<R: Read, W: Write>(alloc: Global, reader: &mut R, writer: &mut W) -
     ensures { IfOk result (λ status. IfSome (R.remaining reader.old)
         (Checks (W.contents writer.old) (W.contents writer.new) status)) }
 {
-    let mut input = Input::new(alloc)?;
-    let part = whole_input(alloc, &mut input, reader)?;
+    let Ok(mut input) = BufReader::new(alloc, reader) else {
+        return Err(RunEnd::OutOfMemory);
+    };
+    let part = whole_input(alloc, &mut input)?;
     let finding = finding_in(alloc, &part)?;
     match write_finding(&finding, writer) {
         Ok(()) => Ok(finding.status()),

@@ -1,16 +1,15 @@
 //! `replay`: the answers to a script.
 ghost use Rattle.std.specs.Prelude.{IfOk, IfSome};
-ghost use Rattle.bg_operator.specs.Reading.{unread};
 ghost use Rattle.bg_script.specs.Scripts.{Ran, Refuses, Replays, Closed, Running};
 
 use crate::answer::Answer;
 use crate::finding::{Finding, finding_in, write_finding};
 use crate::open_book::{OpenBook, say};
 use crate::run_end::RunEnd;
-use bg_operator::{Input, ScriptLines, part_before_script};
+use bg_operator::{ScriptLines, part_before_script};
 use bg_strategy::Strategy;
 use std::alloc::Global;
-use std::io::{Read, Write};
+use std::io::{BufRead, BufReader, Read, Write};
 
 /// After so many lines a script is given up.
 const MOST_LINES: u32 = 1 << 24;
@@ -32,19 +31,21 @@ pub fn replay<R: Read, W: Write>(
     ensures { IfOk result (λ status. IfSome (R.remaining reader.old)
         (Replays seats (W.contents writer.old) (W.contents writer.new) status)) }
 {
-    let mut input = Input::new(alloc)?;
-    let part = part_before_script(alloc, &mut input, reader)?;
+    let Ok(mut input) = BufReader::new(alloc, reader) else {
+        return Err(RunEnd::OutOfMemory);
+    };
+    let part = part_before_script(alloc, &mut input)?;
     let finding = finding_in(alloc, &part)?;
     let Finding::Means(strategy) = &finding else {
         return refuse(&finding, writer);
     };
-    let mut lines = ScriptLines::new(alloc, input);
+    let mut lines = ScriptLines::new(alloc);
     let faulted = run(
         alloc,
         strategy,
         u32::from(seats),
         &mut lines,
-        reader,
+        &mut input,
         writer,
     )?;
     Ok(u8::from(faulted))
@@ -61,15 +62,15 @@ fn refuse<W: Write>(finding: &Finding, writer: &mut W) -> Result<u8, RunEnd>
 }
 
 /// Answers each line up to the end or `quit`. Returns whether a fault was among the answers.
-fn run<R: Read, W: Write>(
+fn run<B: BufRead, W: Write>(
     alloc: Global,
     strategy: &Strategy,
     seats: u32,
     lines: &mut ScriptLines,
-    reader: &mut R,
+    reader: &mut B,
     writer: &mut W,
 ) -> Result<bool, RunEnd>
-    ensures { IfOk result (λ faulted. IfSome (unread R.remaining lines.old reader.old)
+    ensures { IfOk result (λ faulted. IfSome (B.remaining reader.old)
         (Ran (Closed strategy.now seats) (W.contents writer.old) (W.contents writer.new) faulted)) }
 {
     let mut faulted = false;
@@ -93,13 +94,13 @@ fn run<R: Read, W: Write>(
 }
 
 /// Answers each line after the opening, and lets all requests leave at the end.
-fn run_open<R: Read, W: Write>(
+fn run_open<B: BufRead, W: Write>(
     mut opened: OpenBook,
     lines: &mut ScriptLines,
-    reader: &mut R,
+    reader: &mut B,
     writer: &mut W,
 ) -> Result<bool, RunEnd>
-    ensures { IfOk result (λ faulted. IfSome (unread R.remaining lines.old reader.old)
+    ensures { IfOk result (λ faulted. IfSome (B.remaining reader.old)
         (Ran (Running opened.book opened.seats.items) (W.contents writer.old)
         (W.contents writer.new) faulted)) }
 {
@@ -109,13 +110,13 @@ fn run_open<R: Read, W: Write>(
 }
 
 /// Answers each line by the open book, up to the end or `quit`.
-fn answer_lines<R: Read, W: Write>(
+fn answer_lines<B: BufRead, W: Write>(
     opened: &mut OpenBook,
     lines: &mut ScriptLines,
-    reader: &mut R,
+    reader: &mut B,
     writer: &mut W,
 ) -> Result<bool, RunEnd>
-    ensures { IfOk result (λ faulted. IfSome (unread R.remaining lines.old reader.old)
+    ensures { IfOk result (λ faulted. IfSome (B.remaining reader.old)
         (Ran (Running opened.old.book opened.old.seats.items) (W.contents writer.old)
         (W.contents writer.new) faulted)) }
 {

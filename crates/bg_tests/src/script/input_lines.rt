@@ -1,17 +1,17 @@
 //! The lines of a reader.
 use crate::script::streams::{Interrupted, Slow};
-use bg_operator::{Found, Input, ReadFault};
+use bg_operator::{Found, ReadFault, next_line};
 use std::alloc::Global;
-use std::io::Read;
+use std::io::{BufReader, Read};
 use std::test::Fail;
 
 /// The lines of a reader, each followed by `|`, and a longer one as `..`.
 fn lines_of<R: Read>(alloc: Global, reader: &mut R) -> Result<Vec<u8>, Fail> {
-    let mut input = Input::new(alloc)?;
+    let mut input = BufReader::new(alloc, reader)?;
     let mut line = Vec::new(alloc);
     let mut all = Vec::new(alloc);
     for _ in 0..100 {
-        match input.next_line(reader, &mut line)? {
+        match next_line(&mut input, &mut line)? {
             Found::End => return Ok(all),
             Found::TooLong => all.extend_from_slice(b"..")?,
             Found::Line => all.extend_from_slice(&line)?,
@@ -79,9 +79,9 @@ fn passes_over_long_lines(rt: HostRuntime) -> Result<(), Fail> {
 
 #[test]
 fn gives_up_reading(rt: HostRuntime) -> Result<(), Fail> {
-    let mut input = Input::new(rt.alloc())?;
+    let mut input = BufReader::new(rt.alloc(), Interrupted)?;
     let mut line = Vec::new(rt.alloc());
-    let found = input.next_line(&mut Interrupted, &mut line);
+    let found = next_line(&mut input, &mut line);
     assert_eq!(rt; found, Err(ReadFault::ReadFailed));
     Ok(())
 }

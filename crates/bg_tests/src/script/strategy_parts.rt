@@ -1,7 +1,8 @@
 //! The bytes of the strategy before a script.
 use crate::script::streams::{Endless, Slow};
-use bg_operator::{Found, Input, StrategyPart, part_before_script};
+use bg_operator::{Found, StrategyPart, next_line, part_before_script};
 use std::alloc::Global;
+use std::io::{BufReader, Read};
 use std::test::Fail;
 
 const LARGEST: usize = 1_048_576;
@@ -36,16 +37,13 @@ fn parts_at_the_mark(rt: HostRuntime) -> Result<(), Fail> {
 }
 
 /// The part, which must not be too large, and the line after it.
-fn part_and_line<R: std::io::Read>(
-    alloc: Global,
-    reader: &mut R,
-) -> Result<(Vec<u8>, Vec<u8>), Fail> {
-    let mut input = Input::new(alloc)?;
+fn part_and_line<R: Read>(alloc: Global, reader: &mut R) -> Result<(Vec<u8>, Vec<u8>), Fail> {
+    let mut input = BufReader::new(alloc, reader)?;
     let mut line = Vec::new(alloc);
-    let StrategyPart::Whole(part) = part_before_script(alloc, &mut input, reader)? else {
+    let StrategyPart::Whole(part) = part_before_script(alloc, &mut input)? else {
         return Err(Fail::from("the part is too large"));
     };
-    match input.next_line(reader, &mut line)? {
+    match next_line(&mut input, &mut line)? {
         Found::Line => {}
         Found::TooLong | Found::End => line.clear(),
     }
@@ -72,9 +70,8 @@ fn takes_the_largest_part(rt: HostRuntime) -> Result<(), Fail> {
     ];
     for (count, end, fits) in cases {
         let text = spaces(rt.alloc(), count, end)?;
-        let mut reader = text.as_slice();
-        let mut input = Input::new(rt.alloc())?;
-        let part = part_before_script(rt.alloc(), &mut input, &mut reader)?;
+        let mut input = BufReader::new(rt.alloc(), text.as_slice())?;
+        let part = part_before_script(rt.alloc(), &mut input)?;
         let is_whole = matches!(&part, StrategyPart::Whole(_));
         assert_eq!(rt; is_whole, fits, "at {count} spaces and {end:?}");
     }
@@ -83,34 +80,28 @@ fn takes_the_largest_part(rt: HostRuntime) -> Result<(), Fail> {
 
 #[test]
 fn stops_at_a_part_that_is_too_large(rt: HostRuntime) -> Result<(), Fail> {
-    let mut reader = Endless {
+    let endless = Endless {
         byte: b'\n',
         count: 0,
     };
-    let mut input = Input::new(rt.alloc())?;
-    let part = part_before_script(rt.alloc(), &mut input, &mut reader)?;
+    let mut input = BufReader::new(rt.alloc(), endless)?;
+    let part = part_before_script(rt.alloc(), &mut input)?;
     assert!(rt; matches!(part, StrategyPart::TooLarge));
-    assert!(rt;
-        reader.count <= LARGEST + 8192,
-        "{} bytes were read",
-        reader.count
-    );
+    let count = input.get_ref().count;
+    assert!(rt; count <= LARGEST + 8192, "{count} bytes were read");
     Ok(())
 }
 
 #[test]
 fn stops_in_a_line_that_is_too_large(rt: HostRuntime) -> Result<(), Fail> {
-    let mut reader = Endless {
+    let endless = Endless {
         byte: b' ',
         count: 0,
     };
-    let mut input = Input::new(rt.alloc())?;
-    let part = part_before_script(rt.alloc(), &mut input, &mut reader)?;
+    let mut input = BufReader::new(rt.alloc(), endless)?;
+    let part = part_before_script(rt.alloc(), &mut input)?;
     assert!(rt; matches!(part, StrategyPart::TooLarge));
-    assert!(rt;
-        reader.count <= LARGEST + 8192,
-        "{} bytes were read",
-        reader.count
-    );
+    let count = input.get_ref().count;
+    assert!(rt; count <= LARGEST + 8192, "{count} bytes were read");
     Ok(())
 }

@@ -18,7 +18,7 @@ returns-then-is_mark g c =
     (λ xs ys zs p t.
     let m : at_mark ys ≡ true = cc (mark_is room end kept ys zs (omega arith) t) in
     whole_at_mark room largest_strategy end part kept xs ys zs p (omega arith) t m (omega arith))
-    c.loop.invariant.taken c.in_ok-end.ensures.taken
+    c.loop.invariant.taken c.in_ok-end.ensures
 
 pub returns-then-len : goal.returns-then-len
 returns-then-len g c =
@@ -31,7 +31,7 @@ returns-then-len g c =
     (λ xs ys zs p t.
     let m : at_mark ys ≡ false = cc (mark_is room end kept ys zs (omega arith) t) in
     too_large room largest_strategy end part kept xs ys zs p t m far)
-    c.loop.invariant.taken c.in_ok-end.ensures.taken
+    c.loop.invariant.taken c.in_ok-end.ensures
 
 pub returns-in_default : goal.returns-in_default
 returns-in_default g c =
@@ -46,7 +46,7 @@ returns-in_default g c =
     (λ xs ys zs p t.
     let m : at_mark ys ≡ false = cc (mark_is room end kept ys zs (omega arith) t) in
     whole_without_break room largest_strategy end part kept new xs ys zs p t c.in_default.not-Break m grown fits (omega arith))
-    c.loop.invariant.taken c.in_ok-end.ensures.taken
+    c.loop.invariant.taken c.in_ok-end.ensures
 
 pub returns-then-len-ge-LARGEST_STRATEGY : goal.returns-then-len-ge-LARGEST_STRATEGY
 returns-then-len-ge-LARGEST_STRATEGY g c =
@@ -61,7 +61,7 @@ returns-then-len-ge-LARGEST_STRATEGY g c =
     (λ xs ys zs p t.
     let m : at_mark ys ≡ false = cc (mark_is room end kept ys zs (omega arith) t) in
     too_large_by_break room largest_strategy part kept xs ys zs p (rw c.in-Break.is at t) m far)
-    c.loop.invariant.taken c.in_ok-end.ensures.taken
+    c.loop.invariant.taken c.in_ok-end.ensures
 
 pub loop-preserved : goal.loop-preserved
 loop-preserved g c =
@@ -80,5 +80,5 @@ loop-preserved g c =
           (λ xs ys zs p t.
           let m : at_mark ys ≡ false = cc (mark_is room end kept ys zs (omega arith) t) in
           part_goes_on room part kept new xs ys zs p (rw c.in-Break.is at t) m whole)
-          c.loop.invariant.taken c.in_ok-end.ensures.taken;
+          c.loop.invariant.taken c.in_ok-end.ensures;
     }

@@ -1,9 +1,9 @@
-use Rattle.bg_operator.specs.Reading.{unread, Known}
+use Rattle.bg_operator.specs.Reading.{Known}
 use Rattle.bg_script.specs.Scripts.{Closed}
 use Rattle.bg_script.proofs.ScriptSteps.{Goes}
 use Rattle.bg_script.proofs.replaying.run.Given as goal
 
 abbrev pub invariant-loop : goal.invariant-loop
-invariant-loop g l = Known (unread g.R.Read.remaining l.fn.lines l.fn.reader) (unread g.R.Read.remaining l.lines l.reader)
+invariant-loop g l = Known (g.B.Read.remaining l.fn.reader) (g.B.Read.remaining l.reader)
     (Goes (Closed l.fn.strategy l.fn.seats) (g.W.Write.contents l.fn.writer) (g.W.Write.contents l.writer)
     (Closed l.fn.strategy l.fn.seats) l.faulted)

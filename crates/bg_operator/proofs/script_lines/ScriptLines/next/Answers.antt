@@ -5,7 +5,6 @@ use Rattle.bg_operator.proofs.script_lines.ScriptLines.next.Goals as goal
 
 pub returns : goal.returns
 returns g c =
-    rw (← c.self.view_is)
-    (Known-weaker (Gives c.in_ok-found.found c.next_line.new.line.items) (NextIs c.reading_of.result) _ _
+    Known-weaker (Gives c.in_ok-found.found c.next_line.new.line.items) (NextIs c.reading_of.result) _ _
     (λ xs ys given. c.reading_of.ensures xs ys (rw c.deref.ensures.value given))
-    c.in_ok-found.ensures)
+    c.in_ok-found.ensures

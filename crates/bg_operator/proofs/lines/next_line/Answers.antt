@@ -7,8 +7,8 @@ use Rattle.bg_operator.specs.Reading.{Gives}
 use Rattle.bg_operator.specs.Taking.{PassesLine, TakesLine}
 use Rattle.bg_operator.proofs.Pieces.{Known-both, Known-weaker}
 use Rattle.bg_operator.proofs.FirstLine.{gives_break, gives_rest, gives_long}
-use Rattle.bg_operator.proofs.input.Input.next_line.Goals as goal
-use Rattle.bg_operator.proofs.input.Input.next_line.Goals.{in-Break, in-End+else-is_empty}
+use Rattle.bg_operator.proofs.lines.next_line.Goals as goal
+use Rattle.bg_operator.proofs.lines.next_line.Goals.{in-Break, in-End+else-is_empty}
 
 some : (n m : ℕ) (t : Bool) → t ≡ (n == 0) → t ≡ false → m ≡ n → 0 < m
 some n m t e f g = grind (arith, nat_tests)
@@ -24,7 +24,7 @@ returns-in-Room g c =
     let kept = c.take_line.new.line.items in
     Known-both (TakesLine 4098 c.in_ok-take_line.field-0 kept) PassesLine (Gives TooLong kept) _ _ _
     (λ xs ys zs p q. let taken = rw c.in-Room.is at p in gives_long kept xs ys zs taken.0 taken.1 q)
-    c.in_ok-take_line.ensures.taken c.in_ok-skip_line-in-Room.ensures
+    c.in_ok-take_line.ensures c.in_ok-skip_line-in-Room.ensures
 
 pub returns-then-len-gt-LONGEST_LINE : goal.returns-then-len-gt-LONGEST_LINE
 returns-then-len-gt-LONGEST_LINE g c =
@@ -41,7 +41,7 @@ returns-then-len-gt-LONGEST_LINE g c =
           let taken = rw w.in-End.is at p in
           too_long final kept xs ys same (gives_rest kept xs ys taken.0 taken.1 (some _ (length kept) _ w.is_empty.ensures w.if-is_empty.false (omega arith))) far
     ])
-    c.in_ok-take_line.ensures.taken
+    c.in_ok-take_line.ensures
 
 pub returns : goal.returns
 returns g c =
@@ -58,4 +58,4 @@ returns g c =
           let taken = rw w.in-End.is at p in
           whole final kept xs ys same (gives_rest kept xs ys taken.0 taken.1 (some _ (length kept) _ w.is_empty.ensures w.if-is_empty.false (omega arith))) short
     ])
-    c.in_ok-take_line.ensures.taken
+    c.in_ok-take_line.ensures

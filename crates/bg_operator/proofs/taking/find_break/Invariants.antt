@@ -1,6 +1,6 @@
 use Rattle.std.proofs.Common.{◌≡◌, take, false}
 use Rattle.bg_operator.specs.Lines.{has_break}
-use Rattle.bg_operator.proofs.input.find_break.Given as goal
+use Rattle.bg_operator.proofs.taking.find_break.Given as goal
 
 -- no break was met so far
 abbrev pub invariant-loop-i : goal.invariant-loop-i

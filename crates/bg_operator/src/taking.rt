@@ -1,0 +1,137 @@
+//! What is taken of a reader's bytes, a piece at a time.
+ghost use Rattle.std.specs.Prelude.{◌≡◌, ◌+◌, ◌<◌, ◌≤◌, false, ◌∷◌, length, take, drop, IfOk, OnOk, vec_len};
+ghost use Rattle.bg_operator.specs.Lines.{has_break};
+ghost use Rattle.bg_operator.specs.Reading.{Known};
+ghost use Rattle.bg_operator.specs.Taking.{PassesLine, PassesPiece, TakesLine, TakesPiece};
+
+use crate::read_fault::ReadFault;
+use std::io::{BufRead, ErrorKind};
+
+/// After so many turns a loop over a reader gives up.
+pub(crate) const TURNS: u32 = 1 << 24;
+
+/// How a line that was taken ends.
+#[derive(Clone, Copy, Debug, Drop, PartialEq, Eq)]
+pub(crate) enum LineEnd {
+    /// With a break, which was taken too.
+    Break,
+    /// At the end of the input.
+    End,
+    /// Where there was no more room, before a break was seen. The rest of the line is unread.
+    Room,
+}
+
+/// Takes the next line, as far as there is `room`.
+pub(crate) fn take_line<B: BufRead>(
+    reader: &mut B,
+    line: &mut Vec<u8>,
+    room: usize,
+) -> Result<LineEnd, ReadFault>
+    ensures { IfOk result (λ end. Known (B.remaining reader.old) (B.remaining reader.new)
+        (TakesLine room end line.new.items)) }
+{
+    line.clear();
+    for _ in 0..TURNS {
+        if line.len() >= room {
+            return Ok(LineEnd::Room);
+        }
+        if let Some(end) = take_piece(reader, line, room)? {
+            return Ok(end);
+        }
+    }
+    Err(ReadFault::ReadFailed)
+}
+
+/// Takes the next bytes of a line up to its break, which is taken too, as far as there is `room`.
+/// Returns how the line ends; none where more of it is to come, and where a read was interrupted.
+fn take_piece<B: BufRead>(
+    reader: &mut B,
+    line: &mut Vec<u8>,
+    room: usize,
+) -> Result<Option<LineEnd>, ReadFault>
+    requires { vec_len line.old ≤ room }
+    ensures taken { IfOk result (λ end. Known (B.remaining reader.old) (B.remaining reader.new)
+        (TakesPiece end line.old.items line.new.items)) }
+    ensures fits { OnOk result (vec_len line.new ≤ room) }
+{
+    let piece = match reader.fill_buf() {
+        Ok(piece) => piece,
+        Err(error) => {
+            return if error.kind() == ErrorKind::Interrupted {
+                Ok(None)
+            } else {
+                Err(ReadFault::ReadFailed)
+            };
+        }
+    };
+    if piece.is_empty() {
+        return Ok(Some(LineEnd::End));
+    }
+    let at = find_break(piece);
+    let free = room - line.len();
+    if at < piece.len() && at <= free {
+        line.extend_from_slice(&piece[..at])?;
+        reader.consume(at + 1);
+        return Ok(Some(LineEnd::Break));
+    }
+    let kept = at.min(free);
+    line.extend_from_slice(&piece[..kept])?;
+    reader.consume(kept);
+    Ok(None)
+}
+
+/// Passes over the rest of a line, piece by piece, with its break.
+pub(crate) fn skip_line<B: BufRead>(reader: &mut B) -> Result<(), ReadFault>
+    ensures { OnOk result
+        (Known (B.remaining reader.old) (B.remaining reader.new) PassesLine) }
+{
+    for _ in 0..TURNS {
+        if skip_piece(reader)? {
+            return Ok(());
+        }
+    }
+    Err(ReadFault::ReadFailed)
+}
+
+/// Passes over the next bytes of a line up to its break, which is passed over too. Returns whether
+/// the line ends there; false where more of it is to come, and where a read was interrupted.
+fn skip_piece<B: BufRead>(reader: &mut B) -> Result<bool, ReadFault>
+    ensures { IfOk result (λ ended. Known (B.remaining reader.old) (B.remaining reader.new)
+        (PassesPiece ended)) }
+{
+    let piece = match reader.fill_buf() {
+        Ok(piece) => piece,
+        Err(error) => {
+            return if error.kind() == ErrorKind::Interrupted {
+                Ok(false)
+            } else {
+                Err(ReadFault::ReadFailed)
+            };
+        }
+    };
+    if piece.is_empty() {
+        return Ok(true);
+    }
+    let at = find_break(piece);
+    if at < piece.len() {
+        reader.consume(at + 1);
+        return Ok(true);
+    }
+    reader.consume(at);
+    Ok(false)
+}
+
+/// Where the first break is, or the length.
+fn find_break(bytes: &[u8]) -> usize
+    ensures bound { result ≤ length bytes.now }
+    ensures none_before { has_break (take result bytes.now) ≡ false }
+    ensures found { result < length bytes.now
+        → drop result bytes.now ≡ 10 ∷ drop (result + 1) bytes.now }
+{
+    for (i, byte) in bytes.iter().enumerate() {
+        if *byte == b'\n' {
+            return i;
+        }
+    }
+    bytes.len()
+}
