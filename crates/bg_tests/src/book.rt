@@ -1,6 +1,4 @@
 //! The routing book.
 
-mod openings;
-mod requests;
 mod runs;
 mod samples;

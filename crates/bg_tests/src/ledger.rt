@@ -1,5 +1,4 @@
 //! Seats and the book's records of them.
 
-mod each_index;
 mod four_seats;
 mod sizes;

@@ -11,11 +11,7 @@ mod ledger;
 #[cfg(test)]
 mod openlist;
 #[cfg(test)]
-mod promotion;
-#[cfg(test)]
 mod revisions;
-#[cfg(test)]
-mod scaledown;
 #[cfg(test)]
 mod script;
 #[cfg(test)]

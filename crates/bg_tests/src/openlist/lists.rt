@@ -1,4 +1,4 @@
-//! Worked examples of the lists; that each value is dropped once, and that the lists may cross threads.
+//! A worked example of the lists; that each value is dropped once, and that the lists may cross threads.
 ghost use Rattle.std.specs.Prelude.{◌≡◌, ◌<◌};
 
 use bg_openlist::OpenLists;
@@ -53,26 +53,6 @@ fn unlinks_in_the_middle(rt: HostRuntime) -> Result<(), Fail> {
         assert_eq!(rt; lists.list_of(node), list, "node {node}");
     }
     assert_eq!(rt; lists.next(1), None);
-    Ok(())
-}
-
-#[test]
-fn fills_one_list_with_all_nodes(rt: HostRuntime) -> Result<(), Fail> {
-    let mut lists = OpenLists::new(rt.alloc(), 256)?;
-    for node in 0..256 {
-        put(&rt, &mut lists, 0, node, node as u64);
-    }
-    assert_eq!(rt; take(&rt, &mut lists, 0), 0);
-    assert_eq!(rt; take(&rt, &mut lists, 255), 255);
-    let mut left = Vec::new(rt.alloc());
-    for node in 1..255 {
-        if node % 2 == 1 {
-            assert_eq!(rt; take(&rt, &mut lists, node), node as u64);
-        } else {
-            left.push((node, node as u64))?;
-        }
-    }
-    assert!(rt; holds(&lists, 0, &left));
     Ok(())
 }
 

@@ -1,3 +1,0 @@
-//! The promotion core.
-
-mod phases;

@@ -1,3 +1,0 @@
-//! The deadlines after which an old revision may be scaled down.
-
-mod deadlines;
