@@ -1,1 +1,14 @@
+mod Examples
 mod WorkedHistories
+mod AllowedDeploys
+mod AllowedEvents
+mod AllowedRequests
+mod AllowedOutcomes
+mod Attempts
+mod Selections
+mod Sizes
+mod Requests
+mod Deadlines
+mod Promotion
+mod Steps
+mod Ascending

@@ -1,13 +1,12 @@
 -- Worked histories, which pin what the definitions say. Each is read from its last line up, the oldest entry first.
-use Rattle.std.proofs.Common.{lit≤, ◌≡◌, true, false, List, [], ◌∷◌, Some, None, codes, refl}
+use Rattle.std.proofs.Common.{◌≡◌, true, false, List, [], ◌∷◌, Some, None, refl}
 use Rattle.bg_history.specs.declared.entry.Entry.{Entry}
-use Rattle.bg_history.specs.declared.entry.Entry.TheVariants.{Tick, Deploy, Available, Verdict, Abort, Enter, Leave, Outcome}
-use Rattle.bg_history.specs.declared.entry.Outcome.TheVariants.{Ready, Resumed, Switched, Promoted, ScaledDown, Removed}
-use Rattle.bg_history.specs.declared.entry.Analysis.TheVariants.{Pre, Post}
-use Rattle.bg_history.specs.declared.entry.AnalysisResult.TheVariants.{Successful, Failed}
+use Rattle.bg_history.specs.declared.entry.Entry.TheVariants.{Tick, Available, Verdict, Enter, Leave, Outcome}
+use Rattle.bg_history.specs.declared.entry.Outcome.TheVariants.{Ready, Resumed, Switched, Promoted, ScaledDown}
+use Rattle.bg_history.specs.declared.entry.Analysis.TheVariants.{Post}
+use Rattle.bg_history.specs.declared.entry.AnalysisResult.TheVariants.{Failed}
 use Rattle.bg_revisions.specs.declared.revision.Service.TheVariants as service
-use Rattle.bg_strategy.specs.declared.strategy.Strategy.{Strategy}
-use Rattle.bg_history.specs.Kept.{Opening}
+use Rattle.bg_history.proofs.Examples.{plain, with_pause, with_post, with_limit, without_history, opening, deploy_1, deploy_2, ready, switched, promoted, paused, aborted, promoted_twice, superseded}
 use Rattle.bg_history.specs.Turns.{newest_of, is_halted}
 use Rattle.bg_history.specs.Selections.{active_of, preview_of}
 use Rattle.bg_history.specs.Sizes.{existing, desired}
@@ -16,49 +15,7 @@ use Rattle.bg_history.specs.Deadlines.{deadline, is_due}
 use Rattle.bg_history.specs.Requests.{open_at, request_numbers, given}
 use Rattle.bg_history.specs.Steps.{first_allowed, is_settled, all_allowed, all_given}
 
--- two endpoints for each revision, no analysis, no pause, and 30 seconds until an old revision is scaled down
-abbrev plain : Strategy
-plain = record {
-  some_replica = lit≤ tt;
-  few_replicas = lit≤ tt;
-  some_preview = lit≤ tt;
-  few_previews = lit≤ tt;
-  active_service = codes "shop";
-  preview_service = None;
-  replicas = 2;
-  preview_replicas = 2;
-  auto_promotion = true;
-  auto_seconds = 0;
-  pre = false;
-  post = false;
-  delay = 30;
-  revision_limit = None;
-  history_limit = 10;
-}
-
-abbrev opening : Opening
-opening = record { seats = 4; template = record { name = codes "v1"; ports = 9001 ∷ 9002 ∷ [] } }
-
-abbrev deploy_1 : Entry
-deploy_1 = Deploy 1 (codes "v1") (9001 ∷ 9002 ∷ [])
-
-abbrev deploy_2 : Entry
-deploy_2 = Deploy 2 (codes "v2") (9101 ∷ 9102 ∷ [])
-
-abbrev deploy_3 : Entry
-deploy_3 = Deploy 3 (codes "v3") (9201 ∷ 9202 ∷ [])
-
 -- revision 2 is deployed, becomes available and is promoted, all at moment 0
-abbrev promoted : List Entry
-promoted =
-    Outcome (Promoted 2)
-    ∷ Outcome (Switched 2)
-    ∷ Outcome (Resumed 2)
-    ∷ Outcome (Ready 2)
-    ∷ Available 2 2
-    ∷ deploy_2
-    ∷ []
-
 promoted_is_legal : all_allowed plain opening promoted ≡ true
 promoted_is_legal = refl
 
@@ -83,9 +40,6 @@ lone_switch_is_illegal : all_allowed plain opening (Outcome (Switched 1) ∷ [])
 lone_switch_is_illegal = refl
 
 -- with an analysis after the switch: in its midst, at moment 40, revision 1 is deployed again
-abbrev with_post : Strategy
-with_post = record plain { post = true }
-
 abbrev reverted : List Entry
 reverted =
     deploy_1
@@ -152,19 +106,6 @@ drained : first_allowed plain (Leave 0 1 1 ∷ draining) ≡ Some (ScaledDown 1)
 drained = refl
 
 -- with one old revision at most: the one that left the service first is scaled down before its deadline
-abbrev with_limit : Strategy
-with_limit = record plain { revision_limit = Some 1 }
-
-abbrev promoted_twice : List Entry
-promoted_twice =
-    Outcome (Promoted 3)
-    ∷ Outcome (Switched 3)
-    ∷ Outcome (Resumed 3)
-    ∷ Outcome (Ready 3)
-    ∷ Available 3 2
-    ∷ deploy_3
-    ∷ promoted
-
 over_the_limit : first_allowed with_limit promoted_twice ≡ Some (ScaledDown 1)
 over_the_limit = refl
 
@@ -172,12 +113,6 @@ within_the_limit : is_settled with_limit (Outcome (ScaledDown 1) ∷ promoted_tw
 within_the_limit = refl
 
 -- with no old revision kept: a superseded revision is scaled down and removed at once
-abbrev without_history : Strategy
-without_history = record plain { history_limit = 0 }
-
-abbrev superseded : List Entry
-superseded = Outcome (Removed 2) ∷ Outcome (ScaledDown 2) ∷ deploy_3 ∷ deploy_2 ∷ []
-
 superseded_is_legal : all_allowed without_history opening superseded ≡ true
 superseded_is_legal = refl
 
@@ -188,17 +123,8 @@ superseded-existing : existing superseded ≡ 1 ∷ 3 ∷ []
 superseded-existing = refl
 
 -- with an analysis before the switch, and a pause of 10 seconds after it
-abbrev with_pause : Strategy
-with_pause = record plain { pre = true; auto_seconds = 10 }
-
-abbrev analysed : List Entry
-analysed = Outcome (Ready 2) ∷ Available 2 2 ∷ deploy_2 ∷ []
-
-analysed_is_awaited : awaits_pre with_pause analysed ≡ true
-analysed_is_awaited = refl
-
-abbrev paused : List Entry
-paused = Verdict Pre Successful ∷ Tick 5 ∷ analysed
+ready_awaits_pre : awaits_pre with_pause ready ≡ true
+ready_awaits_pre = refl
 
 paused_is_paused : is_paused with_pause paused ≡ true
 paused_is_paused = refl
@@ -211,9 +137,6 @@ pause_over_at_15 : first_allowed with_pause (Tick 15 ∷ paused) ≡ Some (Resum
 pause_over_at_15 = refl
 
 -- an operator aborts in the pause: active and preview are the stable revision; the newest stays, and stays scaled
-abbrev aborted : List Entry
-aborted = Abort ∷ paused
-
 aborted_is_halted : is_halted aborted ≡ true
 aborted_is_halted = refl
 
@@ -231,7 +154,7 @@ aborted-deadline = refl
 
 -- the analysis after the switch fails: active goes back, and the revision that just left it has no deadline
 abbrev failed : List Entry
-failed = Verdict Post Failed ∷ Outcome (Switched 2) ∷ Outcome (Resumed 2) ∷ analysed
+failed = Verdict Post Failed ∷ switched
 
 failed_is_legal : all_allowed with_post opening failed ≡ true
 failed_is_legal = refl

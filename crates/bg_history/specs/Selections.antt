@@ -1,5 +1,6 @@
 -- Which revisions the services select.
 use Rattle.std.specs.Prelude.{ℕ, Bool, if◌then◌else◌, ◌==◌, ◌||◌, List, [], ◌∷◌}
+use Rattle.bg_revisions.specs.declared.revision.Selectors.{Selectors}
 use Rattle.bg_history.specs.declared.entry.Entry.{Entry}
 use Rattle.bg_history.specs.declared.entry.Entry.TheVariants.{Deploy, Verdict, Abort, Outcome}
 use Rattle.bg_history.specs.declared.entry.Outcome.TheVariants.{Switched}
@@ -24,3 +25,12 @@ active_of (_ ∷ before) = active_of before
 -- r is active, preview or stable
 abbrev pub is_selected : ℕ → List Entry → Bool
 is_selected r past = (r == active_of past) || (r == preview_of past) || (r == stable_of past)
+
+-- the revisions that are active, preview, stable and newest
+abbrev pub selectors_of : List Entry → Selectors
+selectors_of past = record {
+  active = active_of past;
+  preview = preview_of past;
+  stable = stable_of past;
+  newest = newest_of past;
+}

@@ -1,5 +1,5 @@
 -- Which revisions exist, and their sizes.
-use Rattle.std.specs.Prelude.{ℕ, Bool, false, not, max, if◌then◌else◌, ◌==◌, ◌&&◌, nat_lt, nat_le, List, [], ◌∷◌, filter}
+use Rattle.std.specs.Prelude.{◌<◌, ℕ, Bool, false, not, max, if◌then◌else◌, ◌==◌, ◌&&◌, nat_lt, nat_le, List, [], ◌∷◌, filter}
 use Rattle.bg_history.specs.declared.entry.Entry.{Entry}
 use Rattle.bg_history.specs.declared.entry.Entry.TheVariants.{Deploy, Available, Retry, Outcome}
 use Rattle.bg_history.specs.declared.entry.Outcome.TheVariants.{Resumed, ScaledDown, Removed}
@@ -20,6 +20,16 @@ existing [] = 1 ∷ []
 existing (Deploy r name ports ∷ before) = put r (existing before)
 existing (Outcome (Removed r) ∷ before) = filter (λ q. not (q == r)) (existing before)
 existing (_ ∷ before) = existing before
+
+-- each number is above that one
+abbrev pub AllAbove : ℕ → List ℕ → Type 0
+AllAbove low [] = Unit {0}
+AllAbove low (x ∷ xs) = (low < x) × AllAbove low xs
+
+-- each number is below all that follow it
+abbrev pub Ascends : List ℕ → Type 0
+Ascends [] = Unit {0}
+Ascends (x ∷ xs) = AllAbove x xs × Ascends xs
 
 -- the greatest number that a revision was given
 abbrev pub last_number : List Entry → ℕ

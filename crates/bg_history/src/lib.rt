@@ -6,6 +6,7 @@
 
 mod entry;
 mod history;
+pub mod laws;
 
 pub use entry::{Analysis, AnalysisResult, Entry, Outcome};
 pub use history::History;

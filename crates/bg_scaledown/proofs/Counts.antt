@@ -1,7 +1,8 @@
 -- Counting the numbers of a list that pass a test.
-use Rattle.std.proofs.Common.{◌≡◌, ◌+◌, ℕ, Bool, true, false, not, ◌==◌, ◌&&◌, List, [], ◌∷◌, refl, arith, sym}
+use Rattle.std.proofs.Common.{◌≡◌, ◌≤◌, ◌+◌, ℕ, Bool, true, false, not, ◌==◌, ◌&&◌, List, [], ◌∷◌, length, refl, arith, sym}
 use Rattle.std.specs.List.{list_any}
 use Rattle.std.proofs.lemmas.Bool.Decides.{nat_tests}
+use Rattle.bg_history.specs.Sizes.{AllAbove, Ascends}
 use Rattle.bg_scaledown.specs.Due.{one_if}
 
 -- how many pass it
@@ -17,6 +18,15 @@ member q xs = list_any (λ x. x == q) xs
 abbrev pub Distinct : List ℕ → Type 0
 Distinct [] = Unit {0}
 Distinct (x ∷ xs) = (member x xs ≡ false) × Distinct xs
+
+-- numbers that ascend stand once
+pub above-absent : (low q : ℕ) (xs : List ℕ) → q ≤ low → AllAbove low xs → member q xs ≡ false
+above-absent low q [] le h = refl
+above-absent low q (x ∷ xs) le h = grind (arith, nat_tests, h.0, above-absent low q xs le h.1)
+
+pub ascends-distinct : (xs : List ℕ) → Ascends xs → Distinct xs
+ascends-distinct [] h = tt
+ascends-distinct (x ∷ xs) h = (above-absent x x xs (omega arith) h.0, ascends-distinct xs h.1)
 
 -- the test, but for x
 abbrev pub except : (ℕ → Bool) → ℕ → ℕ → Bool
@@ -68,3 +78,21 @@ count-same p [] ys dx dy inx iny = sym (count-none p ys (λ q. is_false (p q) (�
 count-same p (x ∷ xs) ys dx dy inx iny =
     count-same_cons p x xs ys (p x) refl dy dx.0 iny
     (count-same (except p x) xs ys dx.1 dy (kept_in p x xs inx) (λ q h. iny q (kept p x q h).0))
+
+-- the numbers of a list that it has are all of them, and no list has more that pass a test than numbers
+count-all : (p : ℕ → Bool) (xs : List ℕ) → ((q : ℕ) → member q xs ≡ true → p q ≡ true) → count p xs ≡ length xs
+count-all p [] all = refl
+count-all p (x ∷ xs) all =
+    let here : p x ≡ true = all x (grind (arith, nat_tests)) in
+    let rest : count p xs ≡ length xs = count-all p xs (λ q h. all q (grind (arith, nat_tests))) in
+    grind (arith)
+
+count-most : (p : ℕ → Bool) (xs : List ℕ) → count p xs ≤ length xs
+count-most p [] = omega arith
+count-most p (x ∷ xs) = grind (arith, count-most p xs)
+
+-- a list without repetition is no longer than another one that has all its numbers
+pub length-within : (xs ys : List ℕ) → Distinct xs → Distinct ys → ((q : ℕ) → member q xs ≡ true → member q ys ≡ true) → length xs ≤ length ys
+length-within xs ys dx dy within =
+    let inside : ℕ → Bool = λ q. member q xs in
+    omega (arith, count-all inside xs (λ q h. h), count-most inside ys, count-same inside xs ys dx dy (λ q h. h) within)

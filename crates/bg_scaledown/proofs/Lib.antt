@@ -8,5 +8,10 @@ pub mod Once
 pub mod Ranks
 pub mod PastRanks
 pub mod PastDue
+pub mod Found
+pub mod Few
 pub mod PastTables
-pub mod Aborts
+pub mod Deploys
+pub mod Halts
+pub mod Switches
+pub mod Recorded

@@ -1,5 +1,5 @@
 -- The stamp of a revision after a past.
-use Rattle.std.proofs.Common.{◌≡◌, ℕ, Bool, true, false, cond, ◌==◌, List, [], ◌∷◌, length, Option, Some, None, refl, arith, ◌∙◌, ap, sym, inl, inr}
+use Rattle.std.proofs.Common.{◌≡◌, ℕ, Bool, true, false, cond, ◌==◌, List, [], ◌∷◌, length, Option, Some, None, is_some, refl, arith, ◌∙◌, ap, sym, inl, inr}
 use Rattle.std.specs.List.{list_any}
 use Rattle.std.specs.Option.{option_or, option_map}
 use Rattle.std.proofs.lemmas.Bool.Decides.{nat_tests, eqb_tells}
@@ -9,6 +9,8 @@ use Rattle.bg_history.specs.declared.entry.Outcome.TheVariants.{Switched, Scaled
 use Rattle.bg_history.specs.declared.entry.AnalysisResult.TheVariants.{Successful, Failed, Error}
 use Rattle.bg_history.specs.Turns.{moment}
 use Rattle.bg_history.specs.Marks.{MarkKind, Left, Superseded, Cleared, Mark, kind_of, mark}
+use Rattle.bg_history.specs.Deadlines.{deadline_of}
+use Rattle.bg_strategy.specs.declared.strategy.Strategy.{Strategy}
 use Rattle.bg_scaledown.specs.declared.mark.Cause.TheVariants as cause
 use Rattle.bg_scaledown.specs.Past.{Stamp, stamp_at, others, stamp_of, stamped, touched, stamp_all, stamps_of}
 
@@ -126,3 +128,12 @@ stamp_of-past r (e ∷ before) =
     stamp_of-step r e before
     ∙ ap (λ stamp. after (kind_of r e before) r (moment (e ∷ before)) (length before) stamp) (stamp_of-past r before)
     ∙ sym (live_step (kind_of r e before) r (moment (e ∷ before)) (length before) (mark r before))
+
+-- a revision has a deadline where its newest mark makes a stamp
+pub live-deadline : (s : Strategy) (r : ℕ) (m : Option Mark) → is_some (deadline_of s m) ≡ is_some (live r m)
+live-deadline s r None = refl
+live-deadline s r (Some m) = go m.kind m.moment m.stood where
+  go : (k : MarkKind) (at stood : ℕ) → is_some (deadline_of s (Some (record { kind = k; moment = at; stood = stood }))) ≡ is_some (live r (Some (record { kind = k; moment = at; stood = stood })))
+  go Left at stood = refl
+  go Superseded at stood = refl
+  go Cleared at stood = refl

@@ -1,17 +1,17 @@
 -- The rank of a revision in the table of a past is its rank by that past.
-use Rattle.std.proofs.Common.{◌≡◌, ◌+◌, ℕ, Bool, true, false, not, cond, ◌&&◌, nat_lt, List, [], ◌∷◌, count_by, Option, Some, None, refl, arith, ◌∙◌, ap, sym}
+use Rattle.std.proofs.Common.{◌≡◌, ◌+◌, ℕ, Bool, true, false, not, cond, ◌&&◌, nat_lt, List, [], ◌∷◌, count_by, Option, Some, None, is_some, refl, arith, ◌∙◌, ap, sym}
 use Rattle.std.proofs.lemmas.Bool.Decides.{nat_tests}
 use Rattle.std.proofs.lemmas.List.Sums.{sum_by-cons}
 use Rattle.bg_history.specs.declared.entry.Entry.{Entry}
 use Rattle.bg_strategy.specs.declared.strategy.Strategy.{Strategy}
 use Rattle.bg_history.specs.Selections.{is_selected}
-use Rattle.bg_history.specs.Sizes.{existing, is_scaled}
+use Rattle.bg_history.specs.Sizes.{existing, Ascends}
 use Rattle.bg_history.specs.Marks.{MarkKind, Left, Superseded, Cleared, Mark, mark}
-use Rattle.bg_history.specs.Deadlines.{is_spare, left_later, rank_after}
+use Rattle.bg_history.specs.Deadlines.{deadline, is_spare, left_later, rank_after}
 use Rattle.bg_scaledown.specs.Due.{one_if, rank_in}
-use Rattle.bg_scaledown.specs.Past.{Stamp, stamp_of, stamps_of, marks_of}
-use Rattle.bg_scaledown.proofs.Counts.{count, member, Distinct, count-same}
-use Rattle.bg_scaledown.proofs.Lookups.{live, stamp_of-past}
+use Rattle.bg_scaledown.specs.Past.{Stamp, stamp_of, stamps_of, marks_of, DeadlinesStand}
+use Rattle.bg_scaledown.proofs.Counts.{count, member, Distinct, count-same, ascends-distinct}
+use Rattle.bg_scaledown.proofs.Lookups.{live, live-deadline, stamp_of-past}
 use Rattle.bg_scaledown.proofs.Orders.{stamp_has_left, stamps-ordered}
 use Rattle.bg_scaledown.proofs.Once.{revisions, stamps-distinct}
 use Rattle.bg_scaledown.proofs.Ranks.{later, rank_in-is_later}
@@ -69,24 +69,26 @@ count_by-is_count : (p : ℕ → Bool) (xs : List ℕ) → count_by p xs ≡ cou
 count_by-is_count p [] = refl
 count_by-is_count p (x ∷ xs) = sum_by-cons (λ y. cond (p y) 1 0) x xs ∙ ap (λ n. one_if (p x) + n) (count_by-is_count p xs)
 
--- what a book knows of its past between calls: the revisions with a stamp exist and are scaled
-pub record StampsStand (s : Strategy) (past : List Entry) : Type 0 where
-  pub exist : (q : ℕ) → member q (revisions (stamps_of past)) ≡ true → member q (existing past) ≡ true
-  pub scaled : (q : ℕ) → member q (revisions (stamps_of past)) ≡ true → is_scaled s q past ≡ true
-  pub distinct : Distinct (existing past)
+-- a revision with a stamp has a deadline
+stamp_of-found : (q : ℕ) (stamps : List Stamp) → member q (revisions stamps) ≡ true → is_some (stamp_of q stamps) ≡ true
+stamp_of-found q [] h = cc
+stamp_of-found q (stamp ∷ stamps) h = grind (arith, nat_tests, stamp_of-found q stamps)
+
+pub stamped-deadline : (s : Strategy) (q : ℕ) (past : List Entry) → member q (revisions (stamps_of past)) ≡ true → is_some (deadline s q past) ≡ true
+stamped-deadline s q past h = live-deadline s q (mark q past) ∙ ap is_some (sym (stamp_of-past q past)) ∙ stamp_of-found q (stamps_of past) h
 
 -- the rank in the table is the number of spare revisions that left later
-pub rank_in-is_rank : (s : Strategy) (r : ℕ) (past : List Entry) (me : Stamp) → StampsStand s past → stamp_of r (stamps_of past) ≡ Some me → stamp_has_left me ≡ true
+pub rank_in-is_rank : (s : Strategy) (r : ℕ) (past : List Entry) (me : Stamp) → DeadlinesStand s past → Ascends (existing past) → stamp_of r (stamps_of past) ≡ Some me → stamp_has_left me ≡ true
     → rank_in (λ q. not (is_selected q past)) r (marks_of (stamps_of past)) ≡ rank_after s me.stood past
-rank_in-is_rank s r past me stands here left =
+rank_in-is_rank s r past me stands ascends here left =
     let spare : ℕ → Bool = λ q. is_spare s q past in
     let by : ℕ → Bool = by_stamp spare me.stood (stamps_of past) in
     rank_in-is_later (λ q. not (is_selected q past)) r (stamps_of past) me (stamps-ordered past).1 here left
-    ∙ later-ext (λ q. not (is_selected q past)) spare me.stood (stamps_of past) (λ q h. rw (stands.scaled q h) refl)
+    ∙ later-ext (λ q. not (is_selected q past)) spare me.stood (stamps_of past) (λ q h. rw (stands.scaled q (stamped-deadline s q past h)) refl)
     ∙ later-is_count spare me.stood (stamps_of past) (stamps-distinct past)
-    ∙ count-same by (revisions (stamps_of past)) (existing past) (stamps-distinct past) stands.distinct
+    ∙ count-same by (revisions (stamps_of past)) (existing past) (stamps-distinct past) (ascends-distinct (existing past) ascends)
     (λ q h. by_stamp-member spare me.stood q (stamps_of past) h)
-    (λ q h. stands.exist q (by_stamp-member spare me.stood q (stamps_of past) h))
+    (λ q h. stands.exist q (stamped-deadline s q past (by_stamp-member spare me.stood q (stamps_of past) h)))
     ∙ count-ext by (λ q. is_spare s q past && left_later me.stood (mark q past)) (existing past)
     (λ q. ap (λ stamp. is_spare s q past && stamp_later me.stood stamp) (stamp_of-past q past) ∙ ap (λ b. is_spare s q past && b) (stamp_later-live me.stood q (mark q past)))
     ∙ sym (count_by-is_count (λ q. is_spare s q past && left_later me.stood (mark q past)) (existing past))

@@ -1,12 +1,15 @@
 -- The table of a past, entry by entry.
-use Rattle.std.proofs.Common.{◌≡◌, ℕ, Bool, true, false, not, cond, ◌==◌, List, [], ◌∷◌, Option, Some, None, refl, ◌∙◌, ap}
+use Rattle.std.proofs.Common.{◌≡◌, ℕ, Bool, true, false, not, cond, ◌==◌, List, [], ◌∷◌, Option, Some, None, refl, arith, ◌∙◌, ap}
+use Rattle.std.proofs.lemmas.Bool.Decides.{nat_tests}
 use Rattle.bg_history.specs.declared.entry.Entry.{Entry}
 use Rattle.bg_history.specs.Turns.{moment}
 use Rattle.bg_history.specs.Marks.{MarkKind, Left, Superseded, Cleared, kind_of}
 use Rattle.bg_scaledown.specs.declared.mark.RevisionMark.{RevisionMark}
+use Rattle.bg_scaledown.specs.declared.mark.Cause.{Cause}
 use Rattle.bg_scaledown.specs.declared.mark.Cause.TheVariants as cause
 use Rattle.bg_scaledown.specs.Due.{marks_without}
 use Rattle.bg_scaledown.specs.Past.{Stamp, others, stamped, touched, stamp_all, stamps_of, marks_of}
+use Rattle.bg_scaledown.proofs.Filters.{filter-swap, filter-twice}
 
 -- the marks after the call of that kind for q: `left_active`, `superseded`, `clear` or none
 abbrev pub marked : Option MarkKind → ℕ → ℕ → List RevisionMark → List RevisionMark
@@ -14,6 +17,23 @@ marked None q at marks = marks
 marked (Some Left) q at marks = record { revision = q; cause = cause.Left; moment = at } ∷ marks_without q marks
 marked (Some Superseded) q at marks = record { revision = q; cause = cause.Superseded; moment = at } ∷ marks_without q marks
 marked (Some Cleared) q at marks = marks_without q marks
+
+-- the marks of a revision that are dropped twice, or beside a new one of it
+pub marks_without-twice : (q : ℕ) (marks : List RevisionMark) → marks_without q (marks_without q marks) ≡ marks_without q marks
+marks_without-twice q marks = filter-twice (λ m. not (m.revision == q)) marks
+
+without-marked : (q : ℕ) (c : Cause) (at : ℕ) (marks : List RevisionMark) → marks_without q (record { revision = q; cause = c; moment = at } ∷ marks_without q marks) ≡ marks_without q marks
+without-marked q c at marks = grind (arith, nat_tests, marks_without-twice q marks)
+
+-- what is dropped before others needs no second drop
+pub marks_without-again : (q r : ℕ) (marks : List RevisionMark) → marks_without q (marks_without r (marks_without q marks)) ≡ marks_without r (marks_without q marks)
+marks_without-again q r marks =
+    let other : ℕ → RevisionMark → Bool = λ p m. not (m.revision == p) in
+    filter-swap (other q) (other r) (marks_without q marks) ∙ ap (marks_without r) (marks_without-twice q marks)
+
+-- nor where it is dropped under an equal number
+pub marks_without-same : (q r : ℕ) (marks : List RevisionMark) → r ≡ q → marks_without q (marks_without r marks) ≡ marks_without r marks
+marks_without-same q r marks is = rw (← is) (marks_without-twice r marks)
 
 -- the marks after those calls for several revisions, the last one first
 abbrev pub mark_all : Entry → List Entry → List ℕ → List RevisionMark → List RevisionMark
@@ -45,3 +65,25 @@ marks-stamp_all e before (q ∷ qs) stamps =
 -- one more entry makes those calls for the revisions that it touches
 pub marks-step : (e : Entry) (before : List Entry) → marks_of (stamps_of (e ∷ before)) ≡ mark_all e before (touched e before) (marks_of (stamps_of before))
 marks-step e before = marks-stamp_all e before (touched e before) (stamps_of before)
+
+-- the same call twice is one
+pub marked-twice : (k : Option MarkKind) (q at : ℕ) (marks : List RevisionMark) → marked k q at (marked k q at marks) ≡ marked k q at marks
+marked-twice None q at marks = refl
+marked-twice (Some Left) q at marks = ap (λ ms. record { revision = q; cause = cause.Left; moment = at } ∷ ms) (without-marked q cause.Left at marks)
+marked-twice (Some Superseded) q at marks = ap (λ ms. record { revision = q; cause = cause.Superseded; moment = at } ∷ ms) (without-marked q cause.Superseded at marks)
+marked-twice (Some Cleared) q at marks = marks_without-twice q marks
+
+-- the calls for three revisions, the last one first, by what the entry is for each
+abbrev pub thrice : (ℕ → Option MarkKind) → ℕ → ℕ → ℕ → ℕ → List RevisionMark → List RevisionMark
+thrice kind a b c at marks = marked (kind a) a at (marked (kind b) b at (marked (kind c) c at marks))
+
+-- they are two where neighbours are one revision
+pub thrice-first : (kind : ℕ → Option MarkKind) (a b c at : ℕ) (marks : List RevisionMark) → a ≡ b → thrice kind a b c at marks ≡ marked (kind a) a at (marked (kind c) c at marks)
+thrice-first kind a b c at marks is = rw (← is) (marked-twice (kind a) a at (marked (kind c) c at marks))
+
+pub thrice-last : (kind : ℕ → Option MarkKind) (a b c at : ℕ) (marks : List RevisionMark) → b ≡ c → thrice kind a b c at marks ≡ marked (kind a) a at (marked (kind c) c at marks)
+thrice-last kind a b c at marks is = rw is (ap (marked (kind a) a at) (marked-twice (kind c) c at marks))
+
+-- they are the same by kinds that agree
+pub thrice-kinds : (p t : ℕ → Option MarkKind) (a b c at : ℕ) (marks : List RevisionMark) → ((q : ℕ) → p q ≡ t q) → thrice p a b c at marks ≡ thrice t a b c at marks
+thrice-kinds p t a b c at marks same = rw (same a, same b, same c) refl

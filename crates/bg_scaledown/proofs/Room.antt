@@ -39,3 +39,11 @@ marks_without-before r i ms d within other =
     let more : marks_without r (take (i + 1) ms) ≡ marks_without r (take i ms) ++ get_or ms i d ∷ [] =
     filter_more p ms i d within ∙ ap (λ b. marks_without r (take i ms) ++ cond b (get_or ms i d ∷ []) []) passes in
     omega (arith, marks_without-take r (i + 1) ms, ap length more, length-append (marks_without r (take i ms)) (get_or ms i d ∷ []))
+
+-- where fewer than 64 revisions have marks each has room
+pub room-few : (r : ℕ) (ms : List RevisionMark) → length ms < 64 → has_room_for r ms ≡ true
+room-few r ms few = grind (arith, nat_tests)
+
+-- so it has once those of another one are dropped
+pub room-dropped : (r q : ℕ) (ms : List RevisionMark) → length ms < 64 → has_room_for r (marks_without q ms) ≡ true
+room-dropped r q ms few = room-few r (marks_without q ms) (omega (arith, length-marks_without q ms))

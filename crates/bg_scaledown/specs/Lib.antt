@@ -1,3 +1,4 @@
 pub mod Tables
 pub mod Due
+pub mod Events
 pub mod Past

@@ -1,17 +1,18 @@
 -- The table of marks that a past makes, for a book that keeps the deadlines beside its past.
-use Rattle.std.specs.Prelude.{ℕ, not, ◌==◌, List, [], ◌∷◌, length, Option, Some, None, filter, find}
+use Rattle.std.specs.Prelude.{ℕ, not, ◌==◌, List, [], ◌∷◌, length, Option, Some, None, is_some, filter, find, IsTrue}
 use Rattle.bg_history.specs.declared.entry.Entry.{Entry}
 use Rattle.bg_history.specs.declared.entry.Entry.TheVariants.{Deploy, Verdict, Abort, Retry, Outcome}
 use Rattle.bg_history.specs.declared.entry.Outcome.TheVariants.{Switched, ScaledDown}
 use Rattle.bg_history.specs.declared.entry.AnalysisResult.TheVariants.{Failed, Error}
 use Rattle.bg_history.specs.Turns.{moment, stable_of, newest_of}
-use Rattle.bg_history.specs.Selections.{active_of, preview_of}
+use Rattle.bg_history.specs.Selections.{active_of}
+use Rattle.bg_history.specs.Sizes.{is_scaled}
+use Rattle.bg_history.specs.Deadlines.{deadline, exists_in}
 use Rattle.bg_history.specs.Marks.{MarkKind, Left, Superseded, Cleared, kind_of}
 use Rattle.bg_strategy.specs.declared.strategy.Strategy.{Strategy}
 use Rattle.bg_scaledown.specs.declared.mark.RevisionMark.{RevisionMark}
 use Rattle.bg_scaledown.specs.declared.mark.Cause.{Cause}
 use Rattle.bg_scaledown.specs.declared.mark.Cause.TheVariants as cause
-use Rattle.bg_revisions.specs.declared.revision.Selectors.{Selectors}
 use Rattle.bg_scaledown.specs.Tables.{Table}
 
 -- a mark, and how many entries stood before the one that made it, which tells what came later
@@ -83,11 +84,7 @@ table_of s past = record {
   marks = marks_of (stamps_of past);
 }
 
--- the revisions that are active, preview, stable and newest after a past
-abbrev pub selected_of : List Entry → Selectors
-selected_of past = record {
-  active = active_of past;
-  preview = preview_of past;
-  stable = stable_of past;
-  newest = newest_of past;
-}
+-- what holds of every past that a book can reach: a revision with a deadline exists and is scaled
+pub record DeadlinesStand (s : Strategy) (past : List Entry) : Type 0 where
+  pub exist : (r : ℕ) → IsTrue (is_some (deadline s r past)) → IsTrue (exists_in r past)
+  pub scaled : (r : ℕ) → IsTrue (is_some (deadline s r past)) → IsTrue (is_scaled s r past)

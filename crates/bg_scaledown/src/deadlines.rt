@@ -1,11 +1,23 @@
 //! The deadlines of the revisions that left the active service or were superseded.
-ghost use Rattle.std.specs.Prelude.{◌≡◌, ◌≤◌, ◌<◌, ◌^◌, ℕ, Bool, true, [], ◌∷◌, length};
+ghost use Rattle.std.specs.Prelude.{◌≡◌, ◌≤◌, ◌<◌, ◌^◌, ℕ, Bool, true, List, [], ◌∷◌, length};
+ghost use Rattle.std.specs.Prelude.{◌&&◌, find};
+ghost use Rattle.bg_strategy.specs.declared.strategy.Strategy.{Strategy};
+ghost use Rattle.bg_history.specs.declared.entry.Entry.{Entry};
+ghost use Rattle.bg_history.specs.Turns.{moment};
+ghost use Rattle.bg_history.specs.Selections.{selectors_of};
+ghost use Rattle.bg_history.specs.Sizes.{existing};
+ghost use Rattle.bg_history.specs.Deadlines.{deadline as deadline_of_past};
+ghost use Rattle.bg_history.specs.Deadlines.{is_due as is_due_in_past};
 ghost use Rattle.bg_scaledown.specs.Due.{marks_without, has_room_for, time_after, deadline_in};
 ghost use Rattle.bg_scaledown.specs.Due.{exempts, is_due_in, IsLeastDue};
+ghost use Rattle.bg_scaledown.specs.Past.{table_of, DeadlinesStand};
 ghost use Rattle.bg_scaledown.specs.declared.mark.Cause.TheVariants.{Left, Superseded};
+
+mod events;
 
 use crate::mark::{Cause, RevisionMark};
 use crate::marks::{MOST_MARKS, Marks};
+use bg_history::laws::existing_ascends;
 use bg_revisions::Selectors;
 use std::marker::Model;
 
@@ -103,9 +115,12 @@ impl Deadlines {
     }
 
     /// The moment from which the revision may be scaled down: that of its mark, and where it left
-    /// the active service the delay more. None where it has no mark.
+    /// the active service the delay more. None where it has no mark. Where the marks are those of a
+    /// history, it is the deadline that the history gives.
     pub fn deadline(&self, revision: u64) -> Option<u64>
-        ensures { result ≡ deadline_in self.now revision }
+        ensures table { result ≡ deadline_in self.now revision }
+        ensures past { (s : Strategy) (past : List Entry) → self.now ≡ table_of s past
+            → result ≡ deadline_of_past s revision past }
     {
         for mark in self.marks.as_slice() {
             if mark.revision == revision {
@@ -117,8 +132,21 @@ impl Deadlines {
 
     /// Whether the revision may be scaled down: it isn't exempt, and its deadline has come, or it
     /// left the active service and at least as many as the limit, not exempt, left after it. Exempt
-    /// are the active, the preview and the stable revision; `exempt.newest` isn't read.
+    /// are the active, the preview and the stable revision; `exempt.newest` isn't read. Where the
+    /// marks are those of a history, and each marked revision exists and is scaled, it is what the
+    /// history says.
     pub fn is_due(&self, revision: u64, now: u64, exempt: Selectors) -> bool
+        ensures table { result ≡ is_due_in self.now revision now exempt }
+        ensures past { (s : Strategy) (past : List Entry) → self.now ≡ table_of s past
+            → DeadlinesStand s past → exempt ≡ selectors_of past → now ≡ moment past
+            → result ≡ is_due_in_past s revision past }
+    {
+        existing_ascends();
+        self.has_due_mark(revision, now, exempt)
+    }
+
+    /// Whether the revision isn't exempt, and its mark makes it due.
+    fn has_due_mark(&self, revision: u64, now: u64, exempt: Selectors) -> bool
         ensures { result ≡ is_due_in self.now revision now exempt }
     {
         if exempts(exempt, revision) {
@@ -140,13 +168,21 @@ impl Deadlines {
     }
 
     /// The least number of a revision that is due and for which `empty` says true; none where no
-    /// revision is due and empty.
+    /// revision is due and empty. Where the marks are those of a history, and each marked revision
+    /// exists and is scaled, it is the first of the existing revisions that the history says is due
+    /// and that is empty.
     pub fn next_due<F: Fn(u64) -> bool>(&self, now: u64, exempt: Selectors, empty: F) -> Option<u64>
         requires { F.IsAlwaysCallable empty }
         // `p` is the test that `empty` computes.
-        ensures { (p : ℕ → Bool) → ((x : ℕ) (r : Bool) → F.post empty x r → r ≡ p x)
+        ensures table { (p : ℕ → Bool) → ((x : ℕ) (r : Bool) → F.post empty x r → r ≡ p x)
             → IsLeastDue self.now now exempt p result }
+        ensures past { (s : Strategy) (past : List Entry) (p : ℕ → Bool)
+            → self.now ≡ table_of s past → DeadlinesStand s past
+            → exempt ≡ selectors_of past → now ≡ moment past
+            → ((x : ℕ) (r : Bool) → F.post empty x r → r ≡ p x)
+            → result ≡ find (λ r. is_due_in_past s r past && p r) (existing past) }
     {
+        existing_ascends();
         self.marks
             .as_slice()
             .iter()

@@ -2,6 +2,7 @@
 #![tactic(auto)]
 
 mod deadlines;
+pub mod laws;
 mod mark;
 mod marks;
 

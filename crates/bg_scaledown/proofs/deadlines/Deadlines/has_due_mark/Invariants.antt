@@ -1,6 +1,6 @@
 use Rattle.std.proofs.Common.{◌≡◌, ◌+◌, ◌≤◌, drop}
 use Rattle.bg_scaledown.specs.Due.{mark_of, rank_among}
-use Rattle.bg_scaledown.proofs.deadlines.Deadlines.is_due.Given as goal
+use Rattle.bg_scaledown.proofs.deadlines.Deadlines.has_due_mark.Given as goal
 
 abbrev pub invariant-loop-mark : goal.invariant-loop-mark
 invariant-loop-mark l =

@@ -1,0 +1,99 @@
+-- Where a request enters and leaves, and where it doesn't.
+use Rattle.std.proofs.Common.{◌≡◌, true, false, List, [], ◌∷◌, refl}
+use Rattle.bg_history.specs.declared.entry.Entry.{Entry}
+use Rattle.bg_history.specs.declared.entry.Entry.TheVariants.{Available, Enter, Leave}
+use Rattle.bg_revisions.specs.declared.revision.Service.TheVariants as service
+use Rattle.bg_history.proofs.Examples.{plain, with_preview, opening, deploy_2}
+use Rattle.bg_history.specs.Allowed.{is_allowed}
+
+-- revision 1 has its endpoints
+abbrev started : List Entry
+started = Available 1 2 ∷ []
+
+-- so has revision 2, whose attempt runs
+abbrev beside : List Entry
+beside = Available 2 2 ∷ deploy_2 ∷ started
+
+-- revision 2 has the endpoint that its preview needs
+abbrev previewed : List Entry
+previewed = Available 2 1 ∷ deploy_2 ∷ started
+
+-- seat 0 holds request 1
+abbrev held : List Entry
+held = Enter 0 service.Active 1 1 9002 ∷ started
+
+-- request 1 enters at the second of two ports
+enter_active : is_allowed plain opening (Enter 0 service.Active 1 1 9002) started ≡ true
+enter_active = refl
+
+-- and not at the first
+enter_at_the_first_port : is_allowed plain opening (Enter 0 service.Active 1 1 9001) started ≡ false
+enter_at_the_first_port = refl
+
+-- with one endpoint it enters at the first
+enter_at_the_only_endpoint : is_allowed plain opening (Enter 0 service.Active 1 1 9001) (Available 1 1 ∷ []) ≡ true
+enter_at_the_only_endpoint = refl
+
+-- without one it doesn't
+enter_without_endpoints : is_allowed plain opening (Enter 0 service.Active 1 1 9002) (Available 1 0 ∷ []) ≡ false
+enter_without_endpoints = refl
+
+-- the active service reaches revision 1 while the attempt of revision 2 runs
+enter_beside_an_attempt : is_allowed plain opening (Enter 0 service.Active 1 1 9002) beside ≡ true
+enter_beside_an_attempt = refl
+
+-- and revision 2 isn't reached by it
+enter_of_the_new_revision : is_allowed plain opening (Enter 0 service.Active 1 2 9102) beside ≡ false
+enter_of_the_new_revision = refl
+
+-- it is by the preview service
+enter_preview : is_allowed with_preview opening (Enter 0 service.Preview 1 2 9101) previewed ≡ true
+enter_preview = refl
+
+-- which doesn't reach revision 1 then
+enter_preview_of_the_stable : is_allowed with_preview opening (Enter 0 service.Preview 1 1 9002) previewed ≡ false
+enter_preview_of_the_stable = refl
+
+-- nor anything where there is no such service
+enter_preview_unset : is_allowed plain opening (Enter 0 service.Preview 1 2 9102) beside ≡ false
+enter_preview_unset = refl
+
+-- of 4 seats the last one is 3
+enter_at_the_last_seat : is_allowed plain opening (Enter 3 service.Active 1 1 9002) started ≡ true
+enter_at_the_last_seat = refl
+
+-- there is no seat 4
+enter_past_the_last_seat : is_allowed plain opening (Enter 4 service.Active 1 1 9002) started ≡ false
+enter_past_the_last_seat = refl
+
+-- a seat takes a request beside that of another seat
+enter_beside_a_request : is_allowed plain opening (Enter 1 service.Active 2 1 9001) held ≡ true
+enter_beside_a_request = refl
+
+-- and none beside its own
+enter_at_a_taken_seat : is_allowed plain opening (Enter 0 service.Active 2 1 9001) held ≡ false
+enter_at_a_taken_seat = refl
+
+-- no number is given twice
+enter_number_again : is_allowed plain opening (Enter 1 service.Active 1 1 9002) held ≡ false
+enter_number_again = refl
+
+-- a seat's request leaves
+leave_held : is_allowed plain opening (Leave 0 1 1) held ≡ true
+leave_held = refl
+
+-- and not by another seat
+leave_of_another_seat : is_allowed plain opening (Leave 1 1 1) held ≡ false
+leave_of_another_seat = refl
+
+-- nor under another number
+leave_of_another_number : is_allowed plain opening (Leave 0 2 1) held ≡ false
+leave_of_another_number = refl
+
+-- nor at another revision
+leave_of_another_revision : is_allowed plain opening (Leave 0 1 2) held ≡ false
+leave_of_another_revision = refl
+
+-- nor twice
+leave_again : is_allowed plain opening (Leave 0 1 1) (Leave 0 1 1 ∷ held) ≡ false
+leave_again = refl

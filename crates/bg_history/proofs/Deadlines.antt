@@ -1,0 +1,142 @@
+-- When revisions are scaled down, and which are old.
+use Rattle.std.proofs.Common.{◌≡◌, true, false, List, [], ◌∷◌, Some, None, codes, refl}
+use Rattle.bg_history.specs.declared.entry.Entry.{Entry}
+use Rattle.bg_history.specs.declared.entry.Entry.TheVariants.{Tick, Available, Verdict, Abort, Retry, Enter, Leave, Outcome}
+use Rattle.bg_history.specs.declared.entry.Outcome.TheVariants.{Ready, Resumed, Switched, ScaledDown}
+use Rattle.bg_history.specs.declared.entry.Analysis.TheVariants.{Post}
+use Rattle.bg_history.specs.declared.entry.AnalysisResult.TheVariants.{Failed, Error}
+use Rattle.bg_revisions.specs.declared.revision.Service.TheVariants as service
+use Rattle.bg_strategy.specs.declared.strategy.Strategy.{Strategy}
+use Rattle.bg_history.proofs.Examples.{plain, with_pause, with_post, with_limit, opening, deploy_3, deploy_4, ready, switched, promoted, promoted_twice, aborted}
+use Rattle.bg_history.specs.Marks.{Cleared, kind_of}
+use Rattle.bg_history.specs.Deadlines.{deadline, is_spare, rank, is_due, is_old, old_revisions}
+use Rattle.bg_history.specs.Steps.{first_allowed, all_allowed}
+
+-- of two revisions that left the active service, one left after revision 1
+rank_of_the_first : rank with_limit 1 promoted_twice ≡ 1
+rank_of_the_first = refl
+
+-- and none after revision 2
+rank_of_the_last : rank with_limit 2 promoted_twice ≡ 0
+rank_of_the_last = refl
+
+-- a stable revision doesn't count, though it left the active service last
+rank_beside_the_stable : rank with_limit 1
+    (Outcome (Switched 3) ∷ Outcome (Resumed 3) ∷ Outcome (Ready 3) ∷ Available 3 2 ∷ deploy_3 ∷ promoted) ≡ 0
+rank_beside_the_stable = refl
+
+-- what is scaled down counts no more
+rank_of_the_only : rank with_limit 1 (Outcome (ScaledDown 2) ∷ promoted_twice) ≡ 0
+rank_of_the_only = refl
+
+-- at most one old revision stays scaled, and there is a preview service
+abbrev watched : Strategy
+watched = record with_limit { preview_service = Some (codes "preview") }
+
+-- revision 3 is superseded while a request of the preview is open at it
+abbrev in_use : List Entry
+in_use = deploy_4 ∷ Enter 0 service.Preview 1 3 9202 ∷ Available 3 2 ∷ deploy_3 ∷ promoted
+
+-- each of its entries is allowed
+in_use_is_legal : all_allowed watched opening in_use ≡ true
+in_use_is_legal = refl
+
+-- it is due at once
+in_use-deadline : deadline watched 3 in_use ≡ Some 0
+in_use-deadline = refl
+
+-- and doesn't count among those that left the active service
+in_use-rank : rank watched 1 in_use ≡ 0
+in_use-rank = refl
+
+-- so revision 1 isn't over the limit
+in_use-due : is_due watched 1 in_use ≡ false
+in_use-due = refl
+
+-- and nothing is scaled down
+in_use-first : first_allowed watched in_use ≡ None
+in_use-first = refl
+
+-- until the request has left
+in_use-left : first_allowed watched (Leave 0 1 3 ∷ in_use) ≡ Some (ScaledDown 3)
+in_use-left = refl
+
+-- nor does an aborted revision count, which has no deadline
+rank_beside_an_abort : rank with_limit 1 (Abort ∷ deploy_3 ∷ promoted) ≡ 0
+rank_beside_an_abort = refl
+
+-- nor is it due, even where no old revision may stay
+aborted_is_not_due : is_due (record plain { revision_limit = Some 0 }) 2 aborted ≡ false
+aborted_is_not_due = refl
+
+-- the active revision has no deadline
+deadline_of_the_active : deadline plain 2 promoted ≡ None
+deadline_of_the_active = refl
+
+-- one that is scaled down has none any more
+deadline_when_scaled_down : deadline plain 1 (Outcome (ScaledDown 1) ∷ Tick 30 ∷ promoted) ≡ None
+deadline_when_scaled_down = refl
+
+-- and isn't spare
+scaled_down_is_not_spare : is_spare plain 1 (Outcome (ScaledDown 1) ∷ Tick 30 ∷ promoted) ≡ false
+scaled_down_is_not_spare = refl
+
+-- while the analysis after the switch goes on, the stable revision has a deadline
+deadline_of_the_stable : deadline with_post 1 (Tick 30 ∷ switched) ≡ Some 30
+deadline_of_the_stable = refl
+
+-- but isn't due
+stable_is_not_due : is_due with_post 1 (Tick 30 ∷ switched) ≡ false
+stable_is_not_due = refl
+
+-- revision 3 is deployed in that analysis: revision 2 is still active, and isn't superseded
+deadline_of_the_deployed_over : deadline with_post 2 (deploy_3 ∷ switched) ≡ None
+deadline_of_the_deployed_over = refl
+
+-- an abort of revision 3 takes it from the active service
+deadline_after_the_abort_of_another : deadline with_post 2 (Abort ∷ deploy_3 ∷ switched) ≡ Some 30
+deadline_after_the_abort_of_another = refl
+
+-- a revision that leaves it by its own failed analysis has no deadline
+deadline_after_a_failure : deadline with_post 2 (Verdict Post Failed ∷ switched) ≡ None
+deadline_after_a_failure = refl
+
+-- nor has one whose analysis ended by an error
+deadline_after_an_error : deadline with_post 2 (Verdict Post Error ∷ switched) ≡ None
+deadline_after_an_error = refl
+
+-- an entry that changes nothing for a revision is no mark of it
+tick_is_no_mark : kind_of 1 (Tick 5) [] ≡ None
+tick_is_no_mark = refl
+
+-- a stop clears the deadline of the newest revision
+abort_clears : kind_of 2 Abort ready ≡ Some Cleared
+abort_clears = refl
+
+-- so does a retry
+retry_clears : kind_of 2 Retry aborted ≡ Some Cleared
+retry_clears = refl
+
+-- an aborted revision, if it were scaled down
+abbrev unscaled : List Entry
+unscaled = Outcome (ScaledDown 2) ∷ aborted
+
+-- isn't old while it is the newest
+newest_is_not_old : is_old with_pause unscaled 2 ≡ false
+newest_is_not_old = refl
+
+-- so no revision is old
+unscaled-old : old_revisions with_pause unscaled ≡ []
+unscaled-old = refl
+
+-- it is once another was deployed
+older_is_old : is_old with_pause (deploy_3 ∷ unscaled) 2 ≡ true
+older_is_old = refl
+
+-- an old revision is scaled no more
+scaled_is_not_old : is_old with_pause (deploy_3 ∷ aborted) 2 ≡ false
+scaled_is_not_old = refl
+
+-- nor is a selected one old
+stable_is_not_old : is_old plain (Outcome (ScaledDown 2) ∷ deploy_3 ∷ promoted) 2 ≡ false
+stable_is_not_old = refl

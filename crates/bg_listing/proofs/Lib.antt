@@ -1,0 +1,5 @@
+mod Members
+mod Templates
+mod Mapped
+mod Changed
+mod Found

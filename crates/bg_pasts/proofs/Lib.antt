@@ -1,0 +1,12 @@
+mod Tests
+mod Existing
+mod Allowing
+mod Sizes
+mod Numbers
+mod Unmarked
+mod Steady
+mod Staying
+mod Selected
+mod Marked
+mod Requests
+mod Reaching

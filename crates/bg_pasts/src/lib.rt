@@ -1,0 +1,4 @@
+//! What holds of every past that calls can reach.
+#![tactic(auto)]
+
+pub mod laws;

@@ -1,0 +1,18 @@
+-- A table that takes in an entry becomes the table of the longer past.
+use Rattle.std.proofs.Common.{◌≡◌, ℕ, List, ◌∷◌, refl}
+use Rattle.bg_revisions.specs.declared.revision.Selectors.{Selectors}
+use Rattle.bg_history.specs.declared.entry.Entry.{Entry}
+use Rattle.bg_history.specs.Turns.{moment}
+use Rattle.bg_history.specs.Selections.{selectors_of}
+use Rattle.bg_strategy.specs.declared.strategy.Strategy.{Strategy}
+use Rattle.bg_scaledown.specs.declared.mark.RevisionMark.{RevisionMark}
+use Rattle.bg_scaledown.specs.Tables.{Table}
+use Rattle.bg_scaledown.specs.Past.{stamps_of, marks_of, table_of}
+
+-- where `change` is what the entry does to the marks
+pub table-changed : (s : Strategy) (past : List Entry) (e : Entry) (change : Selectors → ℕ → List RevisionMark → List RevisionMark) (t u : Table) (x : Selectors) (now : ℕ)
+    → t ≡ table_of s past → x ≡ selectors_of past → now ≡ moment past
+    → u ≡ record { delay = t.delay; limit = t.limit; marks = change x now t.marks }
+    → marks_of (stamps_of (e ∷ past)) ≡ change (selectors_of past) (moment past) (marks_of (stamps_of past))
+    → u ≡ table_of s (e ∷ past)
+table-changed s past e change t u x now kept selected at made marks = rw (made, kept, selected, at, marks) refl

@@ -1,0 +1,5 @@
+use Rattle.bg_scaledown.proofs.Room.{room-dropped}
+use Rattle.bg_scaledown.proofs.deadlines.Deadlines.record_switch.Goals as goal
+
+pub left_active-requires-clause-room : goal.left_active-requires-clause-room
+left_active-requires-clause-room c = rw c.clear.ensures (room-dropped c.args.selectors.active c.args.revision c.args.self.now.marks c.requires.room)

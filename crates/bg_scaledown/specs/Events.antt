@@ -1,0 +1,73 @@
+-- What an entry of the history does to the marks, by what was selected before it.
+use Rattle.std.specs.Prelude.{ℕ, Bool, false, not, if◌then◌else◌, ◌==◌, ◌&&◌, ◌||◌, List, ◌∷◌}
+use Rattle.bg_history.specs.declared.entry.Entry.{Entry}
+use Rattle.bg_history.specs.declared.entry.Entry.TheVariants.{Deploy}
+use Rattle.bg_revisions.specs.declared.revision.Selectors.{Selectors}
+use Rattle.bg_scaledown.specs.declared.mark.RevisionMark.{RevisionMark}
+use Rattle.bg_scaledown.specs.declared.mark.Cause.TheVariants.{Left, Superseded}
+use Rattle.bg_scaledown.specs.Due.{marks_without}
+
+-- the marks where r left the active service
+abbrev pub with_left : ℕ → ℕ → List RevisionMark → List RevisionMark
+with_left r at marks =
+    record {
+      revision = r;
+      cause = Left;
+      moment = at;
+    } ∷ marks_without r marks
+
+-- the marks where r was superseded
+abbrev pub with_superseded : ℕ → ℕ → List RevisionMark → List RevisionMark
+with_superseded r at marks =
+    record {
+      revision = r;
+      cause = Superseded;
+      moment = at;
+    } ∷ marks_without r marks
+
+-- a deploy of r begins an attempt of it, or goes back to it
+abbrev pub takes_up : ℕ → Selectors → Bool
+takes_up r x = not (r == x.stable) || not (x.active == r)
+
+-- a deploy takes the place of the newest revision, which was neither active nor stable
+abbrev pub replaces_newest : Selectors → Bool
+replaces_newest x = not (x.newest == x.active) && not (x.newest == x.stable)
+
+-- a deploy of r goes back to the stable revision from another one
+abbrev pub goes_back : ℕ → Selectors → Bool
+goes_back r x = (r == x.stable) && not (x.active == r)
+
+-- the marks once a deploy of r has cleared it
+abbrev pub cleared : ℕ → Selectors → List RevisionMark → List RevisionMark
+cleared r x marks = if takes_up r x then marks_without r marks else marks
+
+-- and once it has superseded the newest revision
+abbrev pub replaced : ℕ → Selectors → ℕ → List RevisionMark → List RevisionMark
+replaced r x at marks =
+    if replaces_newest x then with_superseded x.newest at (cleared r x marks)
+    else cleared r x marks
+
+-- the marks after a deploy of r
+abbrev pub deployed : ℕ → Selectors → ℕ → List RevisionMark → List RevisionMark
+deployed r x at marks =
+    if goes_back r x then with_left x.active at (replaced r x at marks)
+    else replaced r x at marks
+
+-- the marks after an entry that stops the attempt
+abbrev pub halted : Selectors → ℕ → List RevisionMark → List RevisionMark
+halted x at marks =
+    if x.active == x.stable then marks_without x.newest marks
+    else if x.active == x.newest then marks_without x.stable (marks_without x.newest marks)
+    else with_left x.active at (marks_without x.stable (marks_without x.newest marks))
+
+-- the marks after the active service was switched to r
+abbrev pub switched : ℕ → Selectors → ℕ → List RevisionMark → List RevisionMark
+switched r x at marks =
+    if x.active == r then marks
+    else with_left x.active at (marks_without r marks)
+
+-- the entry marks two revisions: a deploy that goes back to the stable revision from another one,
+-- and takes the place of a third
+abbrev pub marks_two : Entry → Selectors → Bool
+marks_two (Deploy r name ports) x = replaces_newest x && goes_back r x
+marks_two _ x = false

@@ -1,0 +1,100 @@
+//! What the entries of a history do to the deadlines.
+ghost use Rattle.std.specs.Prelude.{◌≡◌, ◌≤◌, ◌<◌, ◌^◌, ◌&&◌, List, ◌∷◌, length, IsTrue};
+ghost use Rattle.bg_strategy.specs.declared.strategy.Strategy.{Strategy};
+ghost use Rattle.bg_history.specs.declared.entry.Entry.{Entry};
+ghost use Rattle.bg_history.specs.Selections.{selectors_of};
+ghost use Rattle.bg_history.specs.Turns.{moment};
+ghost use Rattle.bg_scaledown.specs.Events.{deployed, halted, switched, marks_two};
+ghost use Rattle.bg_scaledown.specs.Events.{replaces_newest, goes_back};
+ghost use Rattle.bg_scaledown.specs.Past.{table_of};
+
+use super::Deadlines;
+use bg_history::{AnalysisResult, Entry, Outcome};
+use bg_revisions::Selectors;
+
+impl Deadlines {
+    /// Takes in an entry of the history, `selectors` being what was selected before it and `now`
+    /// the moment, in seconds: after each entry of a history the marks are those that it makes
+    /// (Argo Rollouts, "BlueGreen Deployment Strategy": `scaleDownDelaySeconds`).
+    ///
+    /// An entry marks one revision at most, but for a deploy that goes back to the stable revision
+    /// from another one and supersedes a third: it marks two.
+    pub fn record(&mut self, entry: &Entry, selectors: Selectors, now: u64)
+        requires room { length self.old.marks < 64 }
+        requires room_for_two { IsTrue (marks_two entry.now selectors)
+            → length self.old.marks < 63 }
+        requires moment { now ≤ 2 ^ 53 }
+        ensures { (s : Strategy) (past : List Entry) → self.old ≡ table_of s past
+            → selectors ≡ selectors_of past → now ≡ moment past
+            → self.new ≡ table_of s (entry.now ∷ past) }
+    {
+        match entry {
+            Entry::Deploy { revision, .. } => self.record_deploy(*revision, selectors, now),
+            Entry::Abort => self.record_halt(selectors, now),
+            Entry::Verdict { result, .. } => match result {
+                AnalysisResult::Successful => {}
+                AnalysisResult::Failed | AnalysisResult::Error => {
+                    self.record_halt(selectors, now);
+                }
+            },
+            Entry::Retry => self.clear(selectors.newest),
+            Entry::Outcome(Outcome::Switched(revision)) => {
+                self.record_switch(*revision, selectors, now);
+            }
+            Entry::Outcome(Outcome::ScaledDown(revision)) => self.clear(*revision),
+            _ => {}
+        }
+    }
+
+    /// A revision was deployed: it has no deadline. A newest one that was neither active nor stable
+    /// is superseded, and the active one left where the deploy goes back to the stable revision.
+    fn record_deploy(&mut self, revision: u64, selectors: Selectors, now: u64)
+        requires room { length self.old.marks < 64 }
+        requires room_for_two { IsTrue (replaces_newest selectors && goes_back revision selectors)
+            → length self.old.marks < 63 }
+        requires moment { now ≤ 2 ^ 53 }
+        ensures { self.new ≡ record self.old {
+          marks = deployed revision selectors now self.old.marks;
+        } }
+    {
+        if revision != selectors.stable || selectors.active != revision {
+            self.clear(revision);
+        }
+        if selectors.newest != selectors.active && selectors.newest != selectors.stable {
+            self.superseded(selectors.newest, now);
+        }
+        if revision == selectors.stable && selectors.active != revision {
+            self.left_active(selectors.active, now);
+        }
+    }
+
+    /// The attempt was stopped: its revision has no deadline, nor has the stable one where it is
+    /// active again. An older active one left.
+    fn record_halt(&mut self, selectors: Selectors, now: u64)
+        requires room { length self.old.marks < 64 }
+        requires moment { now ≤ 2 ^ 53 }
+        ensures { self.new ≡ record self.old { marks = halted selectors now self.old.marks } }
+    {
+        self.clear(selectors.newest);
+        if selectors.active != selectors.stable {
+            self.clear(selectors.stable);
+            if selectors.active != selectors.newest {
+                self.left_active(selectors.active, now);
+            }
+        }
+    }
+
+    /// The active service was switched to the revision, which has no deadline. The one before left.
+    fn record_switch(&mut self, revision: u64, selectors: Selectors, now: u64)
+        requires room { length self.old.marks < 64 }
+        requires moment { now ≤ 2 ^ 53 }
+        ensures { self.new ≡ record self.old {
+          marks = switched revision selectors now self.old.marks;
+        } }
+    {
+        if selectors.active != revision {
+            self.clear(revision);
+            self.left_active(selectors.active, now);
+        }
+    }
+}

@@ -1,0 +1,8 @@
+mod Counts
+mod Finding
+mod Work
+mod Removing
+mod Settled
+mod Lowering
+mod Entering
+mod Leaving
