@@ -1,0 +1,55 @@
+-- Which fields are kept.
+use Rattle.std.proofs.Common.{◌≡◌, ℕ, Bool, true, false, cond, ◌&&◌, List, [], ◌∷◌, refl, ap, sym, ◌∙◌}
+use Rattle.std.specs.Prelude.{filter, not, codes}
+use Rattle.std.specs.List.{list_any}
+use Rattle.std.specs.Str.{bytes_eq, str_eq_ignore_ascii_case, str_to_ascii_lowercase}
+use Rattle.std.proofs.lemmas.Bool.{or_left, or_right}
+use Rattle.std.proofs.lemmas.Slice.Eq.{bytes_eq-Decides}
+use Rattle.bg_http.specs.Elements.{Field, is_named, elements_named}
+use Rattle.bg_http.specs.RequestRules.{expects_continue}
+use Rattle.bg_http.specs.Removed.{is_of_connection, is_named_by_connection, is_removed, is_removed_from_request}
+use Rattle.bg_http.specs.Laws.{StaysHere}
+
+-- no field is kept that passes a test, where each such field is removed
+none_kept : (test removed : Field → Bool) (fields : List Field) → ((f : Field) → test f ≡ true → removed f ≡ true)
+    → list_any test (filter (λ f. not (removed f)) fields) ≡ false
+none_kept test removed [] h = refl
+none_kept test removed (f ∷ fields) h = by_test (removed f) refl (test f) refl (none_kept test removed fields h)
+  where
+    by_test : (r : Bool) → removed f ≡ r → (t : Bool) → test f ≡ t → list_any test (filter (λ f. not (removed f)) fields) ≡ false
+        → list_any test (cond (not r) (f ∷ filter (λ f. not (removed f)) fields) (filter (λ f. not (removed f)) fields)) ≡ false
+    by_test true e t u later = later
+    by_test false e true u later = let both : true ≡ false = sym (h f u) ∙ e in cc
+    by_test false e false u later = rw u later
+
+-- of a name nothing goes on, where each field of the name is removed
+pub stays : (fields : List Field) (name : List ℕ) → ((f : Field) → is_named name f ≡ true → is_removed fields f ≡ true) → StaysHere fields name
+stays fields name h = (
+  none_kept (is_named name) (is_removed_from_request fields) fields (λ f e. or_left (is_removed fields f) (expects_continue f) (h f e)),
+  none_kept (is_named name) (is_removed fields) fields h,
+)
+
+-- a field of one connection stays
+pub stays_of_connection : (fields : List Field) (name : List ℕ) → ((f : Field) → is_named name f ≡ true → is_of_connection f ≡ true) → StaysHere fields name
+stays_of_connection fields name h = stays fields name (λ f e. or_left (is_of_connection f) _ (h f e))
+
+-- names that are one but for the case of their letters are one in lower case
+one_name : (a b : List ℕ) → str_eq_ignore_ascii_case a b ≡ true → str_to_ascii_lowercase a ≡ str_to_ascii_lowercase b
+one_name a b e = (bytes_eq-Decides (str_to_ascii_lowercase a) (str_to_ascii_lowercase b)).0 e
+
+-- a field that Connection names is removed, unless it is Host
+pub removed_where_named : (fields : List Field) (name : List ℕ) (f : Field) → is_named_by_connection fields name ≡ true → str_eq_ignore_ascii_case name (codes "host") ≡ false
+    → is_named name f ≡ true → is_removed fields f ≡ true
+removed_where_named fields name f named other e =
+    let low = one_name f.0 name e in
+    let same : is_named_by_connection fields f.0 ≡ is_named_by_connection fields name =
+    ap (λ l. list_any (λ x. bytes_eq (str_to_ascii_lowercase x) l) (elements_named (codes "connection") fields)) low in
+    let host : is_named (codes "host") f ≡ str_eq_ignore_ascii_case name (codes "host") =
+    ap (λ l. bytes_eq l (str_to_ascii_lowercase (codes "host"))) low in
+    or_right (is_of_connection f) (not (is_named (codes "host") f) && is_named_by_connection fields f.0)
+    (both (is_named (codes "host") f) (is_named_by_connection fields f.0) (host ∙ other) (same ∙ named))
+  where
+    both : (a b : Bool) → a ≡ false → b ≡ true → (not a && b) ≡ true
+    both false true h k = refl
+    both false false h k = k
+    both true b h k = cc

@@ -1,0 +1,7 @@
+pub mod Appended
+pub mod Digits
+pub mod GivenLengths
+pub mod KeptFields
+pub mod NamedCodings
+pub mod Splits
+mod WorkedMessages

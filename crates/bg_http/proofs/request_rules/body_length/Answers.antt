@@ -1,0 +1,8 @@
+use Rattle.std.specs.Prelude.{codes}
+use Rattle.bg_http.specs.Elements.{elements_named}
+use Rattle.bg_http.proofs.GivenLengths.{length_has_digits}
+use Rattle.bg_http.proofs.request_rules.body_length.Goals as goal
+
+pub value_within-requires-clause-digits : goal.value_within-requires-clause-digits
+value_within-requires-clause-digits c =
+    length_has_digits (elements_named (codes "content-length") c.get.result.now) c.in-Is.digits.now c.in-Is.ensures

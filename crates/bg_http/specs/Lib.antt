@@ -1,0 +1,10 @@
+pub mod Codings
+pub mod Elements
+pub mod Held
+pub mod Laws
+pub mod Lengths
+pub mod Removed
+pub mod RequestRules
+pub mod ResponseRules
+pub mod Statuses
+pub mod Texts

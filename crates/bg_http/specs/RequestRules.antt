@@ -1,0 +1,115 @@
+-- The rules that a request's head has to pass, and where its body ends.
+use Rattle.std.specs.Prelude.{ℕ, Bool, true, false, not, if◌then◌else◌, ◌==◌, ◌&&◌, ◌||◌, nat_lt, List, [], ◌∷◌, length, count_by, codes, Option, Some, None, Result, Ok, Err}
+use Rattle.std.specs.Str.{bytes_eq, str_eq_ignore_ascii_case}
+use Rattle.std.specs.List.{list_any}
+use Rattle.std.specs.Result.{result_err}
+use Rattle.bg_http.specs.Elements.{Field, is_named, has_field}
+use Rattle.bg_http.specs.Lengths.{Length, absent, is, wrong, content_length, number_within}
+use Rattle.bg_http.specs.Codings.{codings, ends_in_chunked}
+use Rattle.bg_http.specs.declared.request.RequestHead.{RequestHead}
+use Rattle.bg_http.specs.declared.request_rules.Framing.{Framing}
+use Rattle.bg_http.specs.declared.request_rules.Framing.TheVariants as framing
+use Rattle.bg_http.specs.declared.request_fault.RequestFault.{RequestFault}
+use Rattle.bg_http.specs.declared.request_fault.RequestFault.TheVariants as fault
+
+-- a question about a head: nothing, or the fault where the rule is broken
+abbrev pub Rule : Type 0
+Rule = RequestHead → Option RequestFault
+
+-- `CONNECT` isn't done (RFC 9110 section 9.3.6)
+abbrev pub connect_fault : Rule
+connect_fault head =
+    if bytes_eq head.method (codes "CONNECT") then Some fault.NotDone else None
+
+-- there is at most one Host, and in version 1.1 there is one (RFC 9112 section 3.2)
+abbrev pub host_fault : Rule
+host_fault head =
+    let hosts = count_by (is_named (codes "host")) head.fields in
+    if nat_lt 1 hosts || (hosts == 0 && not (head.minor == 0)) then Some fault.Bad else None
+
+-- Transfer-Encoding stands never beside Content-Length, and never in version 1.0 (stricter than
+-- RFC 9112 section 6.1, which lets the first be mended)
+abbrev pub framing_fault : Rule
+framing_fault head =
+    if has_field (codes "transfer-encoding") head.fields
+    && (has_field (codes "content-length") head.fields || (head.minor == 0))
+    then Some fault.Bad else None
+
+-- where there is Transfer-Encoding, its last coding is `chunked` (RFC 9112 section 6.3), and there
+-- is no other before it
+abbrev pub coding_fault : Rule
+coding_fault head =
+    if not (has_field (codes "transfer-encoding") head.fields) then None
+    else (if not (ends_in_chunked (codings head.fields)) then Some fault.Bad
+    else (if nat_lt 1 (length (codings head.fields)) then Some fault.NotDone else None))
+
+-- a number, or that there is none because it is too large
+abbrev pub or_too_large : Option ℕ → Result (Option ℕ) RequestFault
+or_too_large None = Err fault.TooLarge
+or_too_large (Some size) = Ok (Some size)
+
+-- the length that is given, if there is one, where it is a length and at most `most`
+abbrev pub length_within : ℕ → Length → Result (Option ℕ) RequestFault
+length_within most absent = Ok None
+length_within most (is digits) = or_too_large (number_within most digits)
+length_within most wrong = Err fault.Bad
+
+-- the length that Content-Length gives: at most 1,048,576 (RFC 9110 section 8.6)
+abbrev pub body_length : RequestHead → Result (Option ℕ) RequestFault
+body_length head = length_within 1048576 (content_length head.fields)
+
+-- Content-Length gives one length, where it is there, and none that is too large
+abbrev pub length_fault : Rule
+length_fault head = result_err (body_length head)
+
+-- the rules in their order
+abbrev pub request_rules : List Rule
+request_rules =
+    connect_fault ∷ host_fault ∷ framing_fault ∷ coding_fault ∷ length_fault ∷ []
+
+abbrev pub or_later : Option RequestFault → Option RequestFault → Option RequestFault
+or_later None later = later
+or_later (Some fault) later = Some fault
+
+-- the fault of the first rule that the head breaks
+abbrev pub first_broken : List Rule → RequestHead → Option RequestFault
+first_broken [] head = None
+first_broken (rule ∷ rules) head = or_later (rule head) (first_broken rules head)
+
+-- a body of the length that is given; none where there is none
+abbrev pub framing_by_length : Result (Option ℕ) RequestFault → Framing
+framing_by_length (Ok None) = framing.NoBody
+framing_by_length (Ok (Some size)) = framing.Length size
+framing_by_length (Err fault) = framing.NoBody
+
+-- where the body of a head that breaks no rule ends (RFC 9112 section 6.3)
+abbrev pub framing_of : RequestHead → Framing
+framing_of head =
+    if has_field (codes "transfer-encoding") head.fields then framing.Chunks
+    else framing_by_length (body_length head)
+
+abbrev pub unless_broken : Option RequestFault → Framing → Result Framing RequestFault
+unless_broken None framing = Ok framing
+unless_broken (Some fault) framing = Err fault
+
+-- what a request's head is judged to be: the first fault, or where the body ends
+abbrev pub request_framing : RequestHead → Result Framing RequestFault
+request_framing head = unless_broken (first_broken request_rules head) (framing_of head)
+
+-- the field is an Expect that is `100-continue`, in any case of its letters
+abbrev pub expects_continue : Field → Bool
+expects_continue field =
+    is_named (codes "expect") field
+    && str_eq_ignore_ascii_case field.1 (codes "100-continue")
+
+-- there is a body, and it isn't empty
+abbrev pub has_body : Framing → Bool
+has_body framing.NoBody = false
+has_body framing.Chunks = true
+has_body (framing.Length size) = nat_lt 0 size
+
+-- `100 Continue` is to be written before the body is read (RFC 9110 section 10.1.1): in version
+-- 1.1, where it is expected and a body is to come
+abbrev pub owes_continue : RequestHead → Framing → Bool
+owes_continue head framing =
+    not (head.minor == 0) && has_body framing && list_any expects_continue head.fields

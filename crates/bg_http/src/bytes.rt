@@ -1,0 +1,36 @@
+//! A part of a message.
+ghost use Rattle.std.specs.Prelude.{◌≡◌, IfOk};
+
+use std::alloc::{AllocError, Global};
+use std::marker::Model;
+
+/// A part of a message, as a name, a value or a body, which contracts see as the list of its bytes.
+#[derive(Drop, Debug)]
+pub struct Bytes {
+    bytes: Vec<u8>,
+}
+
+impl Model for Bytes {
+    ghost use Rattle.std.specs.Prelude.{List, ℕ};
+
+    ghost Value = { List ℕ };
+
+    ghost view = { λ b. b.bytes.items };
+}
+
+impl Bytes {
+    /// Copies `bytes`; refused only where memory is.
+    pub fn new(alloc: Global, bytes: &[u8]) -> Result<Bytes, AllocError>
+        ensures { IfOk result (λ b. b ≡ bytes.now) }
+    {
+        let copy = bytes.to_vec(alloc)?;
+        Ok(Bytes { bytes: copy })
+    }
+
+    /// The bytes.
+    pub fn get(&self) -> &[u8]
+        ensures { result.now ≡ self.now }
+    {
+        self.bytes.as_slice()
+    }
+}

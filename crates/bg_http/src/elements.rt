@@ -1,0 +1,126 @@
+//! The elements of fields: the parts of their values between commas (RFC 9110 section 5.6.1).
+ghost use Rattle.std.specs.Prelude.{◌≡◌, IfNone, [], position};
+ghost use Rattle.std.specs.Str.{str_eq_ignore_ascii_case};
+ghost use Rattle.bg_http.specs.Elements.{elements_named as elements_of, has_field as has_named, is_blank as is_blank_byte, is_comma, without_blanks, trimmed};
+ghost use Rattle.bg_http.specs.Held.{FirstElement, elements_left};
+
+use crate::bytes::Bytes;
+
+/// Whether both are one name (RFC 9110 section 5.1: names are compared without case).
+pub(crate) fn is_same_name(one: &[u8], other: &[u8]) -> bool
+    ensures { result ≡ str_eq_ignore_ascii_case one.now other.now }
+{
+    one.eq_ignore_ascii_case(other)
+}
+
+/// Whether a field has the name.
+pub(crate) fn has_field(fields: &[(Bytes, Bytes)], name: &[u8]) -> bool
+    ensures { result ≡ has_named name.now fields.now }
+{
+    fields.iter().any(|field| is_same_name(field.0.get(), name))
+}
+
+/// Whether the byte is a space or a tab (RFC 9110 section 5.6.3).
+fn is_blank(byte: u8) -> bool
+    ensures { result ≡ is_blank_byte byte }
+{
+    byte == b' ' || byte == b'\t'
+}
+
+/// The text without the blanks at its front.
+fn trim_start(mut text: &[u8]) -> &[u8]
+    ensures { result.now ≡ without_blanks text.now }
+{
+    while let [first, rest @ ..] = text
+        && is_blank(*first)
+    {
+        text = rest;
+    }
+    text
+}
+
+/// The text without the blanks at both ends.
+fn trim(text: &[u8]) -> &[u8]
+    ensures { result.now ≡ trimmed text.now }
+{
+    let mut text = trim_start(text);
+    while let [rest @ .., last] = text
+        && is_blank(*last)
+    {
+        text = rest;
+    }
+    text
+}
+
+/// Where the first comma stands.
+fn first_comma(value: &[u8]) -> Option<usize>
+    ensures { result ≡ position is_comma value.now }
+{
+    value.iter().position(|byte| *byte == b',')
+}
+
+/// The first element of a value, and what follows the comma after it, if there is one.
+fn first_element(value: &[u8]) -> (&[u8], Option<&[u8]>)
+    ensures { FirstElement value.now result }
+{
+    match first_comma(value) {
+        Some(place) => (trim(&value[..place]), Some(&value[place + 1..])),
+        None => (trim(value), None),
+    }
+}
+
+/// The elements of all fields that have a name, in order.
+#[derive(Clone, Copy)]
+pub(crate) struct Elements<'a> {
+    /// What is left of the value of a field that was begun.
+    value: Option<&'a [u8]>,
+    /// The fields that are left.
+    fields: &'a [(Bytes, Bytes)],
+    name: &'a [u8],
+}
+
+/// The elements of all fields that have the name, in order.
+pub(crate) fn elements_named<'a>(fields: &'a [(Bytes, Bytes)], name: &'a [u8]) -> Elements<'a>
+    ensures { elements_left result ≡ elements_of name.now fields.now }
+{
+    Elements {
+        value: None,
+        fields,
+        name,
+    }
+}
+
+impl Elements<'_> {
+    /// Goes to the next field of the name, where no value is begun.
+    fn begin_value(&mut self)
+        ensures left { elements_left self.new ≡ elements_left self.old }
+        ensures end { IfNone self.new.value (elements_left self.new ≡ []) }
+    {
+        while self.value.is_none()
+            && let [field, rest @ ..] = self.fields
+        {
+            self.fields = rest;
+            if is_same_name(field.0.get(), self.name) {
+                self.value = Some(field.1.get());
+            }
+        }
+    }
+}
+
+impl<'a> Iterator for Elements<'a> {
+    ghost use Rattle.std.specs.Iterator.{YieldsFirstBy, item_count};
+    ghost use Rattle.bg_http.specs.Held.{elements_left};
+
+    type Item = &'a [u8];
+
+    ghost next_gives = { YieldsFirstBy (λ element. element.now) elements_left };
+
+    ghost remaining = { item_count elements_left };
+
+    fn next(&mut self) -> Option<&'a [u8]> {
+        self.begin_value();
+        let (element, rest) = first_element(self.value?);
+        self.value = rest;
+        Some(element)
+    }
+}

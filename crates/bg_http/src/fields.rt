@@ -1,0 +1,68 @@
+//! The fields of a head.
+ghost use Rattle.std.specs.Prelude.{◌≡◌, ◌++◌, ◌∷◌, [], length, slice_get, option_copied, OnOk, OnErr};
+
+use crate::bytes::Bytes;
+use std::alloc::{AllocError, Global};
+use std::marker::Model;
+
+/// The fields of a head in the order in which they came, each a name and a value. Contracts see
+/// them as a list of pairs.
+#[derive(Drop, Debug)]
+pub struct Fields {
+    alloc: Global,
+    list: Vec<(Bytes, Bytes)>,
+}
+
+impl Model for Fields {
+    ghost use Rattle.std.specs.Prelude.{List, ℕ};
+
+    ghost Value = { List (List ℕ × List ℕ) };
+
+    ghost view = { λ f. f.list.items };
+}
+
+impl Fields {
+    /// No field.
+    pub fn new(alloc: Global) -> Fields
+        ensures { result ≡ [] }
+    {
+        Fields {
+            alloc,
+            list: Vec::new(alloc),
+        }
+    }
+
+    /// Adds a copy of `name` and `value` at the end. It is refused only where memory is, and then
+    /// nothing changes. The bytes aren't looked at: those of a head that was read have no end of
+    /// line.
+    pub fn add(&mut self, name: &[u8], value: &[u8]) -> Result<(), AllocError>
+        ensures ok { OnOk result (self.new ≡ self.old ++ (name.now, value.now) ∷ []) }
+        ensures err { OnErr result (self.new ≡ self.old) }
+    {
+        let name = Bytes::new(self.alloc, name)?;
+        let value = Bytes::new(self.alloc, value)?;
+        self.list.push((name, value))?;
+        Ok(())
+    }
+
+    /// How many fields there are.
+    pub fn len(&self) -> usize
+        ensures { result ≡ length self.now }
+    {
+        self.list.len()
+    }
+
+    /// The name and the value of the field at `place`, counted from 0.
+    pub fn at(&self, place: usize) -> Option<&(Bytes, Bytes)>
+        ensures { option_copied result ≡ slice_get self.now place }
+    {
+        self.list.get(place)
+    }
+
+    /// All fields, each a name and a value.
+    pub fn get(&self) -> &[(Bytes, Bytes)]
+        ensures { result.now ≡ self.now }
+    {
+        self.list.as_slice()
+    }
+}

@@ -1,0 +1,87 @@
+//! The length that Content-Length fields give.
+ghost use Rattle.std.specs.Prelude.{◌≡◌, ◌≤◌, ◌^◌, ◌&&◌, IsTrue};
+ghost use Rattle.std.specs.Char.{is_ascii_digit};
+ghost use Rattle.std.specs.List.{list_all};
+ghost use Rattle.bg_http.specs.Held.{elements_left, length_held};
+ghost use Rattle.bg_http.specs.Lengths.{content_length as length_in, is_number as is_number_in, is_number_with as is_number_of, number_within, without_zeros as digits_of};
+
+use crate::bytes::Bytes;
+use crate::elements::{Elements, elements_named};
+
+/// What all Content-Length fields say together. The digits are without leading zeros, so none for
+/// 0.
+#[derive(Clone, Copy)]
+pub(crate) enum OneLength<'a> {
+    Absent,
+    Is(&'a [u8]),
+    Wrong,
+}
+
+fn has_only_digits(text: &[u8]) -> bool
+    ensures { result ≡ list_all is_ascii_digit text.now }
+{
+    text.iter().all(|byte| byte.is_ascii_digit())
+}
+
+fn is_number(text: &[u8]) -> bool
+    ensures { result ≡ is_number_in text.now }
+{
+    !text.is_empty() && has_only_digits(text)
+}
+
+fn without_zeros(mut digits: &[u8]) -> &[u8]
+    ensures { result.now ≡ digits_of digits.now }
+{
+    while let [b'0', rest @ ..] = digits {
+        digits = rest;
+    }
+    digits
+}
+
+/// Whether the element is a number with these digits.
+fn is_number_with(digits: &[u8], element: &[u8]) -> bool
+    ensures { result ≡ is_number_of digits.now element.now }
+{
+    is_number(element) && without_zeros(element) == digits
+}
+
+/// Whether each element is a number with these digits.
+fn are_numbers_with(mut elements: Elements<'_>, digits: &[u8]) -> bool
+    ensures { result ≡ list_all (is_number_of digits.now) (elements_left elements.entry) }
+{
+    elements.all(|element| is_number_with(digits, element))
+}
+
+/// The one length that all elements of the Content-Length fields give. Texts of digits are
+/// compared, so no number is too large (RFC 9110 section 8.6, RFC 9112 section 6.3).
+pub(crate) fn content_length(fields: &[(Bytes, Bytes)]) -> OneLength<'_>
+    ensures { length_held result ≡ length_in fields.now }
+{
+    let elements = elements_named(fields, b"content-length");
+    let mut others = elements;
+    let Some(first) = others.next() else {
+        return OneLength::Absent;
+    };
+    let digits = without_zeros(first);
+    if are_numbers_with(elements, digits) {
+        OneLength::Is(digits)
+    } else {
+        OneLength::Wrong
+    }
+}
+
+/// The number that the digits write, where it is at most `most`.
+pub(crate) fn value_within(digits: &[u8], most: usize) -> Option<usize>
+    requires digits { IsTrue (list_all is_ascii_digit digits.now) }
+    requires most { most ≤ 2 ^ 32 }
+    ensures { result ≡ number_within most digits.now }
+{
+    let mut number = 0usize;
+    for digit in digits {
+        number = number * 10 + usize::from(*digit - b'0');
+        if number > most {
+            return None;
+        }
+    }
+    Some(number)
+}

@@ -1,0 +1,180 @@
+//! The rules that a request's head has to pass, and where its body ends.
+ghost use Rattle.std.specs.Prelude.{◌≡◌, ◌&&◌, count_by};
+ghost use Rattle.std.specs.List.{list_any};
+ghost use Rattle.bg_http.specs.Elements.{is_named};
+ghost use Rattle.bg_http.specs.RequestRules as spec;
+
+use crate::bytes::Bytes;
+use crate::codings::named_codings;
+use crate::elements::{has_field, is_same_name};
+use crate::lengths::{OneLength, content_length, value_within};
+use crate::request::RequestHead;
+use crate::request_fault::RequestFault;
+
+/// Where the body of a message ends (RFC 9112 section 6.3).
+#[derive(Clone, Copy, PartialEq, Eq, Debug, Drop)]
+pub enum Framing {
+    /// There is no body: no length was given.
+    NoBody,
+    /// The body is chunks.
+    Chunks,
+    /// The body has so many bytes.
+    Length(usize),
+}
+
+/// The most bytes that a request's body may have.
+const MOST_BODY: usize = 1_048_576;
+
+/// Judges the head of a request: where its body ends, or the fault of the first rule that it
+/// breaks, in this order.
+///
+/// - NotDone: the method is `CONNECT` (RFC 9110 section 9.3.6).
+/// - Bad: there is more than one Host, or none in version 1.1 (RFC 9112 section 3.2).
+/// - Bad: Transfer-Encoding stands beside Content-Length, or in version 1.0 (RFC 9112 section 6.1).
+/// - Bad: the last coding isn't `chunked` (RFC 9112 section 6.3); then NotDone: there is another
+///   one.
+/// - Bad: the elements of Content-Length aren't all digits, or differ once leading zeros are
+///   dropped (RFC 9110 section 8.6); then TooLarge: the length is above 1,048,576.
+pub fn judge_request(head: &RequestHead) -> Result<Framing, RequestFault>
+    ensures { result ≡ spec.request_framing head.now }
+{
+    match first_broken(head) {
+        Some(fault) => Err(fault),
+        None => Ok(framing_of(head)),
+    }
+}
+
+/// Whether `100 Continue` is to be written before the body is read (RFC 9110 section 10.1.1): in
+/// version 1.1, where an Expect field is `100-continue` and a body is to come. `framing` is what
+/// `judge_request` gave for the head.
+pub fn owes_continue(head: &RequestHead, framing: Framing) -> bool
+    ensures { result ≡ spec.owes_continue head.now framing }
+{
+    head.minor != 0 && has_body(framing) && has_expectation(head.fields.get())
+}
+
+/// Whether there is an Expect that is `100-continue`.
+fn has_expectation(fields: &[(Bytes, Bytes)]) -> bool
+    ensures { result ≡ list_any spec.expects_continue fields.now }
+{
+    fields.iter().any(|field| expects_continue(field))
+}
+
+/// Whether the field is an Expect that is `100-continue`.
+pub(crate) fn expects_continue(field: &(Bytes, Bytes)) -> bool
+    ensures { result ≡ spec.expects_continue field.now }
+{
+    is_same_name(field.0.get(), b"expect") && is_same_name(field.1.get(), b"100-continue")
+}
+
+fn has_body(framing: Framing) -> bool
+    ensures { result ≡ spec.has_body framing }
+{
+    match framing {
+        Framing::NoBody => false,
+        Framing::Chunks => true,
+        Framing::Length(size) => size > 0,
+    }
+}
+
+/// Where the body of a head ends that breaks no rule.
+fn framing_of(head: &RequestHead) -> Framing
+    ensures { result ≡ spec.framing_of head.now }
+{
+    if has_field(head.fields.get(), b"transfer-encoding") {
+        return Framing::Chunks;
+    }
+    match body_length(head) {
+        Ok(Some(size)) => Framing::Length(size),
+        Ok(None) | Err(_) => Framing::NoBody,
+    }
+}
+
+/// The fault of the first rule that the head breaks.
+fn first_broken(head: &RequestHead) -> Option<RequestFault>
+    ensures { result ≡ spec.first_broken spec.request_rules head.now }
+{
+    connect_fault(head)
+        .or_else(|| host_fault(head))
+        .or_else(|| framing_fault(head))
+        .or_else(|| coding_fault(head))
+        .or_else(|| length_fault(head))
+}
+
+fn connect_fault(head: &RequestHead) -> Option<RequestFault>
+    ensures { result ≡ spec.connect_fault head.now }
+{
+    if head.method.get() == b"CONNECT".as_slice() {
+        return Some(RequestFault::NotDone);
+    }
+    None
+}
+
+fn host_fault(head: &RequestHead) -> Option<RequestFault>
+    ensures { result ≡ spec.host_fault head.now }
+{
+    let hosts = count_named(head.fields.get(), b"host");
+    if hosts > 1 || (hosts == 0 && head.minor != 0) {
+        return Some(RequestFault::Bad);
+    }
+    None
+}
+
+/// How many fields have the name.
+fn count_named(fields: &[(Bytes, Bytes)], name: &[u8]) -> usize
+    ensures { result ≡ count_by (is_named name.now) fields.now }
+{
+    fields
+        .iter()
+        .filter(|field| is_same_name(field.0.get(), name))
+        .count()
+}
+
+fn framing_fault(head: &RequestHead) -> Option<RequestFault>
+    ensures { result ≡ spec.framing_fault head.now }
+{
+    let fields = head.fields.get();
+    if has_field(fields, b"transfer-encoding")
+        && (has_field(fields, b"content-length") || head.minor == 0)
+    {
+        return Some(RequestFault::Bad);
+    }
+    None
+}
+
+fn coding_fault(head: &RequestHead) -> Option<RequestFault>
+    ensures { result ≡ spec.coding_fault head.now }
+{
+    let fields = head.fields.get();
+    if !has_field(fields, b"transfer-encoding") {
+        return None;
+    }
+    let found = named_codings(fields);
+    if !found.chunked_last {
+        return Some(RequestFault::Bad);
+    }
+    if found.count > 1 {
+        return Some(RequestFault::NotDone);
+    }
+    None
+}
+
+fn length_fault(head: &RequestHead) -> Option<RequestFault>
+    ensures { result ≡ spec.length_fault head.now }
+{
+    body_length(head).err()
+}
+
+/// The length that Content-Length gives.
+fn body_length(head: &RequestHead) -> Result<Option<usize>, RequestFault>
+    ensures { result ≡ spec.body_length head.now }
+{
+    match content_length(head.fields.get()) {
+        OneLength::Absent => Ok(None),
+        OneLength::Is(digits) => match value_within(digits, MOST_BODY) {
+            Some(size) => Ok(Some(size)),
+            None => Err(RequestFault::TooLarge),
+        },
+        OneLength::Wrong => Err(RequestFault::Bad),
+    }
+}

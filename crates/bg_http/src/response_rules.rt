@@ -1,0 +1,130 @@
+//! What a response's head is judged to be, and where its body ends.
+ghost use Rattle.std.specs.Prelude.{◌≡◌, ◌&&◌, ◌∷◌, [], option_copied};
+ghost use Rattle.bg_http.specs.Lengths.{content_length as content_length_of};
+ghost use Rattle.bg_http.specs.ResponseRules as spec;
+
+use crate::codings::named_codings;
+use crate::elements::has_field;
+use crate::lengths::{OneLength, content_length, value_within};
+use crate::request::Request;
+use crate::response::ResponseHead;
+use crate::response_fault::ResponseFault;
+
+/// Where a response ends (RFC 9112 section 6.3).
+#[derive(Clone, Copy, PartialEq, Eq, Debug, Drop)]
+pub enum ResponseFraming {
+    /// It is interim: it has no body, and another response comes after it.
+    Interim,
+    /// There is no body, whatever the fields say.
+    NoBody,
+    /// The body is chunks.
+    Chunks,
+    /// The body has so many bytes.
+    Length(usize),
+    /// The body is all that comes before the end of the input.
+    ToTheEnd,
+}
+
+/// The most bytes that a response's body may have.
+const MOST_BODY: usize = 4_194_304;
+
+/// Judges the head of a response to `request`, by the first that applies.
+///
+/// - A code below 100, and 101: Bad. Nobody asked for another protocol (RFC 9110 section 15.2.2).
+/// - A code below 200 is interim (RFC 9110 section 15.2).
+/// - HEAD was asked, or the code is 204 or 304: no body (RFC 9112 section 6.3).
+/// - Transfer-Encoding: chunks, where version 1.1 names `chunked` and no other coding; otherwise
+///   Bad. A Content-Length beside it is passed over (RFC 9112 section 6.3).
+/// - Content-Length: as long as it says, where its elements are all digits and equal once leading
+///   zeros are dropped; otherwise Bad; above 4,194,304 TooLarge.
+/// - Otherwise the body goes to the end of the input.
+pub fn judge_response(
+    request: &Request,
+    head: &ResponseHead,
+) -> Result<ResponseFraming, ResponseFault>
+    ensures { result ≡ spec.response_framing request.now head.now }
+{
+    if is_bad_code(head.code) {
+        return Err(ResponseFault::Bad);
+    }
+    if head.code < 200 {
+        return Ok(ResponseFraming::Interim);
+    }
+    if has_no_body(request, head.code) {
+        return Ok(ResponseFraming::NoBody);
+    }
+    if has_field(head.fields.get(), b"transfer-encoding") {
+        return framing_by_codings(head);
+    }
+    framing_by_length(head)
+}
+
+/// The digits of the length that a response without a body tells of the body that it would have:
+/// where HEAD was asked and in a 304 the one length that the Content-Length fields give, without
+/// leading zeros, of any size; none where there is Transfer-Encoding, and none in a 204 (RFC 9110
+/// section 8.6).
+pub fn length_told(head: &ResponseHead) -> Option<&[u8]>
+    ensures { option_copied result ≡ spec.length_told head.now }
+{
+    let fields = head.fields.get();
+    if head.code == 204 || has_field(fields, b"transfer-encoding") {
+        return None;
+    }
+    match content_length(fields) {
+        OneLength::Absent | OneLength::Wrong => None,
+        OneLength::Is(digits) => Some(digits_or_zero(digits)),
+    }
+}
+
+fn digits_or_zero(digits: &[u8]) -> &[u8]
+    ensures { result.now ≡ spec.digits_or_zero digits.now }
+{
+    match digits {
+        [] => b"0",
+        _ => digits,
+    }
+}
+
+fn is_bad_code(code: u16) -> bool
+    ensures { result ≡ spec.is_bad_code code }
+{
+    code < 100 || code == 101
+}
+
+/// Whether HEAD was asked.
+fn asks_for_head(request: &Request) -> bool
+    ensures { result ≡ spec.asks_for_head request.now }
+{
+    request.method.get() == b"HEAD".as_slice()
+}
+
+/// Whether a response with the code never has a body.
+pub(crate) fn has_no_body(request: &Request, code: u16) -> bool
+    ensures { result ≡ spec.has_no_body request.now code }
+{
+    asks_for_head(request) || code == 204 || code == 304
+}
+
+fn framing_by_codings(head: &ResponseHead) -> Result<ResponseFraming, ResponseFault>
+    ensures { result ≡ spec.framing_by_codings head.now }
+{
+    let found = named_codings(head.fields.get());
+    if head.minor != 0 && found.chunked_last && found.count == 1 {
+        Ok(ResponseFraming::Chunks)
+    } else {
+        Err(ResponseFault::Bad)
+    }
+}
+
+fn framing_by_length(head: &ResponseHead) -> Result<ResponseFraming, ResponseFault>
+    ensures { result ≡ spec.framing_by_length (content_length_of head.now.fields) }
+{
+    match content_length(head.fields.get()) {
+        OneLength::Absent => Ok(ResponseFraming::ToTheEnd),
+        OneLength::Is(digits) => match value_within(digits, MOST_BODY) {
+            Some(size) => Ok(ResponseFraming::Length(size)),
+            None => Err(ResponseFault::TooLarge),
+        },
+        OneLength::Wrong => Err(ResponseFault::Bad),
+    }
+}

@@ -1,0 +1,23 @@
+//! A stream that is read and written, as a client's connection is.
+ghost use Rattle.std.specs.Prelude.{OnOk};
+ghost use Rattle.std.specs.Io.KnownBytes.{Appends, Keeps, ReadConsumes};
+
+use std::io;
+use std::io::{Read, Write};
+
+/// A stream of which reading leaves alone what was written to it, and writing what is still to be
+/// read. Neither `Read` nor `Write` promises that of the other side, so a caller who does both
+/// could know the whole of neither.
+pub trait Duplex: Read + Write {
+    /// Reads some bytes into the front of `buf`, as `read` does, and says how many.
+    fn receive(&mut self, buf: &mut [u8]) -> io::Result<usize>
+        ensures bytes { ReadConsumes (Self.remaining self.old) (Self.remaining self.new) result
+            buf.new }
+        ensures kept { Keeps (Self.contents self.old) (Self.contents self.new) };
+
+    /// Writes all bytes, as `write_all` does.
+    fn send(&mut self, bytes: &[u8]) -> io::Result<()>
+        ensures bytes { OnOk result (Appends (Self.contents self.old) (Self.contents self.new)
+            bytes.now) }
+        ensures kept { Keeps (Self.remaining self.old) (Self.remaining self.new) };
+}

@@ -1,0 +1,222 @@
+//! Writing messages.
+//!
+//! No writer takes memory. Each writes line by line, so put a `BufWriter` before a socket. Where a
+//! write fails, a part of the text may be written.
+ghost use Rattle.std.specs.Prelude.{◌≡◌, OnOk, IsTrue, flat_map};
+ghost use Rattle.std.specs.Io.KnownBytes.{Appends};
+ghost use Rattle.bg_http.specs.Removed.{kept_in_request, kept_in_response};
+ghost use Rattle.bg_http.specs.Statuses.{is_refusal};
+ghost use Rattle.bg_http.specs.Texts as spec;
+
+use crate::bytes::Bytes;
+use crate::elements::has_field;
+use crate::fields::Fields;
+use crate::removed::{is_removed, is_removed_from_request};
+use crate::request::Request;
+use crate::response::Response;
+use crate::response_rules::has_no_body;
+use std::io;
+use std::io::Write;
+
+/// Writes a request as it goes on to 127.0.0.1 at `port`: its first line in version 1.1; a Host
+/// where version 1.0 has none; the fields that aren't removed, in order; Via with the version that
+/// was received; Content-Length where there is a body; `Connection: close`; the body (RFC 9110
+/// section 7.6, RFC 9112 section 3.2). On Ok exactly this is written.
+///
+/// Removed are Connection and each field that it names, but for Host; Keep-Alive, Proxy-Connection,
+/// TE, Transfer-Encoding, Upgrade, Trailer and Content-Length; and an Expect that is
+/// `100-continue`.
+pub fn write_request<W: Write>(request: &Request, port: u16, writer: &mut W) -> io::Result<()>
+    ensures { OnOk result (Appends (W.contents writer.old) (W.contents writer.new)
+        (spec.request_text request.now port)) }
+{
+    write_request_line(request, writer)?;
+    write_host(request, port, writer)?;
+    write_request_fields(&request.fields, writer)?;
+    write_via(request, writer)?;
+    write_size(&request.body, writer)?;
+    writer.write_all(b"Connection: close\r\n\r\n")?;
+    write_given(&request.body, writer)
+}
+
+fn write_request_line<W: Write>(request: &Request, writer: &mut W) -> io::Result<()>
+    ensures { OnOk result (Appends (W.contents writer.old) (W.contents writer.new)
+        (spec.request_line request.now)) }
+{
+    writer.write_all(request.method.get())?;
+    writer.write_all(b" ")?;
+    writer.write_all(request.target.get())?;
+    writer.write_all(b" HTTP/1.1\r\n")
+}
+
+/// Writes a Host where version 1.0 has none.
+fn write_host<W: Write>(request: &Request, port: u16, writer: &mut W) -> io::Result<()>
+    ensures { OnOk result (Appends (W.contents writer.old) (W.contents writer.new)
+        (spec.host_line request.now port)) }
+{
+    if request.minor == 0 && !has_field(request.fields.get(), b"host") {
+        write!(writer, "Host: 127.0.0.1:{port}\r\n")?;
+    }
+    Ok(())
+}
+
+fn write_via<W: Write>(request: &Request, writer: &mut W) -> io::Result<()>
+    ensures { OnOk result (Appends (W.contents writer.old) (W.contents writer.new)
+        (spec.via_line request.now)) }
+{
+    if request.minor == 0 {
+        writer.write_all(b"Via: 1.0 bg-switch\r\n")
+    } else {
+        writer.write_all(b"Via: 1.1 bg-switch\r\n")
+    }
+}
+
+fn write_field<W: Write>(field: &(Bytes, Bytes), writer: &mut W) -> io::Result<()>
+    ensures { OnOk result (Appends (W.contents writer.old) (W.contents writer.new)
+        (spec.field_line field.now)) }
+{
+    writer.write_all(field.0.get())?;
+    writer.write_all(b": ")?;
+    writer.write_all(field.1.get())?;
+    writer.write_all(b"\r\n")
+}
+
+/// Writes the fields of a request that go on.
+fn write_request_fields<W: Write>(fields: &Fields, writer: &mut W) -> io::Result<()>
+    ensures { OnOk result (Appends (W.contents writer.old) (W.contents writer.new)
+        (flat_map spec.field_line (kept_in_request fields.now))) }
+{
+    let fields = fields.get();
+    for field in fields {
+        if !is_removed_from_request(fields, field) {
+            write_field(field, writer)?;
+        }
+    }
+    Ok(())
+}
+
+/// Writes the length of a request's body, where there is one.
+fn write_size<W: Write>(body: &Option<Bytes>, writer: &mut W) -> io::Result<()>
+    ensures { OnOk result (Appends (W.contents writer.old) (W.contents writer.new)
+        (spec.size_line body.now)) }
+{
+    match body {
+        Some(body) => write!(writer, "Content-Length: {}\r\n", body.get().len()),
+        None => Ok(()),
+    }
+}
+
+/// Writes a request's body, where there is one.
+fn write_given<W: Write>(body: &Option<Bytes>, writer: &mut W) -> io::Result<()>
+    ensures { OnOk result (Appends (W.contents writer.old) (W.contents writer.new)
+        (spec.bytes_of body.now)) }
+{
+    match body {
+        Some(body) => writer.write_all(body.get()),
+        None => Ok(()),
+    }
+}
+
+/// Writes the response to a request as it goes back to the client: its first line in version 1.1;
+/// the fields that aren't removed, in order; Content-Length where `length` tells one; `Connection:
+/// close`; the body, but none where HEAD was asked or the code is 204 or 304 (RFC 9110 section 7.6,
+/// RFC 9112 section 6.3). On Ok exactly this is written.
+///
+/// Removed are Connection and each field that it names, but for Host; Keep-Alive, Proxy-Connection,
+/// TE, Transfer-Encoding, Upgrade, Trailer and Content-Length.
+pub fn write_response<W: Write>(
+    request: &Request,
+    response: &Response,
+    writer: &mut W,
+) -> io::Result<()>
+    ensures { OnOk result (Appends (W.contents writer.old) (W.contents writer.new)
+        (spec.response_text request.now response.now)) }
+{
+    write_status_line(response, writer)?;
+    write_response_fields(&response.fields, writer)?;
+    write_length(&response.length, writer)?;
+    writer.write_all(b"Connection: close\r\n\r\n")?;
+    write_sent(request, response, writer)
+}
+
+fn write_status_line<W: Write>(response: &Response, writer: &mut W) -> io::Result<()>
+    ensures { OnOk result (Appends (W.contents writer.old) (W.contents writer.new)
+        (spec.status_line response.now)) }
+{
+    write!(writer, "HTTP/1.1 {} ", response.code)?;
+    writer.write_all(response.reason.get())?;
+    writer.write_all(b"\r\n")
+}
+
+/// Writes the fields of a response that go on.
+fn write_response_fields<W: Write>(fields: &Fields, writer: &mut W) -> io::Result<()>
+    ensures { OnOk result (Appends (W.contents writer.old) (W.contents writer.new)
+        (flat_map spec.field_line (kept_in_response fields.now))) }
+{
+    let fields = fields.get();
+    for field in fields {
+        if !is_removed(fields, field) {
+            write_field(field, writer)?;
+        }
+    }
+    Ok(())
+}
+
+/// Writes the length that is told, if there is one.
+fn write_length<W: Write>(length: &Option<Bytes>, writer: &mut W) -> io::Result<()>
+    ensures { OnOk result (Appends (W.contents writer.old) (W.contents writer.new)
+        (spec.length_line length.now)) }
+{
+    match length {
+        Some(digits) => write_digits(digits.get(), writer),
+        None => Ok(()),
+    }
+}
+
+fn write_digits<W: Write>(digits: &[u8], writer: &mut W) -> io::Result<()>
+    ensures { OnOk result (Appends (W.contents writer.old) (W.contents writer.new)
+        (spec.digits_line digits.now)) }
+{
+    writer.write_all(b"Content-Length: ")?;
+    writer.write_all(digits)?;
+    writer.write_all(b"\r\n")
+}
+
+/// Writes the body, where the response may have one.
+fn write_sent<W: Write>(request: &Request, response: &Response, writer: &mut W) -> io::Result<()>
+    ensures { OnOk result (Appends (W.contents writer.old) (W.contents writer.new)
+        (spec.body_sent request.now response.now)) }
+{
+    if has_no_body(request, response.code) {
+        return Ok(());
+    }
+    writer.write_all(response.body.get())
+}
+
+/// Writes a refusal with an empty body, after which the connection is closed. `status` is 400, 413,
+/// 431, 501, 502 or 503; the reason is that of RFC 9110 section 15 (431: RFC 6585 section 5). On Ok
+/// exactly this is written.
+pub fn write_refusal<W: Write>(status: u16, writer: &mut W) -> io::Result<()>
+    requires { IsTrue (is_refusal status) }
+    ensures { OnOk result (Appends (W.contents writer.old) (W.contents writer.new)
+        (spec.refusal_text status)) }
+{
+    write!(
+        writer,
+        "HTTP/1.1 {status} {}\r\nContent-Length: 0\r\nConnection: close\r\n\r\n",
+        reason(status)
+    )
+}
+
+fn reason(status: u16) -> &'static str
+    ensures { result.now ≡ spec.reason_of status }
+{
+    match status {
+        400 => "Bad Request",
+        413 => "Content Too Large",
+        431 => "Request Header Fields Too Large",
+        501 => "Not Implemented",
+        502 => "Bad Gateway",
+        _ => "Service Unavailable",
+    }
+}
