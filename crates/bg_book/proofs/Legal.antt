@@ -1,15 +1,13 @@
 -- Each recorded event is legal.
-use Rattle.std.proofs.Common.{◌≡◌, ℕ, ◌+◌, ◌<◌, ◌≤◌, ◌^◌, Bool, true, not, ◌&&◌, ◌==◌, nat_lt, nat_le, List, [], ◌∷◌, ◌++◌, sum, Some, None, is_none, refl, ap, ◌∙◌, arith}
+use Rattle.std.proofs.Common.{◌≡◌, ℕ, ◌+◌, ◌<◌, ◌≤◌, Bool, true, not, ◌&&◌, ◌==◌, nat_lt, nat_le, List, [], ◌∷◌, ◌++◌, sum, Some, None, is_none, refl, ap, ◌∙◌, arith}
 use Rattle.std.specs.List.{list_all}
 use Rattle.std.proofs.lemmas.Bool.Decides.{nat_tests}
 use Rattle.bg_strategy.specs.declared.strategy.Strategy.{Strategy}
 use Rattle.bg_revisions.specs.declared.revision.Service.{Service}
 use Rattle.bg_history.specs.declared.entry.Entry.{Entry}
-use Rattle.bg_history.specs.declared.entry.Entry.TheVariants.{Tick, Available, Enter, Leave}
+use Rattle.bg_history.specs.declared.entry.Entry.TheVariants.{Enter, Leave}
 use Rattle.bg_history.specs.Kept.{Opening}
-use Rattle.bg_history.specs.Turns.{moment}
-use Rattle.bg_history.specs.Sizes.{desired, available}
-use Rattle.bg_history.specs.Deadlines.{exists_in}
+use Rattle.bg_history.specs.Sizes.{available}
 use Rattle.bg_history.specs.Requests.{Request, open_requests, held_by, request_numbers, entered, given}
 use Rattle.bg_history.specs.Allowed.{is_allowed, selection, is_number, port_of, holds}
 use Rattle.bg_history.specs.Steps.{IsLegal, all_given}
@@ -20,18 +18,13 @@ pub le_test : (m n : ℕ) → m ≤ n → nat_le m n ≡ true
 le_test m n h = grind (arith, nat_tests)
 
 -- a legal history and an entry that it allows
-legal_more : (s : Strategy) (o : Opening) (closed : List ℕ) (e : Entry) (past : List Entry) → IsLegal s o closed past → is_allowed s o e past ≡ true
+pub legal_more : (s : Strategy) (o : Opening) (closed : List ℕ) (e : Entry) (past : List Entry) → IsLegal s o closed past → is_allowed s o e past ≡ true
     → all_given (given closed (e ∷ past)) (request_numbers (e ∷ past)) ≡ true → IsLegal s o closed (e ∷ past)
 legal_more s o closed e past legal allowed numbers = record {
   opening = legal.opening;
   allowed = and_both (is_allowed s o e past) _ allowed legal.allowed;
   numbers = numbers;
 }
-
-pub legal-Available : (s : Strategy) (o : Opening) (closed : List ℕ) (past : List Entry) (r n : ℕ) → IsLegal s o closed past
-    → exists_in r past ≡ true → n ≤ desired s r past → IsLegal s o closed (Available r n ∷ past)
-legal-Available s o closed past r n legal exists fits =
-    legal_more s o closed (Available r n) past legal (and_both (exists_in r past) (nat_le n (desired s r past)) exists (le_test _ _ fits)) legal.numbers
 
 abbrev is_given : ℕ → ℕ → Bool
 is_given greatest n = nat_le 1 n && nat_le n greatest
@@ -92,10 +85,9 @@ legal-Leave s o closed past seat number r x legal held n rev given_number =
 
 -- the open requests after one entered
 pub requests-Enter : (closed : List ℕ) (past : List Entry) (seat : ℕ) (service : Service) (number r port : ℕ) → RequestsStand closed past
-    → held_by seat past ≡ None → number ≡ given closed past + 1 → r ≡ 1 → RequestsStand closed (Enter seat service number r port ∷ past)
-requests-Enter closed past seat service number r port stand none next one = record {
+    → held_by seat past ≡ None → number ≡ given closed past + 1 → RequestsStand closed (Enter seat service number r port ∷ past)
+requests-Enter closed past seat service number r port stand none next = record {
   differ = differ-append (open_requests past) x stand.differ (all_apart seat (given closed past) (open_requests past) x refl (omega (arith, next)) none stand.given);
-  first = all_appended (λ q. q.revision == 1) (open_requests past) x stand.first (ap (λ (k : ℕ). k == 1) one);
   given =
       ap (λ (k : ℕ). list_all (has_number k) (open_requests past ++ x ∷ [])) (entered-one (entered past) (sum closed))
       ∙ all_appended (has_number (given closed past + 1)) (open_requests past) x
@@ -109,6 +101,5 @@ requests-Enter closed past seat service number r port stand none next one = reco
 pub requests-Leave : (closed : List ℕ) (past : List Entry) (seat number r : ℕ) → RequestsStand closed past → RequestsStand closed (Leave seat number r ∷ past)
 requests-Leave closed past seat number r stand = record {
   differ = differ-filter (λ q. not (q.number == number)) (open_requests past) stand.differ;
-  first = all_kept (λ q. q.revision == 1) (λ q. not (q.number == number)) (open_requests past) stand.first;
   given = all_kept (has_number (given closed past)) (λ q. not (q.number == number)) (open_requests past) stand.given;
 }

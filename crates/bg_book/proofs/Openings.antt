@@ -1,6 +1,12 @@
 -- What stands in a book that was just opened.
-use Rattle.std.proofs.Common.{◌≡◌, ℕ, suc, ◌+◌, ◌*◌, ◌<◌, ◌≤◌, Bool, true, false, not, ◌&&◌, ◌||◌, nat_lt, nat_le, List, [], ◌∷◌, length, slice_get, replicate, sum, Option, Some, None, Result, Ok, Err, refl, sym, ap, ◌∙◌, arith}
+use Rattle.std.proofs.Common.{◌≡◌, ℕ, suc, ◌+◌, ◌*◌, ◌<◌, ◌≤◌, Bool, true, false, not, cond, is_none, ◌==◌, ◌&&◌, ◌||◌, nat_lt, nat_le, List, [], ◌∷◌, length, slice_get, replicate, sum, Option, Some, None, Result, Ok, Err, refl, sym, ap, ◌∙◌, arith}
 use Rattle.std.specs.Prelude.{IfErr}
+use Rattle.std.specs.Option.{option_or, option_map}
+use Rattle.bg_history.specs.declared.entry.Outcome.TheVariants.{ScaledDown, Removed}
+use Rattle.bg_history.specs.Turns.{newest_of}
+use Rattle.bg_history.specs.Sizes.{is_scaled}
+use Rattle.bg_history.specs.Deadlines.{exists_in, is_spare, is_old, is_first, may_scale_down, may_remove}
+use Rattle.bg_history.specs.Steps.{is_settled}
 use Rattle.std.proofs.Common.{inr}
 use Rattle.std.proofs.lemmas.List.{get_or-replicate}
 use Rattle.std.proofs.lemmas.List.Folds.{sum_by-replicate}
@@ -17,9 +23,8 @@ use Rattle.bg_book.specs.declared.fault.OpenFault.TheVariants as fault
 use Rattle.bg_book.specs.Refusals.{is_above_usual, open_refusal, usual_limits, AnswersBy}
 use Rattle.bg_book.specs.Changes.{NewSeats, opened}
 use Rattle.bg_book.specs.PastState.{seat_of}
-use Rattle.bg_book.specs.Invariant.{Stands}
+use Rattle.bg_book.specs.Invariant.{AtRest, Stands}
 use Rattle.bg_book.proofs.Events.{passed, within}
-use Rattle.bg_book.proofs.Quiet.{quiet-opening}
 use Rattle.bg_book.proofs.Requests.{and_both}
 
 it_is : (t : Bool) → not t ≡ false → t ≡ true
@@ -63,34 +68,57 @@ none_closed n = omega (arith, sum_by-replicate (λ (x : ℕ). x) n 0)
 new_seat : (n i : ℕ) → i < n → seat_of (replicate n 0) i [] ≡ record { index = i; calls = 0; number = 0; revision = 0; port = 0 }
 new_seat n i h = ap (λ (c : ℕ). record { index = i; calls = 0 + 2 * c; number = 0; revision = 0; port = 0 }) (get_or-replicate n i 0 0 h)
 
--- a book that was just opened
-pub stands-opened : (s : Strategy) (name ports : List ℕ) (count : ℕ) (limits : Limits) (seats : List Seat) (core : Standing) (spare : ℕ) → Fits s name ports count limits
+-- what a rollout that was just opened keeps
+pub stands-opened : (s : Strategy) (name ports : List ℕ) (count : ℕ) (limits : Limits) (seats : List Seat) (core : Standing) → Fits s name ports count limits
     → StandsFor s core [] → NewSeats count seats
-    → Stands (opened s name ports count limits seats)
-    (record { core = core; roster = record { replicas = s.replicas; revisions = record { number = 1; name = name; ports = ports; desired = s.replicas; available = 0 } ∷ []; last = 1 }; moment = 0; given = 0; open_requests = 0; spare = spare })
-stands-opened s name ports count limits seats core spare fit stand new = record {
+    → Stands (opened s name ports count limits seats) (record {
+      core = core;
+      roster = record { replicas = s.replicas; revisions = record { number = 1; name = name; ports = ports; desired = s.replicas; available = 0 } ∷ []; last = 1 };
+      deadlines = record { delay = s.delay; limit = s.revision_limit; marks = [] };
+      moment = 0;
+      given = 0;
+      open_requests = 0;
+    })
+stands-opened s name ports count limits seats core fit stand new = record {
+  routing = record {
+    legal = record {
+      opening = and_three (is_label name && are_ports s.replicas ports) (nat_le 1 count) (nat_le count 8) (and_both (is_label name) (are_ports s.replicas ports) fit.name_fits fit.ports_fit) fit.seats_fit;
+      allowed = refl;
+      numbers = refl;
+    };
+    lists = refl;
+    seats = record { count = new.count_is; each = λ i h. new.each i h ∙ ap Some (sym (new_seat count i h)) };
+    requests = record { differ = tt; given = refl };
+    entries = fit.entries_fit;
+    numbers = fit.numbers_fit;
+    spent = omega (arith, none_closed count);
+  };
   core = stand;
   revisions = refl;
   replicas = refl;
-  lists = refl;
-  seats = record { count = new.count_is; each = λ i h. new.each i h ∙ ap Some (sym (new_seat count i h)) };
+  last = refl;
+  deadlines = refl;
   moment = refl;
   given = omega (arith, none_closed count);
   open_is = refl;
-  legal = record {
-    opening = and_three (is_label name && are_ports s.replicas ports) (nat_le 1 count) (nat_le count 8) (and_both (is_label name) (are_ports s.replicas ports) fit.name_fits fit.ports_fit) fit.seats_fit;
-    allowed = refl;
-    numbers = refl;
-  };
-  quiet = quiet-opening s (record { seats = count; template = record { name = name; ports = ports } });
-  available = omega arith;
-  requests = record { differ = tt; first = refl; given = refl };
-  spare = omega arith;
-  room = omega arith;
-  entries = fit.entries_fit;
-  numbers = fit.numbers_fit;
-  spent = omega arith;
 }
+
+never : (b : Bool) → (b && false) ≡ false
+never true = refl
+never false = refl
+
+-- at the opening nothing is allowed
+pub settled-opened : (s : Strategy) → is_settled s [] ≡ true
+settled-opened s =
+    let due : may_scale_down s 1 [] ≡ false = ap (λ b. b && true) (never (exists_in 1 [] && is_spare s 1 [])) in
+    let old : is_old s [] 1 ≡ false = ap (λ b. b && not (1 == newest_of [])) (never (not (is_scaled s 1 []))) in
+    let removed : may_remove s 1 [] ≡ false = ap (λ b. nat_lt s.history_limit (length {A = ℕ} (cond b (1 ∷ []) [])) && is_first 1 (cond b (1 ∷ []) [])) old ∙ never _ in
+    ap (λ b. is_none (option_or (option_map ScaledDown (cond b (Some 1) None)) (option_map Removed (cond (may_remove s 1 []) (Some 1) None)))) due
+    ∙ ap (λ b. is_none (option_map Removed (cond b (Some 1) None))) removed
+
+pub at_rest-opened : (s : Strategy) (name ports : List ℕ) (count : ℕ) (limits : Limits) (seats : List Seat)
+    → AtRest (record { routing = opened s name ports count limits seats; spare = 0 })
+at_rest-opened s name ports count limits seats = record { settled = settled-opened s; spare = omega arith; room = omega arith }
 
 -- an answer of which want of memory is the only fault
 pub answers_by_memory : {A : Type 0} (refusal : Option opening.OpenFault) (r : Result A opening.OpenFault) → refusal ≡ None → IfErr r (λ e. e ≡ fault.OutOfMemory)

@@ -1,10 +1,9 @@
 -- Lists of open requests: one more at the end, and one less in the middle.
-use Rattle.std.proofs.Common.{◌≡◌, ℕ, ◌+◌, ◌<◌, Bool, true, false, not, cond, ◌&&◌, ◌==◌, List, [], ◌∷◌, ◌++◌, length, filter, find, map, Option, Some, None, refl, sym, ap, ◌∙◌, arith}
+use Rattle.std.proofs.Common.{◌≡◌, ℕ, ◌+◌, ◌<◌, Bool, true, false, not, cond, ◌&&◌, ◌==◌, List, [], ◌∷◌, ◌++◌, length, filter, find, Option, Some, None, refl, sym, ap, ◌∙◌, arith}
 use Rattle.std.specs.List.{list_all}
 use Rattle.std.proofs.lemmas.Bool.Decides.{nat_tests}
 use Rattle.std.proofs.lemmas.Option.{same_Some}
 use Rattle.bg_history.specs.Requests.{Request}
-use Rattle.bg_book.specs.OpenLists.{without_request, listed}
 use Rattle.bg_book.specs.Invariant.{are_apart, Differ, has_number}
 
 -- both parts of a test that passed
@@ -132,25 +131,6 @@ one_less seat (q ∷ qs) x d h = go (one_less seat qs x d.1) (q.seat == seat) re
       → length (cond (not b) (q ∷ filter (λ p. not (p.seat == seat)) qs) (filter (λ p. not (p.seat == seat)) qs)) + 1 ≡ length (q ∷ qs)
   go rest true e h = omega (arith, ap (λ (n : ℕ). length (filter (λ p. not (p.seat == n)) qs)) (sym (eq_from q.seat seat e)), ap length (rest_by_seat q qs d.0))
   go rest false e h = omega (arith, rest h)
-
--- taking a request out by its number, before and after the requests are listed
-pub listed_without : (p : Request → Bool) (number : ℕ) (qs : List Request)
-    → map listed (filter p (filter (λ q. not (q.number == number)) qs)) ≡ without_request number (map listed (filter p qs))
-listed_without p number [] = refl
-listed_without p number (q ∷ qs) = go (listed_without p number qs) (q.number == number) (p q) refl refl where
-  go : map listed (filter p (filter (λ x. not (x.number == number)) qs)) ≡ without_request number (map listed (filter p qs)) → (b c : Bool) → (q.number == number) ≡ b → p q ≡ c
-      → map listed (filter p (cond (not b) (q ∷ filter (λ x. not (x.number == number)) qs) (filter (λ x. not (x.number == number)) qs))) ≡ without_request number (map listed (cond c (q ∷ filter p qs) (filter p qs)))
-  go rest true true e f =
-      rest
-      ∙ ap (λ b. cond (not b) (listed q ∷ without_request number (map listed (filter p qs))) (without_request number (map listed (filter p qs)))) (sym e)
-  go rest true false e f = rest
-  go rest false true e f =
-      ap (λ b. map listed (cond b (q ∷ filter p (filter (λ x. not (x.number == number)) qs)) (filter p (filter (λ x. not (x.number == number)) qs)))) f
-      ∙ ap (λ xs. listed q ∷ xs) rest
-      ∙ ap (λ b. cond (not b) (listed q ∷ without_request number (map listed (filter p qs))) (without_request number (map listed (filter p qs)))) (sym e)
-  go rest false false e f =
-      ap (λ b. map listed (cond b (q ∷ filter p (filter (λ x. not (x.number == number)) qs)) (filter p (filter (λ x. not (x.number == number)) qs)))) f
-      ∙ rest
 
 -- a new request is apart from all others: its seat holds none, and its number is above all
 new_is_apart : (seat number : ℕ) (q x : Request) → x.seat ≡ seat → number < x.number → (q.seat == seat) ≡ false → has_number number q ≡ true → are_apart q x ≡ true

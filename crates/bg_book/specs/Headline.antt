@@ -1,5 +1,5 @@
 -- What holds of a book between its calls.
-use Rattle.std.specs.Prelude.{◌≡◌, ℕ, Bool, false, ◌==◌, ◌&&◌, ◌||◌, IsTrue, List, [], ◌∷◌, length, find, map, Option, Some, None}
+use Rattle.std.specs.Prelude.{◌≡◌, ℕ, Bool, false, ◌==◌, ◌&&◌, ◌||◌, IsTrue, List, [], ◌∷◌, length, map}
 use Rattle.bg_strategy.specs.declared.strategy.Strategy.{Strategy}
 use Rattle.bg_history.specs.declared.entry.Entry.{Entry}
 use Rattle.bg_history.specs.declared.entry.Entry.TheVariants.{Deploy, Outcome}
@@ -8,11 +8,10 @@ use Rattle.bg_history.specs.Turns.{is_halt, stable_of}
 use Rattle.bg_history.specs.Selections.{active_of, preview_of}
 use Rattle.bg_history.specs.Sizes.{is_scaled}
 use Rattle.bg_history.specs.Promotion.{may_switch}
-use Rattle.bg_history.specs.Deadlines.{exists_in}
 use Rattle.bg_history.specs.Requests.{open_at}
 use Rattle.bg_history.specs.Steps.{IsLegal, is_settled}
-use Rattle.bg_book.specs.declared.open_list.OpenRequest.{OpenRequest}
-use Rattle.bg_book.specs.OpenLists.{OpenAt, lists_of}
+use Rattle.bg_pasts.specs.Reachable.{stands_scaled}
+use Rattle.bg_book.specs.OpenLists.{list_of, lists_of}
 use Rattle.bg_book.specs.Routing.{Routing}
 use Rattle.bg_book.specs.PastState.{SeatsStand}
 
@@ -37,18 +36,6 @@ moves_by_rule s e before =
 abbrev pub is_reached_by_rule : Strategy → List Entry → Bool
 is_reached_by_rule s [] = active_of [] == 1
 is_reached_by_rule s (e ∷ before) = moves_by_rule s e before && is_reached_by_rule s before
-
--- r exists and is scaled
-abbrev pub stands_scaled : Strategy → ℕ → List Entry → Bool
-stands_scaled s r past = exists_in r past && is_scaled s r past
-
-abbrev pub requests_in : Option OpenAt → List OpenRequest
-requests_in None = []
-requests_in (Some l) = l.requests
-
--- the requests in the list of r; none where it has no list
-abbrev pub list_of : ℕ → List OpenAt → List OpenRequest
-list_of r lists = requests_in (find (λ l. l.revision == r) lists)
 
 -- the headline
 pub record Headline (b : Routing) : Type 0 where

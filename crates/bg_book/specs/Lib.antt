@@ -4,7 +4,7 @@ pub mod PastState
 pub mod Refusals
 pub mod Changes
 pub mod Headline
-pub mod Quiet
 pub mod Invariant
+pub mod Settling
 pub mod Runs
 pub mod FaultNames

@@ -1,6 +1,6 @@
 -- The list of open requests that the book keeps for each revision.
-use Rattle.std.specs.Prelude.{ℕ, not, ◌==◌, List, filter, map}
-use Rattle.bg_book.specs.declared.open_list.OpenRequest.{OpenRequest}
+use Rattle.std.specs.Prelude.{ℕ, ◌==◌, if◌then◌else◌, List, [], ◌∷◌, filter, find, map, Option, Some, None}
+use Rattle.bg_book.specs.declared.open_lists.OpenRequest.{OpenRequest}
 use Rattle.bg_history.specs.declared.entry.Entry.{Entry}
 use Rattle.bg_history.specs.Requests.{Request, open_requests}
 use Rattle.bg_history.specs.Sizes.{existing}
@@ -10,9 +10,20 @@ pub record OpenAt : Type 0 where
   pub revision : ℕ
   pub requests : List OpenRequest
 
--- the requests but the one of that number
-abbrev pub without_request : ℕ → List OpenRequest → List OpenRequest
-without_request number requests = filter (λ q. not (q.number == number)) requests
+abbrev pub requests_in : Option OpenAt → List OpenRequest
+requests_in None = []
+requests_in (Some l) = l.requests
+
+-- the requests in the list of r; none where it has no list
+abbrev pub list_of : ℕ → List OpenAt → List OpenRequest
+list_of r lists = requests_in (find (λ l. l.revision == r) lists)
+
+-- the lists with the requests in that of r changed
+abbrev pub changed : ℕ → (List OpenRequest → List OpenRequest) → List OpenAt → List OpenAt
+changed r change [] = []
+changed r change (l ∷ rest) =
+    if l.revision == r then record l { requests = change l.requests } ∷ rest
+    else l ∷ changed r change rest
 
 -- the seat and the number of a request
 abbrev pub listed : Request → OpenRequest

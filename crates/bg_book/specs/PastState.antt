@@ -1,39 +1,11 @@
 -- The state that a past asks for: what the readers of a book answer.
-use Rattle.std.specs.Prelude.{◌≡◌, ◌<◌, ℕ, Bool, not, ◌&&◌, List, [], map, length, slice_get, Option, Some, None}
+use Rattle.std.specs.Prelude.{◌≡◌, ◌<◌, ℕ, Bool, not, ◌&&◌, List, length, slice_get, Option, Some, None}
 use Rattle.bg_strategy.specs.declared.strategy.Strategy.{Strategy}
-use Rattle.bg_revisions.specs.declared.revision.Revision.{Revision}
 use Rattle.bg_history.specs.declared.entry.Entry.{Entry}
-use Rattle.bg_history.specs.Kept.{Opening, Template}
-use Rattle.bg_history.specs.Sizes.{existing, desired, available}
-use Rattle.bg_history.specs.Templates.{template}
+use Rattle.bg_history.specs.Kept.{Opening}
 use Rattle.bg_history.specs.Requests.{Request, held_by, calls_of, open_at}
 use Rattle.bg_history.specs.Deadlines.{is_due, is_empty}
 use Rattle.bg_book.specs.declared.seat.Seat.{Seat}
-
--- a revision of this number, template and sizes; each revision that exists has a template
-abbrev pub sized : ℕ → ℕ → ℕ → Option Template → Revision
-sized r wanted there None = record {
-  number = r;
-  name = [];
-  ports = [];
-  desired = wanted;
-  available = there;
-}
-sized r wanted there (Some t) = record {
-  number = r;
-  name = t.name;
-  ports = t.ports;
-  desired = wanted;
-  available = there;
-}
-
--- revision r
-abbrev pub revision_of : Strategy → Opening → List Entry → ℕ → Revision
-revision_of s o past r = sized r (desired s r past) (available r past) (template o r past)
-
--- the existing revisions, in order of number
-abbrev pub revisions_of : Strategy → Opening → List Entry → List Revision
-revisions_of s o past = map (revision_of s o past) (existing past)
 
 -- r is due and holds an open request
 abbrev pub is_draining : Strategy → ℕ → List Entry → Bool

@@ -1,12 +1,6 @@
 //! The book.
 
-use crate::limits::Limits;
-use crate::open_list::OpenList;
-use crate::seat::Seat;
-use bg_history::History;
-use bg_promotion::Core;
-use bg_revisions::Roster;
-use bg_strategy::Strategy;
+use crate::rollout::Rollout;
 use std::alloc::Global;
 use std::marker::Model;
 
@@ -17,19 +11,7 @@ use std::marker::Model;
 #[derive(Drop)]
 pub struct Book {
     pub(crate) alloc: Global,
-    pub(crate) strategy: Strategy,
-    pub(crate) limits: Limits,
-    pub(crate) core: Core,
-    pub(crate) roster: Roster,
-    pub(crate) lists: Vec<OpenList>,
-    pub(crate) seats: Vec<Seat>,
-    pub(crate) history: History,
-    /// The moment.
-    pub(crate) moment: u64,
-    /// The greatest number that a request was given.
-    pub(crate) given: u64,
-    /// The open requests of all revisions.
-    pub(crate) open: u64,
+    pub(crate) rollout: Rollout,
 }
 
 impl Model for Book {
@@ -37,9 +19,9 @@ impl Model for Book {
 
     ghost Value = { Routing };
 
-    ghost use Rattle.bg_book.specs.Invariant.{routing_of, running_of, Stands};
+    ghost use Rattle.bg_book.specs.Invariant.{AtRest};
 
-    ghost view = { routing_of };
+    ghost view = { λ b. b.rollout.routing };
 
-    ghost invariant = { λ b. Stands (routing_of b) (running_of b) };
+    ghost invariant = { λ b. AtRest b.rollout };
 }

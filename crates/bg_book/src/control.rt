@@ -1,15 +1,19 @@
 //! How an event is recorded that no seat makes.
-ghost use Rattle.std.specs.Prelude.{◌≡◌, ◌≤◌, ◌+◌, ℕ, IfOk, OnErr};
-ghost use Rattle.bg_book.specs.Refusals.{control_refusal, event_of, refuse, AnswersBy};
+ghost use Rattle.std.specs.Prelude.{◌≡◌, ◌≤◌, ◌+◌, ◌*◌, ℕ, length, None, IfOk, OnErr};
+ghost use Rattle.bg_book.specs.Refusals.{all_open, control_refusal, event_fault, event_of, refuse, AnswersBy};
+ghost use Rattle.bg_book.specs.Settling.{Recorded};
 ghost use Rattle.bg_book.specs.Changes.{Stepped, with_past};
 ghost use Rattle.bg_book.specs.declared.fault.ControlFault.TheVariants.{OutOfMemory};
 
 use crate::book::Book;
 use crate::calls::Control;
 use crate::fault::ControlFault;
-use crate::limits::PLACES_OF_A_REQUEST;
+use crate::rollout::Rollout;
 use bg_history::Entry;
+use bg_listing::laws::{finds, reports};
+use bg_pasts::laws::reachable;
 use bg_promotion::laws::neutral;
+use bg_settling::laws::{work_falls, work_is_bounded};
 
 /// The greatest moment, in seconds from the start.
 const LAST_MOMENT: u64 = 1 << 53;
@@ -33,10 +37,29 @@ impl Book {
             (λ n. self.new ≡ with_past self.old self.new.past self.old.seats) }
         ensures unchanged { OnErr result (self.new ≡ self.old) }
     {
+        work_is_bounded();
+        work_falls();
+        reachable();
+        self.rollout.stands();
+        self.rollout.check(control)?;
+        let reserved = MOST_ENTRIES + self.rollout.places_kept();
+        self.rollout.reserve(reserved)?;
+        self.rollout.take_in(control);
+        self.rollout.stands();
+        Ok(self.rollout.settle())
+    }
+}
+
+impl Rollout {
+    /// Records an event that isn't refused.
+    fn take_in(&mut self, control: &Control)
+        requires fits { event_fault self.old.routing control.now ≡ None }
+        requires spare { 1 ≤ self.old.spare }
+        ensures { Recorded (event_of control.now) self.old self.new }
+    {
+        finds();
+        reports();
         neutral(&self.core);
-        self.check(control)?;
-        let reserved = MOST_ENTRIES + PLACES_OF_A_REQUEST * self.open;
-        self.history.reserve(reserved as u32)?;
         match control {
             Control::Tick(moment) => {
                 self.moment = *moment;
@@ -51,13 +74,14 @@ impl Book {
                 });
             }
         }
-        Ok(0)
     }
 
     /// Finds the first fault of an event but want of memory.
     fn check(&self, control: &Control) -> Result<(), ControlFault>
-        ensures { result ≡ refuse (control_refusal self.now control.now) }
+        requires { length self.now.routing.past + 3 * all_open self.now.routing.past ≤ 1000000 }
+        ensures { result ≡ refuse (control_refusal self.now.routing control.now) }
     {
+        finds();
         match control {
             Control::Tick(moment) => {
                 if *moment > LAST_MOMENT {
@@ -73,9 +97,7 @@ impl Book {
                 Some(_) => {}
             },
         }
-        if self.history.len() + MOST_ENTRIES + PLACES_OF_A_REQUEST * self.open
-            > self.limits.entries
-        {
+        if self.history.len() + MOST_ENTRIES + self.places_kept() > self.limits.entries {
             return Err(ControlFault::HistoryFull);
         }
         Ok(())

@@ -1,6 +1,6 @@
 //! How a request enters.
-ghost use Rattle.std.specs.Prelude.{◌≡◌, ◌∷◌, IfOk, OnErr, Some, slice_get, slice_set, MatchResult, None};
-ghost use Rattle.bg_book.specs.Refusals.{enter_refusal, AnswersBy, IsTicket};
+ghost use Rattle.std.specs.Prelude.{◌≡◌, ◌≤◌, ◌+◌, ◌*◌, ◌∷◌, length, IfOk, OnOk, OnErr, Some, slice_get, slice_set, MatchResult, None};
+ghost use Rattle.bg_book.specs.Refusals.{all_open, enter_refusal, AnswersBy, IsTicket};
 ghost use Rattle.bg_book.specs.Changes.{Stepped, with_past, enter_entry, seat_in};
 ghost use Rattle.bg_history.specs.Allowed.{selection};
 ghost use Rattle.bg_book.specs.declared.fault.EnterFault.TheVariants.{OutOfMemory, NoPreview};
@@ -9,11 +9,17 @@ use crate::book::Book;
 use crate::calls::Ticket;
 use crate::fault::EnterFault;
 use crate::limits::PLACES_OF_A_REQUEST;
-use crate::open_list::{OpenRequest, place_of};
+use crate::open_lists::OpenRequest;
+use crate::rollout::Rollout;
 use crate::seat::Seat;
 use bg_history::Entry;
+use bg_history::laws::existing_ascends;
+use bg_listing::laws::finds;
+use bg_pasts::laws::reachable;
 use bg_promotion::laws::neutral;
 use bg_revisions::Service;
+use bg_settling::laws::entering_settles;
+use std::alloc::AllocError;
 
 impl Book {
     /// Lets a request enter at a service: it gets the next number, from 1, the revision that the service selects,
@@ -36,16 +42,44 @@ impl Book {
         ensures unchanged { OnErr result (self.new ≡ self.old) }
         ensures seat_unchanged { OnErr result (seat.new ≡ seat.old) }
     {
+        entering_settles();
+        self.rollout.stands();
+        let ticket = self.rollout.offer(service)?;
+        let reserved = 1 + self.rollout.places_kept() + PLACES_OF_A_REQUEST;
+        self.rollout.reserve(reserved)?;
+        self.rollout.admit(seat, service, ticket)?;
+        Ok(ticket)
+    }
+}
+
+impl Rollout {
+    /// Lets a request enter that isn't refused; refused only where memory is.
+    fn admit(&mut self, seat: &mut Seat, service: Service, ticket: Ticket) -> Result<(), AllocError>
+        requires known { slice_get self.old.routing.seats seat.old.index ≡ Some seat.old }
+        requires out { seat.old.number ≡ 0 }
+        requires accepted { enter_refusal self.old.routing service ≡ None }
+        requires ticket { IsTicket self.old.routing service ticket }
+        requires short { length self.old.routing.past ≤ 1000000 }
+        requires spare { 1 ≤ self.old.spare }
+        ensures seat { OnOk result (seat.new ≡ seat_in seat.old ticket) }
+        ensures routing { OnOk result (self.new.routing ≡ with_past self.old.routing
+            (enter_entry seat.old.index service ticket ∷ self.old.routing.past)
+            (slice_set self.old.routing.seats seat.old.index (seat_in seat.old ticket))) }
+        ensures spare { OnOk result (self.new.spare + 1 ≡ self.old.spare) }
+        ensures unchanged { OnErr result (self.new ≡ self.old) }
+        ensures seat_unchanged { OnErr result (seat.new ≡ seat.old) }
+    {
+        existing_ascends();
+        reachable();
         neutral(&self.core);
         let index = seat.index();
-        let ticket = self.offer(service)?;
-        let reserved = 1 + PLACES_OF_A_REQUEST * (self.open + 1);
-        self.history.reserve(reserved as u32)?;
-        let place = place_of(&self.lists, ticket.revision).unwrap();
-        self.lists[place].append(OpenRequest {
-            seat: index,
-            number: ticket.number,
-        })?;
+        self.lists.append(
+            ticket.revision,
+            OpenRequest {
+                seat: index,
+                number: ticket.number,
+            },
+        )?;
         self.given = ticket.number;
         self.open += 1;
         self.seats[index as usize].take(ticket);
@@ -57,12 +91,12 @@ impl Book {
             revision: ticket.revision,
             port: ticket.port,
         });
-        Ok(ticket)
+        Ok(())
     }
 
     /// The revision that a service selects; `NoPreview` where the service is the preview service and none is set.
     fn selected(&self, service: Service) -> Result<u64, EnterFault>
-        ensures { let selected = selection self.now.strategy service self.now.past in
+        ensures { let selected = selection self.now.routing.strategy service self.now.routing.past in
             MatchResult result (λ r. selected ≡ Some r)
             (λ e. (selected ≡ None) × (e ≡ NoPreview)) }
     {
@@ -80,11 +114,17 @@ impl Book {
 
     /// The ticket of a request at a service, or the first fault but want of memory.
     fn offer(&self, service: Service) -> Result<Ticket, EnterFault>
+        requires { length self.now.routing.past + 3 * all_open self.now.routing.past ≤ 1000000 }
         ensures { MatchResult result
-            (λ t. (enter_refusal self.now service ≡ None) × IsTicket self.now service t)
-            (λ e. enter_refusal self.now service ≡ Some e) }
+            (λ t. (enter_refusal self.now.routing service ≡ None)
+            × IsTicket self.now.routing service t)
+            (λ e. enter_refusal self.now.routing service ≡ Some e) }
     {
+        finds();
+        reachable();
         let selected = self.selected(service)?;
+        // With the count comes what holds of every roster: a revision has a port for each replica.
+        let _count = self.roster.count();
         let revision = self.roster.find_number(selected).unwrap();
         if revision.available == 0 {
             return Err(EnterFault::NoEndpoints);
@@ -92,7 +132,7 @@ impl Book {
         if self.given >= self.limits.numbers {
             return Err(EnterFault::NumbersSpent);
         }
-        if self.history.len() + 1 + PLACES_OF_A_REQUEST * (self.open + 1) > self.limits.entries {
+        if self.history.len() + 1 + self.places_kept() + PLACES_OF_A_REQUEST > self.limits.entries {
             return Err(EnterFault::HistoryFull);
         }
         let number = self.given + 1;

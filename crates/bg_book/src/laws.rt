@@ -2,6 +2,7 @@
 ghost use Rattle.bg_book.specs.Headline.{Headline};
 
 use crate::book::Book;
+use bg_pasts::laws::reachable;
 
 /// The headline: the book's history is legal, nothing allowed is left undone, both services select existing
 /// scaled revisions, the active one was reached only by the documented rule (Argo Rollouts, "BlueGreen
@@ -10,6 +11,6 @@ use crate::book::Book;
 pub fn headline(book: &Book)
     ensures { Headline book.now }
 {
-    // The invariant of the type is known once a field is looked at.
-    let _ = &book.strategy;
+    reachable();
+    book.rollout.stands();
 }

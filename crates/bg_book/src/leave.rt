@@ -1,14 +1,17 @@
 //! How a request leaves.
-ghost use Rattle.std.specs.Prelude.{◌≡◌, ◌≢◌, ◌≤◌, ℕ, Some, slice_get, slice_set};
+ghost use Rattle.std.specs.Prelude.{◌≡◌, ◌≢◌, ◌≤◌, ◌+◌, ◌∷◌, ℕ, length, Some, slice_get, slice_set};
 ghost use Rattle.bg_history.specs.declared.entry.Entry.TheVariants as entry;
 ghost use Rattle.bg_book.specs.Changes.{Stepped, with_past, seat_out};
 
 use crate::book::Book;
 use crate::calls::Left;
-use crate::open_list::place_of;
+use crate::rollout::Rollout;
 use crate::seat::Seat;
 use bg_history::Entry;
+use bg_history::laws::existing_ascends;
+use bg_pasts::laws::reachable;
 use bg_promotion::laws::neutral;
+use bg_settling::laws::leaving_allows_two;
 
 impl Book {
     /// Lets the seat's request leave, and answers its number and revision. It takes no memory and is never
@@ -24,14 +27,37 @@ impl Book {
         ensures book { self.new ≡ with_past self.old self.new.past
             (slice_set self.old.seats seat.old.index seat.new) }
     {
+        leaving_allows_two();
+        self.rollout.stands();
+        let left = self.rollout.release(seat);
+        self.rollout.settle();
+        left
+    }
+}
+
+impl Rollout {
+    /// Records that the seat's request leaves.
+    fn release(&mut self, seat: &mut Seat) -> Left
+        requires known { slice_get self.old.routing.seats seat.old.index ≡ Some seat.old }
+        requires within { seat.old.number ≢ 0 }
+        requires short { length self.old.routing.past ≤ 1000000 }
+        requires spare { 1 ≤ self.old.spare }
+        ensures left { result ≡ record { number = seat.old.number; revision = seat.old.revision } }
+        ensures seat { seat.new ≡ seat_out seat.old }
+        ensures routing { self.new.routing ≡ with_past self.old.routing
+            (entry.Leave seat.old.index seat.old.number seat.old.revision ∷ self.old.routing.past)
+            (slice_set self.old.routing.seats seat.old.index (seat_out seat.old)) }
+        ensures spare { self.new.spare + 1 ≡ self.old.spare }
+    {
+        existing_ascends();
+        reachable();
         neutral(&self.core);
         let index = seat.index();
         let left = Left {
             number: seat.number(),
             revision: seat.revision(),
         };
-        let place = place_of(&self.lists, left.revision).unwrap();
-        self.lists[place].remove(left.number);
+        self.lists.take(left.revision, index);
         self.open -= 1;
         self.seats[index as usize].let_go();
         seat.let_go();

@@ -12,11 +12,13 @@ mod fault;
 pub mod laws;
 mod leave;
 mod limits;
-mod open_list;
+mod open_lists;
 mod opening;
 mod readers;
+mod rollout;
 mod run;
 mod seat;
+mod settling;
 
 pub use book::Book;
 pub use calls::{Call, Control, Left, Reply, Ticket};

@@ -1,5 +1,6 @@
 //! How a book is opened.
-ghost use Rattle.std.specs.Prelude.{◌≡◌, ◌<◌, ℕ, true, [], ◌∷◌, length, IfOk, IfErr, slice_get, None};
+ghost use Rattle.std.specs.Prelude.{◌≡◌, ◌<◌, ℕ, true, List, [], ◌∷◌, length, IfOk, IfErr, slice_get, None};
+ghost use Rattle.bg_book.specs.declared.seat.Seat.{Seat};
 ghost use Rattle.bg_revisions.specs.Rosters.{has_form};
 ghost use Rattle.bg_book.specs.Refusals.{open_refusal, AnswersBy};
 ghost use Rattle.bg_book.specs.Changes.{opened, NewSeats};
@@ -9,11 +10,13 @@ ghost use Rattle.bg_book.specs.declared.fault.OpenFault.TheVariants.{OutOfMemory
 use crate::book::Book;
 use crate::fault::OpenFault;
 use crate::limits::{Limits, MOST_SEATS};
-use crate::open_list::OpenList;
+use crate::open_lists::OpenLists;
+use crate::rollout::Rollout;
 use crate::seat::Seat;
 use bg_history::History;
 use bg_promotion::Core;
 use bg_revisions::{Roster, has_ports_form};
+use bg_scaledown::Deadlines;
 use bg_strategy::{Strategy, is_dns_label};
 use std::alloc::{AllocError, Global};
 
@@ -63,26 +66,49 @@ impl Book {
         ensures apart { IfOk result (λ r. AreApart r.1.items) }
         ensures err { IfErr result (λ e. e ≡ OutOfMemory) }
     {
+        let rollout = Rollout::open(alloc, strategy, name, ports, seats, limits)?;
+        let handed_out = new_seats(alloc, seats)?;
+        Ok((Book { alloc, rollout }, handed_out))
+    }
+}
+
+impl Rollout {
+    /// The rollout of an opening without a fault; refused only where memory is.
+    fn open(
+        alloc: Global,
+        strategy: Strategy,
+        name: &str,
+        ports: &[u16],
+        seats: u32,
+        limits: Limits,
+    ) -> Result<Rollout, OpenFault>
+        requires { open_refusal strategy name.now ports.now seats limits ≡ None }
+        ensures ok { IfOk result (λ r. (records : List Seat) × NewSeats seats records
+            × (r ≡ record {
+              routing = opened strategy name.now ports.now seats limits records;
+              spare = 0;
+            })) }
+        ensures err { IfErr result (λ e. e ≡ OutOfMemory) }
+    {
         let core = Core::new(&strategy);
+        let deadlines = Deadlines::new(strategy.delay, strategy.revision_limit);
         let history = History::new(alloc, seats, name, ports)?;
         let roster = first_roster(alloc, strategy.replicas, name, ports)?;
-        let lists = first_lists(alloc)?;
+        let lists = OpenLists::new(alloc)?;
         let records = new_seats(alloc, seats)?;
-        let handed_out = new_seats(alloc, seats)?;
-        let book = Book {
-            alloc,
+        Ok(Rollout {
             strategy,
             limits,
             core,
             roster,
+            deadlines,
             lists,
             seats: records,
             history,
             moment: 0,
             given: 0,
             open: 0,
-        };
-        Ok((book, handed_out))
+        })
     }
 }
 
@@ -138,16 +164,6 @@ fn first_roster(
         Ok(_first) => Ok(roster),
         Err(_refused) => Err(OpenFault::OutOfMemory),
     }
-}
-
-/// The list of revision 1 alone, without requests.
-fn first_lists(alloc: Global) -> Result<Vec<OpenList>, OpenFault>
-    ensures ok { IfOk result (λ v. v.items ≡ record { revision = 1; requests = [] } ∷ []) }
-    ensures err { IfErr result (λ e. e ≡ OutOfMemory) }
-{
-    let mut lists = Vec::with_capacity(alloc, 1)?;
-    lists.push_reserved(OpenList::new(alloc, 1));
-    Ok(lists)
 }
 
 /// As many seats, in order of index, each without a call.

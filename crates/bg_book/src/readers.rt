@@ -1,16 +1,20 @@
 //! What a book answers of its state.
-ghost use Rattle.std.specs.Prelude.{◌≡◌, length, slice_get, Some, option_copied};
+ghost use Rattle.std.specs.Prelude.{◌≡◌, length, slice_get, Some, None, option_copied};
 ghost use Rattle.bg_history.specs.Turns.{moment as moment_of};
 ghost use Rattle.bg_history.specs.Sizes.{existing};
 ghost use Rattle.bg_history.specs.Requests.{open_at};
 ghost use Rattle.bg_history.specs.Deadlines.{deadline};
 ghost use Rattle.bg_promotion.specs.Phases.{phase_of};
-ghost use Rattle.bg_promotion.specs.Answers.{selectors_of};
-ghost use Rattle.bg_book.specs.PastState.{revisions_of, is_draining as is_draining_in};
+ghost use Rattle.bg_history.specs.Selections.{selectors_of};
+ghost use Rattle.bg_history.specs.Promotion.{first_promotion};
+ghost use Rattle.bg_listing.specs.Listed.{revisions_of};
+ghost use Rattle.bg_book.specs.PastState.{is_draining as is_draining_in};
 
 use crate::book::Book;
-use crate::open_list::find_list;
+use crate::rollout::Rollout;
 use bg_history::History;
+use bg_listing::laws::finds;
+use bg_pasts::laws::reachable;
 use bg_promotion::Phase;
 use bg_revisions::{Revision, Selectors};
 use bg_strategy::Strategy;
@@ -20,35 +24,35 @@ impl Book {
     pub fn moment(&self) -> u64
         ensures { result ≡ moment_of self.now.past }
     {
-        self.moment
+        self.rollout.moment()
     }
 
     /// The phase of the rollout.
     pub fn phase(&self) -> Phase
         ensures { phase_of self.now.strategy self.now.past ≡ Some result }
     {
-        self.core.phase()
+        self.rollout.phase()
     }
 
     /// The revisions that are active, preview, stable and newest.
     pub fn selectors(&self) -> Selectors
         ensures { result ≡ selectors_of self.now.past }
     {
-        self.core.selectors()
+        self.rollout.selectors()
     }
 
     /// The strategy that the book was opened with.
     pub fn strategy(&self) -> &Strategy
         ensures { result.now ≡ self.now.strategy }
     {
-        &self.strategy
+        self.rollout.strategy()
     }
 
     /// How many revisions exist.
     pub fn count(&self) -> usize
         ensures { result ≡ length (existing self.now.past) }
     {
-        self.roster.count()
+        self.rollout.revisions().len()
     }
 
     /// The revision at a place, from 0, in order of number; none past the last.
@@ -56,37 +60,28 @@ impl Book {
         ensures { option_copied result ≡ slice_get
             (revisions_of self.now.strategy self.now.opening self.now.past) place }
     {
-        self.roster.at(place)
+        self.rollout.revisions().get(place)
     }
 
     /// The moment from which the revision of this number may be scaled down, if it has one.
     pub fn deadline_of(&self, number: u64) -> Option<u64>
         ensures { result ≡ deadline self.now.strategy number self.now.past }
     {
-        // While no revision is deployed none leaves the active service, so none has a deadline.
-        let _opened = &self.strategy;
-        let _asked = number;
-        None
+        self.rollout.deadline_of(number)
     }
 
     /// How many requests are open at the revision of this number; 0 where there is none.
     pub fn open_count(&self, number: u64) -> usize
         ensures { result ≡ length (open_at number self.now.past) }
     {
-        match find_list(&self.lists, number) {
-            Some(list) => list.len(),
-            None => 0,
-        }
+        self.rollout.open_count(number)
     }
 
     /// Whether the revision of this number may be scaled down but for its open requests.
     pub fn is_draining(&self, number: u64) -> bool
         ensures { result ≡ is_draining_in self.now.strategy number self.now.past }
     {
-        // Without a deadline no revision is due.
-        let _opened = &self.strategy;
-        let _asked = number;
-        false
+        self.rollout.is_draining(number)
     }
 
     /// The history since the opening.
@@ -94,6 +89,73 @@ impl Book {
         ensures opening { result.now.opening ≡ self.now.opening }
         ensures closed { result.now.closed ≡ self.now.closed }
         ensures past { result.now.past ≡ self.now.past }
+    {
+        self.rollout.history()
+    }
+}
+
+impl Rollout {
+    fn moment(&self) -> u64
+        ensures { result ≡ moment_of self.now.routing.past }
+    {
+        self.moment
+    }
+
+    /// While steps of the attempt are left, the phase may be none.
+    fn phase(&self) -> Phase
+        ensures { first_promotion self.now.routing.strategy self.now.routing.past ≡ None
+            → phase_of self.now.routing.strategy self.now.routing.past ≡ Some result }
+    {
+        self.core.phase()
+    }
+
+    fn selectors(&self) -> Selectors
+        ensures { result ≡ selectors_of self.now.routing.past }
+    {
+        self.core.selectors()
+    }
+
+    fn strategy(&self) -> &Strategy
+        ensures { result.now ≡ self.now.routing.strategy }
+    {
+        &self.strategy
+    }
+
+    fn revisions(&self) -> &[Revision]
+        ensures revisions { let b = self.now.routing in
+            result.now ≡ revisions_of b.strategy b.opening b.past }
+        ensures count { length result.now ≡ length (existing self.now.routing.past) }
+    {
+        finds();
+        self.roster.as_slice()
+    }
+
+    fn deadline_of(&self, number: u64) -> Option<u64>
+        ensures { result ≡ deadline self.now.routing.strategy number self.now.routing.past }
+    {
+        self.deadlines.deadline(number)
+    }
+
+    fn open_count(&self, number: u64) -> usize
+        ensures { result ≡ length (open_at number self.now.routing.past) }
+    {
+        reachable();
+        self.lists.count(number)
+    }
+
+    fn is_draining(&self, number: u64) -> bool
+        ensures { let b = self.now.routing in
+            result ≡ is_draining_in b.strategy number b.past }
+    {
+        reachable();
+        let exempt = self.core.selectors();
+        self.deadlines.is_due(number, self.moment, exempt) && !self.is_empty_at(number)
+    }
+
+    fn history(&self) -> &History
+        ensures opening { result.now.opening ≡ self.now.routing.opening }
+        ensures closed { result.now.closed ≡ self.now.routing.closed }
+        ensures past { result.now.past ≡ self.now.routing.past }
     {
         &self.history
     }

@@ -1,1 +1,2 @@
 mod Attempts
+mod Phases

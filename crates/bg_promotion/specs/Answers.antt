@@ -1,15 +1,13 @@
--- What each command is answered, and what the services select.
+-- What each command is answered.
 use Rattle.std.specs.Prelude.{Bool, true, false, if◌then◌else◌, not, List, Result, Ok, Err}
 use Rattle.bg_history.specs.declared.entry.Entry.{Entry}
 use Rattle.bg_history.specs.declared.entry.Analysis.{Analysis}
 use Rattle.bg_history.specs.declared.entry.Outcome.{Outcome}
 use Rattle.bg_history.specs.declared.entry.Outcome.TheVariants.{Ready, Resumed, Switched, Promoted, ScaledDown, Removed}
 use Rattle.bg_strategy.specs.declared.strategy.Strategy.{Strategy}
-use Rattle.bg_revisions.specs.declared.revision.Selectors.{Selectors}
-use Rattle.bg_history.specs.Turns.{stable_of, newest_of, is_running, is_halted}
+use Rattle.bg_history.specs.Turns.{is_running, is_halted}
 use Rattle.bg_history.specs.Attempts.{has_promote_full}
 use Rattle.bg_history.specs.Phases.{is_paused}
-use Rattle.bg_history.specs.Selections.{active_of, preview_of}
 use Rattle.bg_history.specs.Allowed.{awaits}
 use Rattle.bg_promotion.specs.declared.faults.AbortFault as abort
 use Rattle.bg_promotion.specs.declared.faults.AbortFault.TheVariants as abort_fault
@@ -21,15 +19,6 @@ use Rattle.bg_promotion.specs.declared.faults.PromoteFullFault as full
 use Rattle.bg_promotion.specs.declared.faults.PromoteFullFault.TheVariants as full_fault
 use Rattle.bg_promotion.specs.declared.faults.VerdictFault as verdict
 use Rattle.bg_promotion.specs.declared.faults.VerdictFault.TheVariants as verdict_fault
-
--- the revisions that are active, preview, stable and newest
-abbrev pub selectors_of : List Entry → Selectors
-selectors_of past = record {
-  active = active_of past;
-  preview = preview_of past;
-  stable = stable_of past;
-  newest = newest_of past;
-}
 
 -- an abort is refused where the last attempt is stopped already, and where none runs
 abbrev pub abort_answer : List Entry → Result (Unit {0}) abort.AbortFault

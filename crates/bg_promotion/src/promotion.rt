@@ -1,10 +1,11 @@
 //! The core: where the attempt to promote the newest revision stands.
-ghost use Rattle.std.specs.Prelude.{◌≡◌, List, [], IfSome, IfNone};
+ghost use Rattle.std.specs.Prelude.{◌≡◌, List, [], Some, None, IfSome, IfNone};
 ghost use Rattle.bg_strategy.specs.declared.strategy.Strategy.{Strategy};
 ghost use Rattle.bg_history.specs.declared.entry.Entry.{Entry};
+ghost use Rattle.bg_history.specs.Promotion.{first_promotion};
 ghost use Rattle.bg_promotion.specs.Stands.{StandsFor};
 ghost use Rattle.bg_promotion.specs.Phases.{phase_of};
-ghost use Rattle.bg_promotion.specs.Answers.{selectors_of};
+ghost use Rattle.bg_history.specs.Selections.{selectors_of};
 
 mod attempt;
 mod events;
@@ -100,6 +101,8 @@ impl Core {
             → IfSome (phase_of s past) (λ p. result ≡ p) }
         ensures none { (s : Strategy) (past : List Entry) → StandsFor s self.now past
             → IfNone (phase_of s past) (result ≡ Phase.Sizing) }
+        ensures settled { (s : Strategy) (past : List Entry) → StandsFor s self.now past
+            → first_promotion s past ≡ None → phase_of s past ≡ Some result }
     {
         if self.halted {
             Phase::Aborted

@@ -171,6 +171,13 @@ impl Roster {
         self.revisions.get(place)
     }
 
+    /// All revisions, in the order of numbers.
+    pub fn as_slice(&self) -> &[Revision]
+        ensures { result.now ≡ self.now.revisions }
+    {
+        &self.revisions
+    }
+
     /// Sets how many endpoints a revision wants; where it wants none, none is available.
     pub fn set_desired(&mut self, number: u64, desired: u32)
         requires { IsSome (numbered number self.old.revisions) }

@@ -1,59 +1,74 @@
-use Rattle.std.proofs.Common.{◌≡◌, ◌∷◌, None, false, List, map, refl, sym, ap, ◌∙◌, subst, arith}
-use Rattle.bg_history.specs.declared.entry.Entry.{Entry}
-use Rattle.bg_history.specs.declared.entry.Entry.TheVariants as event
-use Rattle.bg_history.specs.Kept.{Kept}
-use Rattle.std.specs.Prelude.{OnOk, Ok}
-use Rattle.bg_revisions.specs.Rosters.{Listing, reported}
+use Rattle.std.proofs.Common.{◌≡◌, ◌≤◌, ◌+◌, ◌*◌, ◌∷◌, ℕ, true, false, length, None, Result, Ok, ap, ◌∙◌, subst, arith}
+use Rattle.bg_history.specs.Steps.{is_settled}
+use Rattle.bg_pasts.specs.Reachable.{Reachable}
 use Rattle.bg_book.specs.declared.calls.Control.{Control}
-use Rattle.bg_book.specs.declared.calls.Control.TheVariants.{Tick, Available}
-use Rattle.bg_book.specs.Refusals.{event_fault, is_full_for_control, event_of}
-use Rattle.bg_book.specs.Changes.{Stepped}
+use Rattle.bg_book.specs.declared.fault.ControlFault.{ControlFault}
+use Rattle.bg_book.specs.declared.limits.Limits.{Limits}
+use Rattle.bg_book.specs.Changes.{with_past}
+use Rattle.bg_book.specs.Refusals.{all_open, refuse, event_of, is_full_for_control, control_refusal}
 use Rattle.bg_book.specs.Routing.{Routing}
-use Rattle.bg_book.specs.Invariant.{RunningState, Stands, routing_of, running_of}
-use Rattle.bg_book.proofs.Events.{accepted, stands-Available, stepped_alone, kept_is, reported_ok, recorded}
-use Rattle.bg_book.proofs.Quiet.{quiet-Tick, quiet-Available}
+use Rattle.bg_book.specs.Settling.{Reached, Recorded}
+use Rattle.bg_book.specs.Invariant.{Midway, AtRest}
+use Rattle.bg_book.proofs.Events.{no_fault, accepted, within}
+use Rattle.bg_book.proofs.Reaching.{follow_few, reached_few, open_after, length_after, limits_after, control_opens_none}
 use Rattle.bg_book.proofs.book.Book.control.Goals as goal
 
--- the past after an entry was pushed onto the reserved history
-stepped : (b : Routing) (k : RunningState) (now : Routing) (control : Control) (c : Control) (reserved pushed old : Kept) → Stands b k → b ≡ now → control ≡ c
-    → ((past : List Entry) → past ≡ b.past → Stepped b.strategy (event_of c) past (event_of c ∷ past) 0)
-    → record reserved { spare = old.spare } ≡ old → old.past ≡ b.past → pushed ≡ record reserved { past = event_of c ∷ reserved.past; spare = pushed.spare }
-    → Stepped now.strategy (event_of control) now.past pushed.past 0
-stepped b k now control c reserved pushed old stand is control_is step rest same entry =
-    subst (λ (v : Routing). Stepped v.strategy (event_of control) v.past pushed.past 0) is
-    (subst (λ (x : Control). Stepped b.strategy (event_of x) b.past pushed.past 0) (sym control_is)
-    (subst (λ (xs : List Entry). Stepped b.strategy (event_of c) b.past xs 0)
-    (sym (ap (λ (h : Kept). h.past) (kept_is (event_of c) old reserved pushed rest entry) ∙ ap (λ xs. event_of c ∷ xs) same))
-    (step b.past refl)))
+pub check-requires : goal.check-requires
+check-requires c = omega (arith, c.self.invariant.room, c.stands.ensures.entries)
 
-pub returns-in-Tick-clause-step : goal.returns-in-Tick-clause-step
-returns-in-Tick-clause-step c =
-    stepped _ _ _ _ (Tick c.in-Tick.moment) c.reserve.new.self c.push_reserved.new.self c.self.inside.history c.self.invariant c.self.view_is c.in-Tick.is
-    (λ past e. stepped_alone _ c.self.inside.history.opening _ past (rw e (quiet-Tick _ _ _ _ c.self.invariant.quiet)))
-    c.reserve.ensures.rest refl c.push_reserved.ensures.entry
+pub places_kept-reserved-requires : goal.places_kept-reserved-requires
+places_kept-reserved-requires c = omega (arith, c.self.invariant.room, c.stands.ensures.entries)
 
-pub returns-in-Available-clause-step : goal.returns-in-Available-clause-step
-returns-in-Available-clause-step c =
-    stepped _ _ _ _ (Available c.in-Available.revision c.in-Available.size) c.reserve.new.self c.push_reserved-in-Available.new.self c.self.inside.history c.self.invariant c.self.view_is c.in-Available.is
-    (λ past e. stepped_alone _ c.self.inside.history.opening _ past (rw e (quiet-Available _ _ _ _ _ c.self.invariant.quiet)))
-    c.reserve.ensures.rest refl c.push_reserved-in-Available.ensures.entry
+pub reserve-requires : goal.reserve-requires
+reserve-requires c = omega (arith, c.self.invariant.room, c.stands.ensures.entries, c.places_kept-reserved.ensures)
 
-pub invariant_of-self-in-Available : goal.invariant_of-self-in-Available
-invariant_of-self-in-Available c =
-    let b = routing_of c.self.inside in
-    let k = running_of c.self.inside in
-    let r = c.in-Available.revision in
-    let n = c.in-Available.size in
-    let ok : (event_fault b (Available r n) ≡ None) × (is_full_for_control b.limits b.past ≡ false) =
-    subst (λ (x : Control). (event_fault b x ≡ None) × (is_full_for_control b.limits b.past ≡ false)) c.in-Available.is
-    (subst (λ (v : Routing). (event_fault v c.args.control.now ≡ None) × (is_full_for_control v.limits v.past ≡ false)) (sym c.self.view_is)
-    (accepted c.args.self.now c.args.control.now c.check.result c.in_ok-check.field-0 c.check.ensures c.in_ok-check.was)) in
-    let done : c.set_available-accepted.result ≡ Ok tt = c.set_available-accepted.ensures.result ∙ reported_ok b k r n c.self.invariant ok.0 in
-    let roster : c.set_available-accepted.new.self ≡ record k.roster { revisions = map (reported r n) k.roster.revisions } =
-    subst (λ t. OnOk t (c.set_available-accepted.new.self ≡ record k.roster { revisions = map (reported r n) k.roster.revisions })) done c.set_available-accepted.ensures.reported in
-    recorded b k (event.Available r n) c.set_available-accepted.new.self c.self.inside.moment c.push_reserved-in-Available.new.self c.reserve.new.self c.self.inside.history
-    (λ spare enough. subst (λ (x : Listing). Stands (record b { past = event.Available r n ∷ b.past }) (record k { roster = x; spare = spare })) (sym roster)
-    (stands-Available b k r n spare c.self.invariant
-    (c.neutral.ensures _ _ _ refl c.self.invariant.core) ok.0 ok.1 enough))
-    refl c.reserve.ensures.rest c.push_reserved-in-Available.ensures.entry
-    (omega (arith, c.in_ok-reserve.ensures.ok, c.push_reserved-in-Available.ensures.spare))
+pub settle-requires : goal.settle-requires
+settle-requires c = λ outcomes follow.
+    let b = c.take_in.new.self.routing in
+    let reach : Reachable b.strategy b.opening b.past = c.reachable.ensures b.strategy b.opening b.past c.stands-2.ensures.legal.allowed in
+    let few = follow_few c.work_falls.ensures b.strategy b.past outcomes follow in
+    omega (arith, few, c.work_is_bounded.ensures b.strategy b.past reach.few, c.take_in.ensures.spare, c.in_ok-reserve.ensures.ok, c.places_kept-reserved.ensures)
+
+-- the event wasn't refused
+unrefused : (b now : Routing) (control : Control) (answer : Result (Unit {0}) ControlFault) (t : Unit {0}) → b ≡ now → answer ≡ refuse (control_refusal b control) → answer ≡ Ok t → control_refusal now control ≡ None
+unrefused b now control answer t is judged ok = subst (λ (v : Routing). control_refusal v control ≡ None) is (no_fault (control_refusal b control) answer t judged ok)
+
+pub returns-clause-refusal : goal.returns-clause-refusal
+returns-clause-refusal c = unrefused _ _ c.args.control.now c.check.result c.in_ok-check.field-0 c.self.view_is c.check.ensures c.in_ok-check.was
+
+pub returns-clause-few : goal.returns-clause-few
+returns-clause-few c =
+    let b = c.take_in.new.self.routing in
+    let reach : Reachable b.strategy b.opening b.past = c.reachable.ensures b.strategy b.opening b.past c.stands-2.ensures.legal.allowed in
+    let few = reached_few c.work_falls.ensures b _ c.settle.result 136 c.settle.ensures.reached (c.work_is_bounded.ensures b.strategy b.past reach.few) in
+    omega (arith, few)
+
+-- what holds after the outcomes of an event that had room
+at_rest : (rollout reserved event settled : Midway) (control : Control) (n : ℕ) → AtRest rollout → reserved.routing ≡ rollout.routing → Recorded (event_of control) reserved event
+    → Reached event.routing settled.routing n → n ≤ 136 → settled.spare + n ≡ event.spare → 141 + 3 * all_open rollout.routing.past ≤ reserved.spare
+    → is_full_for_control rollout.routing.limits rollout.routing.past ≡ false → is_settled settled.routing.strategy settled.routing.past ≡ true → AtRest settled
+at_rest rollout reserved event settled control n rest same recorded reached few spare places room quiet =
+    let made : event.routing ≡ with_past rollout.routing (event_of control ∷ rollout.routing.past) rollout.routing.seats =
+    recorded.routing ∙ ap (λ (v : Routing). with_past v (event_of control ∷ v.past) v.seats) same in
+    let kept : all_open settled.routing.past ≡ all_open rollout.routing.past =
+    open_after event.routing settled.routing n reached ∙ ap (λ (v : Routing). all_open v.past) made ∙ control_opens_none control rollout.routing.past in
+    let entries : length settled.routing.past ≡ n + length event.routing.past = length_after event.routing settled.routing n reached in
+    let one : length event.routing.past ≡ length (event_of control ∷ rollout.routing.past) = ap (λ (v : Routing). length v.past) made in
+    let limits : settled.routing.limits ≡ rollout.routing.limits = limits_after event.routing settled.routing n reached ∙ ap (λ (v : Routing). v.limits) made in
+    let full : length rollout.routing.past + 141 + 3 * all_open rollout.routing.past ≤ rollout.routing.limits.entries = within _ _ room in
+    let limit : settled.routing.limits.entries ≡ rollout.routing.limits.entries = ap (λ (l : Limits). l.entries) limits in
+    record {
+      settled = quiet;
+      spare = omega (arith, kept, spare, recorded.spare, places, few);
+      room = omega (arith, kept, entries, one, full, limit, few);
+    }
+
+pub invariant_of-self-2 : goal.invariant_of-self-2
+invariant_of-self-2 c =
+    let b = c.take_in.new.self.routing in
+    let reach : Reachable b.strategy b.opening b.past = c.reachable.ensures b.strategy b.opening b.past c.stands-2.ensures.legal.allowed in
+    let few = reached_few c.work_falls.ensures b _ c.settle.result 136 c.settle.ensures.reached (c.work_is_bounded.ensures b.strategy b.past reach.few) in
+    let refusal = no_fault (control_refusal c.self.inside.rollout.routing c.args.control.now) c.check.result c.in_ok-check.field-0 c.check.ensures c.in_ok-check.was in
+    at_rest c.self.inside.rollout c.reserve.new.self c.take_in.new.self c.settle.new.self c.args.control.now c.settle.result c.self.invariant c.reserve.ensures.routing c.take_in.ensures
+    c.settle.ensures.reached few c.settle.ensures.spare (omega (arith, c.in_ok-reserve.ensures.ok, c.places_kept-reserved.ensures))
+    (accepted c.self.inside.rollout.routing c.args.control.now refusal).1 c.settle.ensures.settled
