@@ -7,6 +7,8 @@ mod book;
 #[cfg(test)]
 mod history;
 #[cfg(test)]
+mod http;
+#[cfg(test)]
 mod ledger;
 #[cfg(test)]
 mod openlist;

@@ -1,0 +1,3 @@
+//! Messages of HTTP.
+
+mod messages;
