@@ -23,7 +23,8 @@ test:
 demo: build
 	bin/bg_switch check < examples/direct.json
 	bin/bg_switch check < examples/tested_before_and_after.json
-	bin/bg_switch replay < examples/two_requests.txt
+	scripts/demo.sh
 
 bench: build
 	bench/replay.sh
+	bench/rollouts.sh

@@ -108,12 +108,10 @@ place_refused() {
     ' "$work/replies"
 }
 
-# Prints the row's input without the line of the script at this place, from 1.
+# Prints the row's input without the line of the script at this place, from 1. A last line without its end stays so.
 without_line() {
-    awk -v place="$1" '
-        !line || NR != line + place
-        !line { sub(/\r$/, ""); if ($0 == "---") line = NR }
-    ' "$row/input"
+    mark=$(awk '{ sub(/\r$/, "") } $0 == "---" { print NR; exit }' "$row/input")
+    LC_ALL=C sed "$((mark + $1))d" "$row/input"
 }
 
 # One line was refused, and all others are answered as in a run without that line, where memory is ample.

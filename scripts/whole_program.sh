@@ -43,7 +43,9 @@ for row in rows/*; do
 done
 
 # The examples.
-expect 0 examples/two_requests.replies '' replay < examples/two_requests.txt
+for example in examples/*.txt; do
+    expect 0 "${example%.txt}.replies" '' replay < "$example"
+done
 expect 0 examples/direct.settings '' check < examples/direct.json
 expect 0 examples/tested_before_and_after.settings '' check < examples/tested_before_and_after.json
 

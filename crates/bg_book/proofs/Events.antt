@@ -1,10 +1,11 @@
 -- What an event that isn't refused meets.
-use Rattle.std.proofs.Common.{◌≡◌, ℕ, ◌≤◌, ◌^◌, Bool, true, false, not, cond, nat_lt, nat_le, List, Option, Some, None, Result, Ok, Err, refl, ap, ◌∙◌, arith}
+use Rattle.std.proofs.Common.{◌≡◌, ℕ, ◌≤◌, ◌^◌, Bool, true, false, not, cond, nat_lt, nat_le, List, map, max, Option, Some, None, Result, Ok, Err, refl, sym, ap, ◌∙◌, subst, arith}
 use Rattle.std.specs.Option.{option_or}
+use Rattle.std.specs.Prelude.{IfSome}
 use Rattle.std.proofs.lemmas.Bool.Decides.{nat_tests}
 use Rattle.bg_strategy.specs.declared.strategy.Strategy.{Strategy}
 use Rattle.bg_revisions.specs.declared.revision.Revision.{Revision}
-use Rattle.bg_revisions.specs.Rosters.{numbered, report_of}
+use Rattle.bg_revisions.specs.Rosters.{Listing, numbered, report_of, resized}
 use Rattle.bg_revisions.specs.declared.revision_fault.RevisionFault.TheVariants.{MoreThanDesired}
 use Rattle.bg_history.specs.declared.entry.Entry.TheVariants as event
 use Rattle.bg_history.specs.declared.entry.Entry.{Entry}
@@ -17,9 +18,10 @@ use Rattle.bg_history.specs.Allowed.{is_allowed}
 use Rattle.bg_listing.specs.Listed.{sized, revision_of, revisions_of}
 use Rattle.bg_book.specs.declared.calls.Control.{Control}
 use Rattle.bg_book.specs.declared.calls.Control.TheVariants.{Tick, Available}
-use Rattle.bg_book.specs.declared.fault.ControlFault.TheVariants as fault
+use Rattle.bg_book.specs.declared.control_fault.ControlFault.TheVariants as fault
 use Rattle.bg_book.specs.Refusals.{fault_if, refuse, is_full_for_control, event_fault, control_refusal}
 use Rattle.bg_book.specs.Routing.{Routing}
+use Rattle.bg_book.specs.Invariant.{Midway}
 use Rattle.bg_book.proofs.Requests.{and_both}
 use Rattle.bg_book.proofs.Legal.{le_test}
 
@@ -48,6 +50,10 @@ within m n h = grind (arith, nat_tests)
 pub it_is : (t : Bool) → not t ≡ false → t ≡ true
 it_is true h = refl
 it_is false h = absurd (cc)
+
+-- an event without a fault has none in the fields of a rollout
+pub fits_inside : (inside now : Midway) (c : Control) → inside ≡ now → event_fault now.routing c ≡ None → event_fault inside.routing c ≡ None
+fits_inside inside now c is fits = subst (λ (m : Midway). event_fault m.routing c ≡ None) (sym is) fits
 
 -- a tick without a fault is allowed
 pub allowed-Tick : (b : Routing) (m : ℕ) → event_fault b (Tick m) ≡ None → is_allowed b.strategy b.opening (event.Tick m) b.past ≡ true
@@ -102,3 +108,13 @@ reported_ok b revisions r n is found fits =
     ap (report_of n) (found_there b.strategy b.opening b.past r revisions is found ok.0)
     ∙ ap (λ (w : ℕ). cond (nat_le n w) (Ok tt) (Err MoreThanDesired)) (wants b.strategy b.opening b.past r)
     ∙ ap (λ t. cond t (Ok tt) (Err MoreThanDesired)) (le_test n (desired b.strategy r b.past) ok.1)
+
+-- a revision that exists and was let grow wants as many as it did, or as many as were asked for
+pub grown : (b : Routing) (r least : ℕ) (old new : Listing) → old.revisions ≡ revisions_of b.strategy b.opening b.past
+    → numbered r (revisions_of b.strategy b.opening b.past) ≡ cond (exists_in r b.past) (Some (revision_of b.strategy b.opening b.past r)) None → exists_in r b.past ≡ true
+    → IfSome (numbered r old.revisions) (λ v. new ≡ record old { revisions = map (resized r (max least v.desired)) old.revisions })
+    → new ≡ record old { revisions = map (resized r (max least (desired b.strategy r b.past))) old.revisions }
+grown b r least old new is found exists made =
+    subst (λ (x : Option Revision). IfSome x (λ v. new ≡ record old { revisions = map (resized r (max least v.desired)) old.revisions }))
+    (found_there b.strategy b.opening b.past r old.revisions is found exists) made
+    ∙ ap (λ (n : ℕ). record old { revisions = map (resized r (max least n)) old.revisions }) (wants b.strategy b.opening b.past r)

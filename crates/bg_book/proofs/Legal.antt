@@ -22,6 +22,7 @@ pub legal_more : (s : Strategy) (o : Opening) (closed : List ℕ) (e : Entry) (p
     → all_given (given closed (e ∷ past)) (request_numbers (e ∷ past)) ≡ true → IsLegal s o closed (e ∷ past)
 legal_more s o closed e past legal allowed numbers = record {
   opening = legal.opening;
+  seats = legal.seats;
   allowed = and_both (is_allowed s o e past) _ allowed legal.allowed;
   numbers = numbers;
 }

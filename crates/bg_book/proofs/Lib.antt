@@ -3,8 +3,10 @@ pub mod Lists
 pub mod Legal
 pub mod Seats
 pub mod Seating
-pub mod Recording
+pub mod Carrying
 pub mod Events
+pub mod Commands
+pub mod Deploys
 pub mod Outcomes
 pub mod Old
 pub mod Seated
@@ -17,3 +19,4 @@ pub mod Headlines
 pub mod Openings
 pub mod FirstSeats
 pub mod Running
+pub mod SeatsOut

@@ -8,7 +8,7 @@ use Rattle.bg_history.specs.Sizes.{is_scaled}
 use Rattle.bg_history.specs.Deadlines.{exists_in, is_spare, is_old, is_first, may_scale_down, may_remove}
 use Rattle.bg_history.specs.Steps.{is_settled}
 use Rattle.std.proofs.Common.{inr}
-use Rattle.std.proofs.lemmas.List.{get_or-replicate}
+use Rattle.std.proofs.lemmas.List.{get_or-replicate, length-replicate}
 use Rattle.std.proofs.lemmas.List.Folds.{sum_by-replicate}
 use Rattle.std.proofs.lemmas.Option.{same_Some}
 use Rattle.bg_strategy.specs.declared.strategy.Strategy.{Strategy}
@@ -83,6 +83,7 @@ stands-opened s name ports count limits seats core fit stand new = record {
   routing = record {
     legal = record {
       opening = and_three (is_label name && are_ports s.replicas ports) (nat_le 1 count) (nat_le count 8) (and_both (is_label name) (are_ports s.replicas ports) fit.name_fits fit.ports_fit) fit.seats_fit;
+      seats = length-replicate count 0;
       allowed = refl;
       numbers = refl;
     };

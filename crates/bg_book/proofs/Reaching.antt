@@ -10,7 +10,7 @@ use Rattle.bg_history.specs.Promotion.{first_promotion}
 use Rattle.bg_history.specs.Requests.{open_requests}
 use Rattle.bg_book.specs.declared.seat.Seat.{Seat}
 use Rattle.bg_book.specs.declared.calls.Control.{Control}
-use Rattle.bg_book.specs.declared.calls.Control.TheVariants.{Tick, Available}
+use Rattle.bg_book.specs.declared.calls.Control.TheVariants.{Tick, Deploy, Available, Verdict, Promote, PromoteFull, Abort, Retry}
 use Rattle.bg_book.specs.Refusals.{all_open, event_of}
 use Rattle.bg_settling.specs.Work.{work}
 use Rattle.bg_book.specs.Changes.{with_past, Stepped}
@@ -104,9 +104,15 @@ reached_few falls from new n most reached bound =
     omega (arith, follow_few falls from.strategy from.past reached.outcomes reached.follow, bound, reached.count_is)
 
 -- a control is no event of a request
-pub control_opens_none : (c : Control) (past : List Entry) → all_open (event_of c ∷ past) ≡ all_open past
-control_opens_none (Tick m) past = refl
-control_opens_none (Available r n) past = refl
+pub control_opens_none : (b : Routing) (c : Control) (past : List Entry) → all_open (event_of b c ∷ past) ≡ all_open past
+control_opens_none b (Tick m) past = refl
+control_opens_none b (Deploy name ports) past = refl
+control_opens_none b (Available r n) past = refl
+control_opens_none b (Verdict analysis result) past = refl
+control_opens_none b Promote past = refl
+control_opens_none b PromoteFull past = refl
+control_opens_none b Abort past = refl
+control_opens_none b Retry past = refl
 
 -- where nothing is left undone, no step of an attempt is next
 none_first : (a b : Option Outcome) → is_none (option_or a b) ≡ true → a ≡ None

@@ -4,8 +4,8 @@ use Rattle.bg_book.specs.declared.fault.OpenFault.{OpenFault}
 use Rattle.bg_book.specs.declared.fault.OpenFault.TheVariants as open_fault
 use Rattle.bg_book.specs.declared.fault.EnterFault.{EnterFault}
 use Rattle.bg_book.specs.declared.fault.EnterFault.TheVariants as enter_fault
-use Rattle.bg_book.specs.declared.fault.ControlFault.{ControlFault}
-use Rattle.bg_book.specs.declared.fault.ControlFault.TheVariants as control_fault
+use Rattle.bg_book.specs.declared.control_fault.ControlFault.{ControlFault}
+use Rattle.bg_book.specs.declared.control_fault.ControlFault.TheVariants as control_fault
 
 -- the name of a fault of an opening
 abbrev pub open_fault_name : OpenFault → List ℕ
@@ -27,7 +27,20 @@ enter_fault_name enter_fault.OutOfMemory = codes "OutOfMemory"
 abbrev pub control_fault_name : ControlFault → List ℕ
 control_fault_name control_fault.MomentTooLarge = codes "MomentTooLarge"
 control_fault_name control_fault.MomentBack = codes "MomentBack"
+control_fault_name control_fault.BadName = codes "BadName"
+control_fault_name control_fault.BadPorts = codes "BadPorts"
+control_fault_name control_fault.SameTemplate = codes "SameTemplate"
+control_fault_name control_fault.PortsDiffer = codes "PortsDiffer"
+control_fault_name control_fault.TooManyRevisions = codes "TooManyRevisions"
 control_fault_name control_fault.NoSuchRevision = codes "NoSuchRevision"
 control_fault_name control_fault.MoreThanDesired = codes "MoreThanDesired"
+control_fault_name control_fault.NoAnalysis = codes "NoAnalysis"
+control_fault_name control_fault.Aborted = codes "Aborted"
+control_fault_name control_fault.NotPaused = codes "NotPaused"
+control_fault_name control_fault.NothingToPromote = codes "NothingToPromote"
+control_fault_name control_fault.AlreadyFull = codes "AlreadyFull"
+control_fault_name control_fault.AlreadyAborted = codes "AlreadyAborted"
+control_fault_name control_fault.NothingToAbort = codes "NothingToAbort"
+control_fault_name control_fault.NotAborted = codes "NotAborted"
 control_fault_name control_fault.HistoryFull = codes "HistoryFull"
 control_fault_name control_fault.OutOfMemory = codes "OutOfMemory"

@@ -1,10 +1,12 @@
 pub mod OpenLists
 pub mod Routing
 pub mod PastState
+pub mod ControlFaults
 pub mod Refusals
 pub mod Changes
 pub mod Headline
 pub mod Invariant
 pub mod Settling
+pub mod Recording
 pub mod Runs
 pub mod FaultNames

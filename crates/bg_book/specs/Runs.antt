@@ -1,5 +1,5 @@
 -- What a list of calls is answered, and what it makes of a book.
-use Rattle.std.specs.Prelude.{◌≡◌, ◌≢◌, ◌≤◌, ℕ, List, [], ◌∷◌, slice_get, slice_set, Option, Some, None, ◌⊎◌}
+use Rattle.std.specs.Prelude.{◌≡◌, ◌≢◌, ◌≤◌, ℕ, zero, suc, List, [], ◌∷◌, ◌++◌, slice_get, slice_set, Option, Some, None, ◌⊎◌}
 use Rattle.bg_revisions.specs.declared.revision.Service.{Service}
 use Rattle.bg_history.specs.declared.entry.Entry.TheVariants as entry
 use Rattle.bg_book.specs.declared.calls.Call.{Call}
@@ -8,7 +8,7 @@ use Rattle.bg_book.specs.declared.calls.Control.{Control}
 use Rattle.bg_book.specs.declared.calls.Reply.{Reply}
 use Rattle.bg_book.specs.declared.calls.Reply.TheVariants.{Entered, EnterRefused, Left, Done, ControlRefused, NoSuchSeat, SeatBusy, SeatIdle}
 use Rattle.bg_book.specs.declared.fault.EnterFault.TheVariants as enter_fault
-use Rattle.bg_book.specs.declared.fault.ControlFault.TheVariants as control_fault
+use Rattle.bg_book.specs.declared.control_fault.ControlFault.TheVariants as control_fault
 use Rattle.bg_book.specs.declared.seat.Seat.{Seat}
 use Rattle.bg_book.specs.Refusals.{enter_refusal, control_refusal, event_of, IsRefusedBy, IsTicket}
 use Rattle.bg_book.specs.Changes.{Stepped, with_past, enter_entry, seat_in, seat_out}
@@ -61,7 +61,7 @@ abbrev pub ControlStep : Routing → List Seat → Control → Reply → Routing
 ControlStep b seats c (Done n) new new_seats =
     (control_refusal b c ≡ None) × (n ≤ 140) × (new ≡ with_past b new.past b.seats)
     × (new_seats ≡ seats)
-    × Stepped b.strategy (event_of c) b.past new.past n
+    × Stepped b.strategy (event_of b c) b.past new.past n
 ControlStep b seats c (ControlRefused e) new new_seats =
     IsRefusedBy (control_refusal b c) control_fault.OutOfMemory e × Unchanged b seats new new_seats
 ControlStep b seats c _ new new_seats = ⊥
@@ -103,3 +103,17 @@ Runs b seats (c ∷ calls) [] new new_seats = ⊥
 Runs b seats (c ∷ calls) (reply ∷ replies) new new_seats =
     (next : Routing) × ((next_seats : List Seat)
     × (CallStep b seats c reply next next_seats × Runs next next_seats calls replies new new_seats))
+
+-- a leave at each of so many places, in order
+abbrev pub leaves_at : ℕ → List Call
+leaves_at zero = []
+leaves_at (suc place) = leaves_at place ++ call.Leave place ∷ []
+
+-- each place was left, one after the other
+abbrev pub LeavesAll : Routing → List Seat → ℕ → Routing → List Seat → Type 0
+LeavesAll b seats count new new_seats =
+    (replies : List Reply) × Runs b seats (leaves_at count) replies new new_seats
+
+-- no seat holds a request
+abbrev pub AreOut : List Seat → Type 0
+AreOut seats = (i : ℕ) (seat : Seat) → slice_get seats i ≡ Some seat → seat.number ≡ 0

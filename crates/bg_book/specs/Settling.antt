@@ -1,12 +1,10 @@
 -- How a past becomes another by the outcomes that it allows.
-use Rattle.std.specs.Prelude.{◌≡◌, ◌+◌, ℕ, Bool, not, ◌&&◌, ◌==◌, List, ◌∷◌, length}
+use Rattle.std.specs.Prelude.{◌≡◌, ℕ, Bool, not, ◌&&◌, ◌==◌, List, length}
 use Rattle.bg_revisions.specs.declared.revision.Revision.{Revision}
 use Rattle.bg_revisions.specs.declared.revision.Selectors.{Selectors}
-use Rattle.bg_history.specs.declared.entry.Entry.{Entry}
 use Rattle.bg_history.specs.declared.entry.Outcome.{Outcome}
 use Rattle.bg_history.specs.Steps.{Follows, with_outcomes}
 use Rattle.bg_book.specs.Changes.{with_past}
-use Rattle.bg_book.specs.Invariant.{Midway}
 use Rattle.bg_book.specs.Routing.{Routing}
 
 -- the routing was reached by so many outcomes, each the first that was allowed where it stands
@@ -15,11 +13,6 @@ pub record Reached (from now : Routing) (n : ℕ) : Type 0 where
   pub count_is : length outcomes ≡ n
   pub follow : Follows from.strategy outcomes from.past
   pub now_is : now ≡ with_past from (with_outcomes outcomes from.past) from.seats
-
--- an entry was recorded that no seat makes: it stands in front of the past, and took a place
-pub record Recorded (e : Entry) (old new : Midway) : Type 0 where
-  pub routing : new.routing ≡ with_past old.routing (e ∷ old.routing.past) old.routing.seats
-  pub spare : new.spare + 1 ≡ old.spare
 
 -- the revision isn't scaled, and is neither selected nor the newest
 abbrev pub old_among : Selectors → Revision → Bool

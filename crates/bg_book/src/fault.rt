@@ -69,42 +69,6 @@ impl EnterFault {
     }
 }
 
-/// Why an event is refused, in the order in which the faults are looked for.
-#[derive(Clone, Copy, PartialEq, Eq, Debug, Drop, Error)]
-pub enum ControlFault {
-    #[error("a moment is at most 2^53 seconds")]
-    MomentTooLarge,
-    #[error("the moment lies before the book's")]
-    MomentBack,
-    #[error("no revision has this number")]
-    NoSuchRevision,
-    #[error("more endpoints are reported than the revision wants")]
-    MoreThanDesired,
-    #[error("the history has no room left")]
-    HistoryFull,
-    #[error("out of memory")]
-    OutOfMemory,
-}
-
-impl ControlFault {
-    ghost use Rattle.std.specs.Prelude.{◌≡◌};
-    ghost use Rattle.bg_book.specs.FaultNames.{control_fault_name};
-
-    /// The name of the fault: that of its variant.
-    pub fn name(&self) -> &'static str
-        ensures { result.now ≡ control_fault_name self.now }
-    {
-        match self {
-            ControlFault::MomentTooLarge => "MomentTooLarge",
-            ControlFault::MomentBack => "MomentBack",
-            ControlFault::NoSuchRevision => "NoSuchRevision",
-            ControlFault::MoreThanDesired => "MoreThanDesired",
-            ControlFault::HistoryFull => "HistoryFull",
-            ControlFault::OutOfMemory => "OutOfMemory",
-        }
-    }
-}
-
 /// Why a list of calls wasn't begun.
 #[derive(Clone, Copy, PartialEq, Eq, Debug, Drop, Error)]
 pub enum RunFault {
@@ -131,17 +95,6 @@ impl From<AllocError> for EnterFault {
 
     fn from(_refused: AllocError) -> EnterFault {
         EnterFault::OutOfMemory
-    }
-}
-
-impl From<AllocError> for ControlFault {
-    ghost use Rattle.std.specs.Prelude.{◌≡◌};
-    ghost use Rattle.bg_book.specs.declared.fault.ControlFault.TheVariants.{OutOfMemory};
-
-    ghost from_gives = { λ _ e. e ≡ OutOfMemory };
-
-    fn from(_refused: AllocError) -> ControlFault {
-        ControlFault::OutOfMemory
     }
 }
 

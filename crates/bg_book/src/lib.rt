@@ -7,14 +7,17 @@
 mod book;
 mod calls;
 mod control;
+mod control_fault;
 mod enter;
 mod fault;
+mod judging;
 pub mod laws;
 mod leave;
 mod limits;
 mod open_lists;
 mod opening;
 mod readers;
+mod recording;
 mod rollout;
 mod run;
 mod seat;
@@ -22,6 +25,7 @@ mod settling;
 
 pub use book::Book;
 pub use calls::{Call, Control, Left, Reply, Ticket};
-pub use fault::{ControlFault, EnterFault, OpenFault, RunFault};
+pub use control_fault::ControlFault;
+pub use fault::{EnterFault, OpenFault, RunFault};
 pub use limits::{Limits, MOST_SEATS};
 pub use seat::Seat;

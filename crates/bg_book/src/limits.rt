@@ -9,6 +9,9 @@ pub const MOST_SEATS: u32 = 8;
 /// outcomes after it.
 pub(crate) const PLACES_OF_A_REQUEST: u64 = 3;
 
+/// The most entries that an event makes: its own, and 140 outcomes.
+pub(crate) const MOST_ENTRIES: u64 = 141;
+
 /// The most entries that a history may have, and the most requests that may be given a number.
 #[derive(Clone, Copy, PartialEq, Eq, Debug, Drop)]
 pub struct Limits {

@@ -1,7 +1,8 @@
 //! The lists of open requests.
-ghost use Rattle.std.specs.Prelude.{◌≡◌, ◌==◌, ◌++◌, ◌∷◌, [], length, not, filter, OnOk, OnErr, IfOk, IsSome, find, position, option_copied};
+ghost use Rattle.std.specs.Prelude.{◌≡◌, ◌<◌, ◌==◌, ◌++◌, ◌∷◌, [], length, not, filter, OnOk, OnErr, IfOk, IsSome, find, position, option_copied};
 ghost use Rattle.bg_book.specs.OpenLists.{changed, list_of};
 
+use bg_revisions::MOST_REVISIONS;
 use std::alloc::{AllocError, Global};
 use std::marker::Model;
 
@@ -59,6 +60,7 @@ impl OpenList {
 /// A list of open requests for each revision that exists, in order of number.
 #[derive(Drop)]
 pub(crate) struct OpenLists {
+    alloc: Global,
     lists: Vec<OpenList>,
 }
 
@@ -66,22 +68,38 @@ impl Model for OpenLists {
     ghost use Rattle.std.specs.Prelude.{List};
     ghost use Rattle.bg_book.specs.OpenLists.{OpenAt};
 
+    ghost use Rattle.std.specs.Prelude.{◌≤◌, vec_capacity};
+
     ghost Value = { List OpenAt };
 
     ghost view = { λ l. l.lists.items };
+
+    ghost invariant = { λ l. 64 ≤ vec_capacity l.lists };
 }
 
 impl OpenLists {
-    /// The list of revision 1 alone, without requests; refused only where memory is.
+    /// The list of revision 1 alone, without requests, and room for as many as there can be
+    /// revisions; refused only where memory is.
     pub(crate) fn new(alloc: Global) -> Result<OpenLists, AllocError>
         ensures { IfOk result (λ l. l ≡ record { revision = 1; requests = [] } ∷ []) }
     {
-        let mut lists = Vec::with_capacity(alloc, 1)?;
+        let mut lists = Vec::with_capacity(alloc, MOST_REVISIONS)?;
         lists.push_reserved(OpenList {
             revision: 1,
             requests: Vec::new(alloc),
         });
-        Ok(OpenLists { lists })
+        Ok(OpenLists { alloc, lists })
+    }
+
+    /// Adds a list without requests at the end, for a revision that has none yet; it takes no memory.
+    pub(crate) fn add(&mut self, revision: u64)
+        requires { length self.old < 64 }
+        ensures { self.new ≡ self.old ++ record { revision = revision; requests = [] } ∷ [] }
+    {
+        self.lists.push_reserved(OpenList {
+            revision,
+            requests: Vec::new(self.alloc),
+        });
     }
 
     /// How many requests are open at a revision; 0 where it has no list.

@@ -22,28 +22,29 @@ use std::alloc::{AllocError, Global};
 
 impl Book {
     /// Opens a book whose revision 1 has this name and these ports, wants its full size and has no endpoint
-    /// available; all services select it. Gives the book and its seats in order of index, each without a call.
+    /// available; all services select it. Gives the book, which keeps a copy of the strategy, and its seats in
+    /// order of index, each without a call.
     ///
     /// Refused, in this order: `BadName` where the name is no DNS label, `BadPorts` where there aren't exactly
     /// `replicas` distinct ports from 1, `BadSeats` where there aren't 1 to 8 seats, `BadLimits` where a limit is
     /// above the usual one, `OutOfMemory`.
     pub fn open(
         alloc: Global,
-        strategy: Strategy,
+        strategy: &Strategy,
         name: &str,
         ports: &[u16],
         seats: u32,
         limits: Limits,
     ) -> Result<(Book, Vec<Seat>), OpenFault>
         ensures refusal { AnswersBy
-            (open_refusal strategy name.now ports.now seats limits) OutOfMemory result }
+            (open_refusal strategy.now name.now ports.now seats limits) OutOfMemory result }
         ensures book { IfOk result
-            (λ r. r.0 ≡ opened strategy name.now ports.now seats limits r.1.items) }
+            (λ r. r.0 ≡ opened strategy.now name.now ports.now seats limits r.1.items) }
         ensures seats { IfOk result (λ r. NewSeats seats r.1.items) }
         ensures known { IfOk result (λ r. AreKnown r.0 r.1.items) }
         ensures apart { IfOk result (λ r. AreApart r.1.items) }
     {
-        if let Some(fault) = opening_fault(&strategy, name, ports, seats, limits) {
+        if let Some(fault) = opening_fault(strategy, name, ports, seats, limits) {
             return Err(fault);
         }
         Book::build(alloc, strategy, name, ports, seats, limits)
@@ -52,20 +53,21 @@ impl Book {
     /// The book of an opening without a fault, and its seats; refused only where memory is.
     fn build(
         alloc: Global,
-        strategy: Strategy,
+        strategy: &Strategy,
         name: &str,
         ports: &[u16],
         seats: u32,
         limits: Limits,
     ) -> Result<(Book, Vec<Seat>), OpenFault>
-        requires { open_refusal strategy name.now ports.now seats limits ≡ None }
+        requires { open_refusal strategy.now name.now ports.now seats limits ≡ None }
         ensures book { IfOk result
-            (λ r. r.0 ≡ opened strategy name.now ports.now seats limits r.1.items) }
+            (λ r. r.0 ≡ opened strategy.now name.now ports.now seats limits r.1.items) }
         ensures seats { IfOk result (λ r. NewSeats seats r.1.items) }
         ensures known { IfOk result (λ r. AreKnown r.0 r.1.items) }
         ensures apart { IfOk result (λ r. AreApart r.1.items) }
         ensures err { IfErr result (λ e. e ≡ OutOfMemory) }
     {
+        let strategy = strategy.clone()?;
         let rollout = Rollout::open(alloc, strategy, name, ports, seats, limits)?;
         let handed_out = new_seats(alloc, seats)?;
         Ok((Book { alloc, rollout }, handed_out))

@@ -1,6 +1,6 @@
 //! How a list of calls is made.
-ghost use Rattle.std.specs.Prelude.{◌≡◌, OnErr, IfOk, slice_get};
-ghost use Rattle.bg_book.specs.Runs.{AreKnown, AreApart, EnterAt, LeaveAt, CallStep, Runs, Unchanged};
+ghost use Rattle.std.specs.Prelude.{◌≡◌, OnErr, IfOk, length, slice_get};
+ghost use Rattle.bg_book.specs.Runs.{AreKnown, AreApart, AreOut, EnterAt, LeaveAt, LeavesAll, CallStep, Runs, Unchanged};
 
 use crate::book::Book;
 use crate::calls::{Call, Reply};
@@ -47,6 +47,21 @@ impl Book {
                 Ok(outcomes) => Reply::Done(outcomes),
                 Err(fault) => Reply::ControlRefused(fault),
             },
+        }
+    }
+
+    /// Lets each request that is in leave, in the order of the places. It takes no memory.
+    pub fn leave_all(&mut self, seats: &mut [Seat])
+        requires known { AreKnown self.old seats.old }
+        requires apart { AreApart seats.old }
+        ensures left { LeavesAll self.old seats.old (length seats.old) self.new seats.new }
+        ensures out { AreOut seats.new }
+        ensures known { AreKnown self.new seats.new }
+        ensures apart { AreApart seats.new }
+    {
+        for place in 0..seats.len() {
+            // At a seat that is out nothing changes.
+            let _reply = self.leave_at(seats, place);
         }
     }
 

@@ -5,7 +5,8 @@ ghost use Rattle.bg_history.specs.Requests.{open_at};
 ghost use Rattle.bg_history.specs.Selections.{selectors_of};
 ghost use Rattle.bg_history.specs.Sizes.{existing};
 ghost use Rattle.bg_history.specs.Steps.{first_allowed, is_settled, Follows};
-ghost use Rattle.bg_book.specs.Settling.{Reached, Recorded, old_among};
+ghost use Rattle.bg_book.specs.Recording.{Recorded};
+ghost use Rattle.bg_book.specs.Settling.{Reached, old_among};
 ghost use Rattle.bg_history.specs.declared.entry.Entry.TheVariants as entry;
 ghost use Rattle.bg_history.specs.declared.entry.Outcome.{Outcome};
 

@@ -1,5 +1,5 @@
 -- What a call makes of a past: its event, and the outcomes that this allows.
-use Rattle.std.specs.Prelude.{◌≡◌, ℕ, Bool, true, ◌&&◌, nat_le, List, [], ◌∷◌, find, Option, Some, is_none, IsTrue}
+use Rattle.std.specs.Prelude.{◌≡◌, ℕ, Bool, true, ◌&&◌, nat_le, List, [], ◌∷◌, find, length, Option, Some, is_none, IsTrue}
 use Rattle.std.specs.List.{list_all}
 use Rattle.std.specs.Option.{option_or, option_map}
 use Rattle.bg_history.specs.declared.entry.Entry.{Entry}
@@ -61,9 +61,10 @@ is_opening s o =
 abbrev pub all_given : ℕ → List ℕ → Bool
 all_given greatest numbers = list_all (λ n. nat_le 1 n && nat_le n greatest) numbers
 
--- the opening is well formed, each entry was allowed where it stands, and each request number is
--- one that was given
+-- the opening is well formed, each seat has a count of closed requests, each entry was allowed
+-- where it stands, and each request number is one that was given
 pub record IsLegal (s : Strategy) (o : Opening) (closed : List ℕ) (past : List Entry) : Type 0 where
   pub opening : IsTrue (is_opening s o)
+  pub seats : length closed ≡ o.seats
   pub allowed : IsTrue (all_allowed s o past)
   pub numbers : IsTrue (all_given (given closed past) (request_numbers past))

@@ -99,7 +99,10 @@ impl<N: Names> SeatRecord<N> {
     {
         self.agree(&mut seat);
         let calls = seat.calls();
-        let Seat { side: _ } = seat;
+        let Seat { side } = seat;
+        // each side by a call: dropped here, its eight cases would be proved for each of the other's
+        drop(side);
+        drop(self);
         calls
     }
 }

@@ -4,5 +4,5 @@ pub mod Marks
 pub mod LineWords
 pub mod WordNumbers
 pub mod PlainLines
-pub mod CommandsRead
 pub mod LongLines
+pub mod LineReadings

@@ -5,7 +5,7 @@ use Rattle.std.specs.List.{All}
 use Rattle.std.proofs.lemmas.Bool.{cond-false, cond-true, le-ltb, lt-ltb, ne_eqb}
 use Rattle.std.proofs.lemmas.List.Elements.{All-from_get_or}
 use Rattle.std.proofs.lemmas.List.Splits.{slice_split_at, slice_split_none}
-use Rattle.bg_operator.specs.Commands.{words_of}
+use Rattle.bg_operator.specs.Words.{words_of}
 
 -- no byte is a space
 abbrev pub NoSpace : List ℕ → Type 0

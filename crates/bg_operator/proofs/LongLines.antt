@@ -1,13 +1,14 @@
--- A line that is too long orders nothing.
-use Rattle.std.proofs.Common.{◌≡◌, ◌<◌, ℕ, false, ◌&&◌, List, length, None, if◌then◌else◌, ap, arith}
-use Rattle.std.specs.Prelude.{nat_le}
+-- A line that is too long is read as that fault.
+use Rattle.std.proofs.Common.{◌≡◌, ◌<◌, ℕ, true, List, length, None, Some, if◌then◌else◌, Err, ap, arith}
+use Rattle.std.specs.Prelude.{nat_lt}
 use Rattle.std.specs.List.{list_all}
 use Rattle.std.proofs.lemmas.Bool.Decides.{nat_tests}
-use Rattle.bg_operator.specs.Commands.{command_of, command_in, words_of, is_printable}
+use Rattle.bg_operator.specs.declared.line_fault.LineFault.TheVariants.{NotAscii, TooLong}
+use Rattle.bg_operator.specs.Commands.{is_printable, line_reading}
+use Rattle.bg_operator.proofs.LineReadings.{read_by_bytes}
 
-not_short : (n : ℕ) → 4096 < n → nat_le n 4096 ≡ false
-not_short n far = grind (arith, nat_tests)
+is_longer : (n : ℕ) → 4096 < n → nat_lt 4096 n ≡ true
+is_longer n far = grind (arith, nat_tests)
 
-pub orders_nothing : (line : List ℕ) → 4096 < length line → command_of line ≡ None
-unfolding command_of
-orders_nothing line far = ap (λ t. if t && list_all is_printable line then command_in (words_of line) else None) (not_short (length line) far)
+pub is_too_long : (line : List ℕ) → 4096 < length line → line_reading line ≡ Err TooLong
+is_too_long line far = read_by_bytes line TooLong (ap (λ t. if t then Some TooLong else if list_all is_printable line then None else Some NotAscii) (is_longer (length line) far))

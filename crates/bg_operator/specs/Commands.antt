@@ -1,134 +1,178 @@
 -- What a line of a script orders.
-use Rattle.std.specs.Prelude.{◌≡◌, ℕ, ◌^◌, Bool, ◌&&◌, List, [], ◌∷◌, map, filter, length, ◌==◌, if◌then◌else◌, nat_le, nat_lt, codes, bytes_eq, Option, Some, None, option_map, ⊤}
-use Rattle.std.specs.Option.{option_and_then}
-use Rattle.std.specs.List.{list_all, slice_split}
-use Rattle.std.specs.Char.{is_ascii_digit}
+use Rattle.std.specs.Prelude.{◌≡◌, ℕ, Bool, ◌&&◌, List, [], ◌∷◌, map, find, length, if◌then◌else◌, nat_le, nat_lt, codes, bytes_eq, Option, Some, None, option_map, Result, Ok, Err, ⊤, ◌⊎◌}
+use Rattle.std.specs.Option.{ok_or, option_and_then, option_map_or}
+use Rattle.std.specs.List.{list_all}
 use Rattle.std.specs.Str.Parse.{digits_value}
-use Rattle.bg_revisions.specs.declared.revision.Service.{Service}
-use Rattle.bg_revisions.specs.declared.revision.Service.TheVariants.{Active, Preview}
-use Rattle.bg_book.specs.declared.calls.Call.{Call}
-use Rattle.bg_book.specs.declared.calls.Call.TheVariants as call
-use Rattle.bg_book.specs.declared.calls.Control.TheVariants.{Tick, Available}
+use Rattle.bg_book.specs.declared.calls.Control.TheVariants.{Tick, Deploy, Available, Verdict, Promote, PromoteFull, Abort, Retry}
 use Rattle.bg_operator.specs.declared.command.Command.{Command}
-use Rattle.bg_operator.specs.declared.command.Command.TheVariants.{Open, Make, Report, Quit}
-use Rattle.bg_operator.specs.declared.words.Words.{Words}
+use Rattle.bg_operator.specs.declared.command.Command.TheVariants.{Open, Control, Enter, Leave, Report, Quit}
 use Rattle.bg_operator.specs.declared.line_fault.LineFault.{LineFault}
-use Rattle.bg_operator.specs.declared.line_fault.LineFault.TheVariants.{UnknownWord, OutOfMemory}
+use Rattle.bg_operator.specs.declared.line_fault.LineFault.TheVariants.{TooLong, NotAscii, Empty, UnknownWord, WrongCount, OutOfMemory}
+use Rattle.bg_operator.specs.Words.{analyses, meaning_in, results, services, words_in, words_of}
+use Rattle.bg_operator.specs.Shapes.{Shape, AnyWord, Number, OneOf, Exactly, AtMost, AndMore, shape_fault}
+
+-- A row of the table of lines: the first word, the words that may follow, and what they order. Words
+-- of another shape order nothing.
+pub record Row : Type 0 where
+  pub first : List ℕ
+  pub shape : Shape
+  pub order : List (List ℕ) → Option Command
+
+-- the command of a revision's name and its ports
+abbrev pub with_template : (List ℕ → List ℕ → Command) → List (List ℕ) → Option Command
+with_template command (name ∷ ports) = Some (command name (map (digits_value 10) ports))
+with_template command [] = None
+
+-- a revision's name, and one port or more
+abbrev pub template_shape : Shape
+template_shape = AndMore (AnyWord ∷ []) (Number 16)
+
+-- `open NAME PORT..`
+abbrev pub open_row : Row
+open_row = record {
+  first = codes "open";
+  shape = template_shape;
+  order = with_template Open;
+}
+
+-- `deploy NAME PORT..`
+abbrev pub deploy_row : Row
+deploy_row = record {
+  first = codes "deploy";
+  shape = template_shape;
+  order = with_template (λ name ports. Control (Deploy name ports));
+}
+
+abbrev pub tick_order : List (List ℕ) → Option Command
+tick_order (moment ∷ []) = Some (Control (Tick (digits_value 10 moment)))
+tick_order _ = None
+
+-- `tick MOMENT`
+abbrev pub tick_row : Row
+tick_row = record {
+  first = codes "tick";
+  shape = Exactly (Number 64 ∷ []);
+  order = tick_order;
+}
+
+abbrev pub available_order : List (List ℕ) → Option Command
+available_order (revision ∷ size ∷ []) =
+    Some (Control (Available (digits_value 10 revision) (digits_value 10 size)))
+available_order _ = None
+
+-- `available REVISION SIZE`
+abbrev pub available_row : Row
+available_row = record {
+  first = codes "available";
+  shape = Exactly (Number 64 ∷ Number 32 ∷ []);
+  order = available_order;
+}
+
+abbrev pub verdict_order : List (List ℕ) → Option Command
+verdict_order (analysis ∷ result ∷ []) =
+    option_and_then (λ a. option_map (λ r. Control (Verdict a r)) (meaning_in results result))
+    (meaning_in analyses analysis)
+verdict_order _ = None
+
+-- `verdict pre` or `verdict post`, and then `successful`, `failed` or `error`
+abbrev pub verdict_row : Row
+verdict_row = record {
+  first = codes "verdict";
+  shape = Exactly (OneOf (words_in analyses) ∷ OneOf (words_in results) ∷ []);
+  order = verdict_order;
+}
+
+abbrev pub promote_order : List (List ℕ) → Option Command
+promote_order [] = Some (Control Promote)
+promote_order (full ∷ []) = Some (Control PromoteFull)
+promote_order _ = None
+
+-- `promote` or `promote full`
+abbrev pub promote_row : Row
+promote_row = record {
+  first = codes "promote";
+  shape = AtMost (OneOf (codes "full" ∷ []) ∷ []);
+  order = promote_order;
+}
+
+abbrev pub enter_order : List (List ℕ) → Option Command
+enter_order (seat ∷ service ∷ []) =
+    option_map (Enter (digits_value 10 seat)) (meaning_in services service)
+enter_order _ = None
+
+-- `enter SEAT active` or `enter SEAT preview`
+abbrev pub enter_row : Row
+enter_row = record {
+  first = codes "enter";
+  shape = Exactly (Number 32 ∷ OneOf (words_in services) ∷ []);
+  order = enter_order;
+}
+
+abbrev pub leave_order : List (List ℕ) → Option Command
+leave_order (seat ∷ []) = Some (Leave (digits_value 10 seat))
+leave_order _ = None
+
+-- `leave SEAT`
+abbrev pub leave_row : Row
+leave_row = record {
+  first = codes "leave";
+  shape = Exactly (Number 32 ∷ []);
+  order = leave_order;
+}
+
+-- a line of one word
+abbrev pub single_word : List ℕ → Command → Row
+single_word first command = record {
+  first = first;
+  shape = Exactly [];
+  order = λ words. Some command;
+}
+
+-- the table of lines
+abbrev pub rows : List Row
+rows =
+    open_row ∷ deploy_row ∷ tick_row ∷ available_row ∷ verdict_row ∷ promote_row
+    ∷ single_word (codes "abort") (Control Abort)
+    ∷ single_word (codes "retry") (Control Retry)
+    ∷ enter_row ∷ leave_row
+    ∷ single_word (codes "report") Report
+    ∷ single_word (codes "quit") Quit
+    ∷ []
+
+-- what the words after the first are read as by a row: their fault, or else the command
+abbrev pub row_reading : Row → List (List ℕ) → Result Command LineFault
+row_reading row words =
+    option_map_or Err (shape_fault row.shape words) (ok_or (row.order words) WrongCount)
+
+-- what words are read as
+abbrev pub words_reading : List (List ℕ) → Result Command LineFault
+words_reading [] = Err Empty
+words_reading (first ∷ words) =
+    option_map_or (λ row. row_reading row words) (find (λ row. bytes_eq first row.first) rows)
+    (Err UnknownWord)
 
 -- a byte from the space to the tilde
 abbrev pub is_printable : ℕ → Bool
 is_printable byte = nat_le 32 byte && nat_le byte 126
 
--- a line that is short enough, and whose bytes are all printable
-abbrev pub is_plain : List ℕ → Bool
-is_plain line = nat_le (length line) 4096 && list_all is_printable line
+-- the fault of a line's bytes: there are too many, or one isn't printable
+abbrev pub text_fault : List ℕ → Option LineFault
+text_fault line =
+    if nat_lt 4096 (length line) then Some TooLong
+    else if list_all is_printable line then None
+    else Some NotAscii
 
--- the words of a line: the parts between its spaces that have a byte
-unfoldable pub words_of : List ℕ → List (List ℕ)
-words_of line = filter (λ part. nat_lt 0 (length part)) (slice_split (λ byte. byte == 32) line)
+-- what a line is read as, where memory is not refused: its first fault, or else the command
+unfoldable pub line_reading : List ℕ → Result Command LineFault
+line_reading line = option_map_or Err (text_fault line) (words_reading (words_of line))
 
--- the words that are still to come
-abbrev pub words_ahead : Words → List (List ℕ)
-words_ahead words = words_of words.rest.now
+-- memory is needed for the name and the ports that a command has
+abbrev pub NeedsMemory : Result Command LineFault → Type 0
+NeedsMemory (Ok (Open name ports)) = ⊤
+NeedsMemory (Ok (Control (Deploy name ports))) = ⊤
+NeedsMemory _ = ⊥
 
--- 1 to 20 digits, whose value is below 2 ^ bits
-abbrev pub is_number : ℕ → List ℕ → Bool
-is_number bits word =
-    nat_le 1 (length word) && nat_le (length word) 20 && list_all is_ascii_digit word
-    && nat_lt (digits_value 10 word) (2 ^ bits)
-
--- the number that a word is, where it is one
-abbrev pub number_in : ℕ → List ℕ → Option ℕ
-number_in bits word = if is_number bits word then Some (digits_value 10 word) else None
-
--- the service that a word names
-abbrev pub service_in : List ℕ → Option Service
-service_in word =
-    if bytes_eq word (codes "active") then Some Active
-    else if bytes_eq word (codes "preview") then Some Preview
-    else None
-
--- the one word, where there is one and no other
-abbrev pub one_of : List (List ℕ) → Option (List ℕ)
-one_of (word ∷ []) = Some word
-one_of _ = None
-
--- the two words, where there are two and no other
-abbrev pub two_of : List (List ℕ) → Option (List ℕ × List ℕ)
-two_of (first ∷ second ∷ []) = Some (first, second)
-two_of _ = None
-
--- `tick` and a moment
-abbrev pub tick_in : List (List ℕ) → Option Call
-tick_in words =
-    option_and_then (λ m. option_map (λ moment. call.Control (Tick moment)) (number_in 64 m))
-    (one_of words)
-
--- `available`, a revision and a size
-abbrev pub available_in : List (List ℕ) → Option Call
-available_in words =
-    option_and_then (λ p. option_and_then (λ revision. option_map
-    (λ size. call.Control (Available revision size)) (number_in 32 p.1)) (number_in 64 p.0))
-    (two_of words)
-
--- `enter`, a seat and a service
-abbrev pub enter_in : List (List ℕ) → Option Call
-enter_in words =
-    option_and_then (λ p. option_and_then (λ seat. option_map
-    (λ service. call.Enter seat service) (service_in p.1)) (number_in 32 p.0))
-    (two_of words)
-
--- `leave` and a seat
-abbrev pub leave_in : List (List ℕ) → Option Call
-leave_in words =
-    option_and_then (λ s. option_map (λ seat. call.Leave seat) (number_in 32 s)) (one_of words)
-
--- the call that a first word and the words after it are
-abbrev pub call_in : List ℕ → List (List ℕ) → Option Call
-call_in first words =
-    if bytes_eq first (codes "tick") then tick_in words
-    else if bytes_eq first (codes "available") then available_in words
-    else if bytes_eq first (codes "enter") then enter_in words
-    else if bytes_eq first (codes "leave") then leave_in words
-    else None
-
--- the command, where no word follows
-abbrev pub alone : Command → List (List ℕ) → Option Command
-alone command [] = Some command
-alone command (word ∷ words) = None
-
--- `open`, a name and one port or more
-abbrev pub open_in : List (List ℕ) → Option Command
-open_in [] = None
-open_in (name ∷ []) = None
-open_in (name ∷ port ∷ ports) =
-    if list_all (is_number 16) (port ∷ ports)
-    then Some (Open name (map (digits_value 10) (port ∷ ports)))
-    else None
-
--- the command that a first word other than `open` and the words after it are
-abbrev pub other_in : List ℕ → List (List ℕ) → Option Command
-other_in first words =
-    if bytes_eq first (codes "report") then alone Report words
-    else if bytes_eq first (codes "quit") then alone Quit words
-    else option_map Make (call_in first words)
-
--- the command that words are
-abbrev pub command_in : List (List ℕ) → Option Command
-command_in [] = None
-command_in (first ∷ words) =
-    if bytes_eq first (codes "open") then open_in words else other_in first words
-
--- the command that a line is, where it is well formed
-unfoldable pub command_of : List ℕ → Option Command
-command_of line = if is_plain line then command_in (words_of line) else None
-
--- the command is `open`
-abbrev pub IsOpen : Option Command → Type 0
-IsOpen (Some (Open name ports)) = ⊤
-IsOpen _ = ⊥
-
--- why a line that is this command, or none, isn't read: memory is needed by `open` alone
-abbrev pub IsLineFault : Option Command → LineFault → Type 0
-IsLineFault command UnknownWord = command ≡ None
-IsLineFault command OutOfMemory = IsOpen command
+-- a line was read as expected, or memory was refused where it is needed
+abbrev pub IsReadAs : Result Command LineFault → Result Command LineFault → Type 0
+IsReadAs expected read =
+    (read ≡ expected) ⊎ ((read ≡ Err OutOfMemory) × NeedsMemory expected)

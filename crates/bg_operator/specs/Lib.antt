@@ -2,6 +2,8 @@ pub mod Lines
 pub mod Reading
 pub mod Taking
 pub mod Parting
+pub mod Words
+pub mod Shapes
 pub mod Commands
 pub mod FaultNames
 pub mod ScriptLines

@@ -5,13 +5,32 @@ ghost use Rattle.bg_operator.specs.declared.line_fault.LineFault.TheVariants as 
 use std::alloc::{AllocError, AllocFailed};
 use thiserror::Error;
 
-/// Why a line of a script gives no command.
+/// Why a line of a script gives no command: the first of these, in this order, that the line has. Of
+/// `BadWord` and `BadNumber` it is the one of the first wrong word from the left.
 #[derive(Clone, Copy, PartialEq, Eq, Debug, Drop, Error)]
 pub enum LineFault {
-    /// It is none of the commands, or has more than 4,096 bytes.
-    #[error("the line is not a well-formed command")]
+    /// It has more than 4,096 bytes.
+    #[error("the line has more than 4,096 bytes")]
+    TooLong,
+    /// A byte of it is outside 32 to 126.
+    #[error("the line has a byte that is no printable ASCII character")]
+    NotAscii,
+    /// It has no word.
+    #[error("the line has no word")]
+    Empty,
+    /// No line begins with its first word.
+    #[error("the first word of the line is none that is known")]
     UnknownWord,
-    /// It is a well formed `open`, and memory for its name or its ports was refused.
+    /// Too few or too many words follow its first word.
+    #[error("the line has too few or too many words")]
+    WrongCount,
+    /// A word is none of those that its place allows.
+    #[error("a word of the line is none that its place allows")]
+    BadWord,
+    /// A word in the place of a number isn't 1 to 20 digits, or its value is too large there.
+    #[error("a word of the line is not a number that its place allows")]
+    BadNumber,
+    /// It is a well formed `open` or `deploy`, and memory for its name or its ports was refused.
     #[error("out of memory")]
     OutOfMemory,
 }
@@ -24,7 +43,13 @@ impl LineFault {
         ensures { result.now ≡ line_fault_name self.now }
     {
         match self {
+            LineFault::TooLong => "TooLong",
+            LineFault::NotAscii => "NotAscii",
+            LineFault::Empty => "Empty",
             LineFault::UnknownWord => "UnknownWord",
+            LineFault::WrongCount => "WrongCount",
+            LineFault::BadWord => "BadWord",
+            LineFault::BadNumber => "BadNumber",
             LineFault::OutOfMemory => "OutOfMemory",
         }
     }

@@ -1,51 +1,79 @@
 //! What a line of a script orders.
-ghost use Rattle.std.specs.Prelude.{◌≡◌, true, option_map, false, ◌==◌, length, map, MatchResult, MatchOption};
+ghost use Rattle.std.specs.Prelude.{◌≡◌, ◌∷◌, [], false, true, ◌==◌, length, map, None, MatchResult};
 ghost use Rattle.std.specs.List.{list_all};
+ghost use Rattle.std.specs.Option.{ok_or};
 ghost use Rattle.std.specs.Str.Parse.{digits_value};
-ghost use Rattle.bg_operator.specs.Commands.{alone, available_in, call_in, command_of, enter_in, IsLineFault, is_number, is_plain, is_printable, leave_in, one_of, open_in, other_in, service_in, tick_in, two_of, words_ahead};
+ghost use Rattle.bg_operator.specs.Words.{analyses, is_number, meaning_in, results, services, words_ahead};
+ghost use Rattle.bg_operator.specs.Commands.{available_row, deploy_row, enter_row, is_printable, IsReadAs, leave_row, line_reading, open_row, promote_row, row_reading, single_word, template_shape, text_fault, tick_row, verdict_row, words_reading};
+ghost use Rattle.bg_operator.specs.Shapes.{shape_fault};
 ghost use Rattle.bg_operator.specs.declared.line_fault.LineFault.TheVariants as line_fault;
 
 use crate::command::Command;
 use crate::line_fault::LineFault;
 use crate::lines::LONGEST_LINE;
 use crate::words::{Words, long_number, number, short_number};
-use bg_book::{Call, Control};
+use bg_book::Control;
+use bg_history::{Analysis, AnalysisResult};
 use bg_revisions::{Name, Ports, Service};
 use std::alloc::Global;
 
-/// Reads a line of a script: `open NAME PORT..`, `tick M`, `available R N`, `enter SEAT active` or
-/// `preview`, `leave SEAT`, `report` or `quit`.
+/// Reads a line of a script, given without its end. Words are separated by one or more spaces, and
+/// spaces at both ends are passed over. The lines are
 ///
-/// `UnknownWord` comes exactly where the line is none of these: it has more than 4,096 bytes, a byte
-/// outside 32 to 126, no word, another first word, another count of words, or a bad number or word.
-/// A number is 1 to 20 digits whose value is below 2^16 for a port, 2^32 for a seat and the size N, and
-/// 2^64 for the moment M and the revision R. `OutOfMemory` comes only at a well formed `open`.
+/// - `open NAME PORT..` and `deploy NAME PORT..`, with one port or more
+/// - `tick MOMENT` and `available REVISION SIZE`
+/// - `verdict pre` or `verdict post`, and then `successful`, `failed` or `error`
+/// - `promote`, `promote full`, `abort` and `retry`
+/// - `enter SEAT active` or `enter SEAT preview`, and `leave SEAT`
+/// - `report` and `quit`
+///
+/// A number is 1 to 20 digits whose value is below 2^16 for a port, 2^32 for a seat and a size, and
+/// 2^64 for a moment and a revision. A name may be any word here: the book judges it.
+///
+/// A line that is none of these has the first [`LineFault`] in their order. `OutOfMemory` comes only
+/// at an `open` or a `deploy` without another fault.
 pub fn parse_line(alloc: Global, line: &[u8]) -> Result<Command, LineFault>
-    ensures { MatchResult result (λ command. command_of line.now ≡ Some command)
-        (IsLineFault (command_of line.now)) }
+    ensures { IsReadAs (line_reading line.now) result }
 {
-    let Some(text) = plain_text(line) else {
-        return Err(LineFault::UnknownWord);
-    };
-    let mut words = Words::new(text);
-    let Some(first) = words.next() else {
-        return Err(LineFault::UnknownWord);
-    };
-    if first == "open" {
-        return read_open(alloc, words);
+    let mut words = Words::new(plain_text(line)?);
+    let first = words.next().ok_or(LineFault::Empty)?;
+    command(alloc, first, words)
+}
+
+/// The command of a line's first word and the words after it.
+fn command(alloc: Global, first: &str, words: Words) -> Result<Command, LineFault>
+    ensures { IsReadAs (words_reading (first.now ∷ words_ahead words.entry)) result }
+{
+    match first {
+        "open" => open(alloc, words),
+        "deploy" => deploy(alloc, words),
+        "tick" => tick(words),
+        "available" => available(words),
+        "verdict" => verdict(words),
+        "promote" => promote(words),
+        "abort" => alone(Command::Control(Control::Abort), words),
+        "retry" => alone(Command::Control(Control::Retry), words),
+        "enter" => enter(words),
+        "leave" => leave(words),
+        "report" => alone(Command::Report, words),
+        "quit" => alone(Command::Quit, words),
+        _ => Err(LineFault::UnknownWord),
     }
-    other_command(first, words).ok_or(LineFault::UnknownWord)
 }
 
 /// The text of a line that is not too long and whose bytes are all between 32 and 126.
-fn plain_text(line: &[u8]) -> Option<&str>
-    ensures { MatchOption result (is_plain line.now ≡ false)
-        (λ text. (is_plain line.now ≡ true) × (text.now ≡ line.now)) }
+fn plain_text(line: &[u8]) -> Result<&str, LineFault>
+    ensures { MatchResult result
+        (λ text. (text_fault line.now ≡ None) × (text.now ≡ line.now))
+        (λ fault. text_fault line.now ≡ Some fault) }
 {
-    if line.len() > LONGEST_LINE || !is_printable_text(line) {
-        return None;
+    if line.len() > LONGEST_LINE {
+        return Err(LineFault::TooLong);
     }
-    str::from_utf8(line).ok()
+    if !is_printable_text(line) {
+        return Err(LineFault::NotAscii);
+    }
+    str::from_utf8(line).map_err(|_| LineFault::NotAscii)
 }
 
 fn is_printable_text(line: &[u8]) -> bool
@@ -54,20 +82,40 @@ fn is_printable_text(line: &[u8]) -> bool
     line.iter().all(|byte| (b' '..=b'~').contains(byte))
 }
 
-/// The command that follows the word `open`.
-fn read_open(alloc: Global, mut words: Words) -> Result<Command, LineFault>
-    ensures { MatchResult result (λ command. open_in (words_ahead words.entry) ≡ Some command)
-        (IsLineFault (open_in (words_ahead words.entry))) }
+fn open(alloc: Global, words: Words) -> Result<Command, LineFault>
+    ensures { IsReadAs (row_reading open_row (words_ahead words.entry)) result }
 {
-    let Some(name) = words.next() else {
-        return Err(LineFault::UnknownWord);
-    };
-    if is_over(words) || !are_ports(words) {
-        return Err(LineFault::UnknownWord);
-    }
+    let (name, ports) = template(words)?;
     let name = Name::new(alloc, name)?;
-    let ports = read_ports(alloc, words)?;
+    let ports = read_ports(alloc, ports)?;
     Ok(Command::Open { name, ports })
+}
+
+fn deploy(alloc: Global, words: Words) -> Result<Command, LineFault>
+    ensures { IsReadAs (row_reading deploy_row (words_ahead words.entry)) result }
+{
+    let (name, ports) = template(words)?;
+    let name = Name::new(alloc, name)?;
+    let ports = read_ports(alloc, ports)?;
+    Ok(Command::Control(Control::Deploy { name, ports }))
+}
+
+/// The name of a revision and the words after it, which are one port or more.
+fn template(mut words: Words<'_>) -> Result<(&str, Words<'_>), LineFault>
+    ensures { MatchResult result
+        (λ t. (shape_fault template_shape (words_ahead words.entry) ≡ None)
+        × (words_ahead words.entry ≡ t.0.now ∷ words_ahead t.1)
+        × (list_all (is_number 16) (words_ahead t.1) ≡ true))
+        (λ fault. shape_fault template_shape (words_ahead words.entry) ≡ Some fault) }
+{
+    let name = words.next().ok_or(LineFault::WrongCount)?;
+    if is_over(words) {
+        return Err(LineFault::WrongCount);
+    }
+    if !are_ports(words) {
+        return Err(LineFault::BadNumber);
+    }
+    Ok((name, words))
 }
 
 fn is_over(mut words: Words) -> bool
@@ -79,7 +127,7 @@ fn is_over(mut words: Words) -> bool
 fn are_ports(mut words: Words) -> bool
     ensures { result ≡ list_all (is_number 16) (words_ahead words.entry) }
 {
-    words.all(|word| short_number(word).is_some())
+    words.all(|word| short_number(word).is_ok())
 }
 
 fn read_ports(alloc: Global, words: Words) -> Result<Ports, LineFault>
@@ -89,99 +137,136 @@ fn read_ports(alloc: Global, words: Words) -> Result<Ports, LineFault>
 {
     let mut numbers = Vec::new(alloc);
     for word in words {
-        if let Some(port) = short_number(word) {
-            numbers.push(port)?;
-        }
+        numbers.push(short_number(word)?)?;
     }
     Ok(Ports::new(alloc, &numbers)?)
 }
 
-/// The command that follows a first word that isn't `open`.
-fn other_command(first: &str, words: Words) -> Option<Command>
-    ensures { result ≡ other_in first.now (words_ahead words.entry) }
-{
-    match first {
-        "report" => alone(Command::Report, words),
-        "quit" => alone(Command::Quit, words),
-        _ => Some(Command::Make(call(first, words)?)),
-    }
-}
-
-fn alone(command: Command, words: Words) -> Option<Command>
-    ensures { result ≡ alone command (words_ahead words.entry) }
-{
-    if is_over(words) { Some(command) } else { None }
-}
-
-/// The call of the book that follows the first word.
-fn call(first: &str, words: Words) -> Option<Call>
-    ensures { result ≡ call_in first.now (words_ahead words.entry) }
-{
-    match first {
-        "tick" => tick(words),
-        "available" => available(words),
-        "enter" => enter(words),
-        "leave" => leave(words),
-        _ => None,
-    }
-}
-
-fn tick(words: Words) -> Option<Call>
-    ensures { result ≡ tick_in (words_ahead words.entry) }
+fn tick(words: Words) -> Result<Command, LineFault>
+    ensures { result ≡ row_reading tick_row (words_ahead words.entry) }
 {
     let moment = long_number(one(words)?)?;
-    Some(Call::Control(Control::Tick(moment)))
+    Ok(Command::Control(Control::Tick(moment)))
 }
 
-fn available(words: Words) -> Option<Call>
-    ensures { result ≡ available_in (words_ahead words.entry) }
+fn available(words: Words) -> Result<Command, LineFault>
+    ensures { result ≡ row_reading available_row (words_ahead words.entry) }
 {
     let (revision, size) = two(words)?;
-    Some(Call::Control(Control::Available {
+    Ok(Command::Control(Control::Available {
         revision: long_number(revision)?,
         size: number(size)?,
     }))
 }
 
-fn enter(words: Words) -> Option<Call>
-    ensures { result ≡ enter_in (words_ahead words.entry) }
+fn verdict(words: Words) -> Result<Command, LineFault>
+    ensures { result ≡ row_reading verdict_row (words_ahead words.entry) }
+{
+    let (analysis, result) = two(words)?;
+    Ok(Command::Control(Control::Verdict {
+        analysis: analysis_named(analysis)?,
+        result: result_named(result)?,
+    }))
+}
+
+fn promote(mut words: Words) -> Result<Command, LineFault>
+    ensures { result ≡ row_reading promote_row (words_ahead words.entry) }
+{
+    let Some(word) = words.next() else {
+        return Ok(Command::Control(Control::Promote));
+    };
+    end(words)?;
+    if word != "full" {
+        return Err(LineFault::BadWord);
+    }
+    Ok(Command::Control(Control::PromoteFull))
+}
+
+fn enter(words: Words) -> Result<Command, LineFault>
+    ensures { result ≡ row_reading enter_row (words_ahead words.entry) }
 {
     let (seat, service) = two(words)?;
-    Some(Call::Enter {
+    Ok(Command::Enter {
         seat: number(seat)?,
         service: service_named(service)?,
     })
 }
 
-fn leave(words: Words) -> Option<Call>
-    ensures { result ≡ leave_in (words_ahead words.entry) }
+fn leave(words: Words) -> Result<Command, LineFault>
+    ensures { result ≡ row_reading leave_row (words_ahead words.entry) }
 {
     let seat = number(one(words)?)?;
-    Some(Call::Leave { seat })
+    Ok(Command::Leave { seat })
 }
 
-fn service_named(word: &str) -> Option<Service>
-    ensures { result ≡ service_in word.now }
+/// The command, where no word follows.
+fn alone(command: Command, words: Words) -> Result<Command, LineFault>
+    ensures { result ≡ row_reading (single_word [] command) (words_ahead words.entry) }
+{
+    end(words)?;
+    Ok(command)
+}
+
+fn service_named(word: &str) -> Result<Service, LineFault>
+    ensures { result ≡ ok_or (meaning_in services word.now) line_fault.BadWord }
 {
     match word {
-        "active" => Some(Service::Active),
-        "preview" => Some(Service::Preview),
-        _ => None,
+        "active" => Ok(Service::Active),
+        "preview" => Ok(Service::Preview),
+        _ => Err(LineFault::BadWord),
+    }
+}
+
+fn analysis_named(word: &str) -> Result<Analysis, LineFault>
+    ensures { result ≡ ok_or (meaning_in analyses word.now) line_fault.BadWord }
+{
+    match word {
+        "pre" => Ok(Analysis::Pre),
+        "post" => Ok(Analysis::Post),
+        _ => Err(LineFault::BadWord),
+    }
+}
+
+fn result_named(word: &str) -> Result<AnalysisResult, LineFault>
+    ensures { result ≡ ok_or (meaning_in results word.now) line_fault.BadWord }
+{
+    match word {
+        "successful" => Ok(AnalysisResult::Successful),
+        "failed" => Ok(AnalysisResult::Failed),
+        "error" => Ok(AnalysisResult::Error),
+        _ => Err(LineFault::BadWord),
     }
 }
 
 /// The one word to come, where it is one.
-fn one(mut words: Words<'_>) -> Option<&str>
-    ensures { option_map (λ w. w.now) result ≡ one_of (words_ahead words.entry) }
+fn one(mut words: Words<'_>) -> Result<&str, LineFault>
+    ensures { MatchResult result (λ word. words_ahead words.entry ≡ word.now ∷ [])
+        (λ fault. ((length (words_ahead words.entry) == 1) ≡ false)
+        × (fault ≡ line_fault.WrongCount)) }
 {
-    let word = words.next()?;
-    if is_over(words) { Some(word) } else { None }
+    let word = words.next().ok_or(LineFault::WrongCount)?;
+    end(words)?;
+    Ok(word)
 }
 
 /// The two words to come, where they are two.
-fn two(mut words: Words<'_>) -> Option<(&str, &str)>
-    ensures { option_map (λ p. (p.0.now, p.1.now)) result ≡ two_of (words_ahead words.entry) }
+fn two(mut words: Words<'_>) -> Result<(&str, &str), LineFault>
+    ensures { MatchResult result (λ p. words_ahead words.entry ≡ p.0.now ∷ p.1.now ∷ [])
+        (λ fault. ((length (words_ahead words.entry) == 2) ≡ false)
+        × (fault ≡ line_fault.WrongCount)) }
 {
-    let first = words.next()?;
-    Some((first, one(words)?))
+    let first = words.next().ok_or(LineFault::WrongCount)?;
+    Ok((first, one(words)?))
+}
+
+/// `WrongCount` where a word is still to come.
+fn end(mut words: Words) -> Result<(), LineFault>
+    ensures { MatchResult result (λ _. words_ahead words.entry ≡ [])
+        (λ fault. ((length (words_ahead words.entry) == 0) ≡ false)
+        × (fault ≡ line_fault.WrongCount)) }
+{
+    match words.next() {
+        None => Ok(()),
+        Some(_) => Err(LineFault::WrongCount),
+    }
 }

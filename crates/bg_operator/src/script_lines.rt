@@ -29,7 +29,7 @@ impl ScriptLines {
 
     /// What the next line orders, or why it orders nothing. None at the end, and at `quit`.
     ///
-    /// A line that is too long is passed over, and is `UnknownWord`. After a `ReadFault` the reader is
+    /// A line that is too long is passed over, and is `TooLong`. After a `ReadFault` the reader is
     /// of no use.
     pub fn next<B: BufRead>(
         &mut self,
@@ -49,7 +49,7 @@ fn reading_of(alloc: Global, found: Found, line: &[u8]) -> Option<Result<Command
 {
     match found {
         Found::End => None,
-        Found::TooLong => Some(Err(LineFault::UnknownWord)),
+        Found::TooLong => Some(Err(LineFault::TooLong)),
         Found::Line => match parse_line(alloc, line) {
             Ok(Command::Quit) => None,
             read => Some(read),

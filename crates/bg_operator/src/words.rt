@@ -3,7 +3,9 @@ ghost use Rattle.std.specs.Prelude.{◌≡◌};
 ghost use Rattle.std.specs.Char.{is_ascii_digit};
 ghost use Rattle.std.specs.List.{list_all};
 ghost use Rattle.std.specs.Iterator.{YieldsFirstRef, item_count};
-ghost use Rattle.bg_operator.specs.Commands.{number_in, words_of, words_ahead};
+ghost use Rattle.bg_operator.specs.Words.{number_reading, words_of, words_ahead};
+
+use crate::line_fault::LineFault;
 
 /// How many digits a number has at most.
 const MOST_DIGITS: usize = 20;
@@ -44,28 +46,28 @@ impl<'a> Iterator for Words<'a> {
     }
 }
 
-/// The number that a word is: 1 to 20 digits whose value is below 2^64.
-pub fn long_number(word: &str) -> Option<u64>
-    ensures { result ≡ number_in 64 word.now }
+/// The number that a word is: 1 to 20 digits whose value is below 2^64. Any other word is `BadNumber`.
+pub fn long_number(word: &str) -> Result<u64, LineFault>
+    ensures { result ≡ number_reading 64 word.now }
 {
     if word.len() > MOST_DIGITS || !has_digits_only(word) {
-        return None;
+        return Err(LineFault::BadNumber);
     }
-    word.parse::<u64>().ok()
+    word.parse::<u64>().map_err(|_| LineFault::BadNumber)
 }
 
 /// The same, below 2^32.
-pub fn number(word: &str) -> Option<u32>
-    ensures { result ≡ number_in 32 word.now }
+pub fn number(word: &str) -> Result<u32, LineFault>
+    ensures { result ≡ number_reading 32 word.now }
 {
-    u32::try_from(long_number(word)?).ok()
+    u32::try_from(long_number(word)?).map_err(|_| LineFault::BadNumber)
 }
 
 /// The same, below 2^16.
-pub fn short_number(word: &str) -> Option<u16>
-    ensures { result ≡ number_in 16 word.now }
+pub fn short_number(word: &str) -> Result<u16, LineFault>
+    ensures { result ≡ number_reading 16 word.now }
 {
-    u16::try_from(long_number(word)?).ok()
+    u16::try_from(long_number(word)?).map_err(|_| LineFault::BadNumber)
 }
 
 fn has_digits_only(word: &str) -> bool

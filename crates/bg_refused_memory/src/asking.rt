@@ -6,54 +6,95 @@ use crate::page::Page;
 use crate::stop::Stop;
 use std::fmt::Display;
 
-/// Makes a value.
-pub fn make<R: Print + Eprint, T: Drop, F: FnMut() -> Result<T, Stop>>(
-    rt: &R,
-    call: &str,
-    mut ask: F,
-) -> Result<T, Stop>
-    requires { F.IsAlwaysCallable ask }
-{
-    let answer = match ask() {
-        Err(Stop::OutOfMemory) => {
-            eprintln!(rt; "refused {call}")?;
-            ask()?
-        }
-        answer => answer?,
-    };
-    println!(rt; "made {call}")?;
-    Ok(answer)
+/// What calls change, displayed as all that it answers of itself.
+pub trait Subject: Display {
+    /// Which call, and with what.
+    type Call;
+
+    fn make(&mut self, call: &Self::Call) -> Result<(), Stop>;
 }
 
-/// Changes `subject` by a call with each of the arguments. A call that is refused leaves all that is displayed of the
-/// subject as it was; where it doesn't, standard output says so.
-pub fn change<R, S, A, F>(
+/// Changes `subject` by each of the calls, which have one name.
+pub fn change<R: Print + Eprint, S: Subject>(
     rt: &R,
-    call: &str,
+    name: &str,
     subject: &mut S,
-    arguments: &[A],
-    ask: F,
-) -> Result<(), Stop>
-where
-    R: Print + Eprint,
-    S: Display,
-    F: Fn(&mut S, &A) -> Result<(), Stop>,
-    requires { F.IsAlwaysCallable ask }
-{
-    for argument in arguments {
-        let before = Page::of(subject)?;
-        match ask(subject, argument) {
-            Err(Stop::OutOfMemory) => {
-                eprintln!(rt; "refused {call}")?;
-                let after = Page::of(subject)?;
-                if before.as_slice() != after.as_slice() {
-                    println!(rt; "changed: {call}, which was refused")?;
-                }
-                ask(subject, argument)?;
-            }
-            answer => answer?,
-        }
+    calls: &[S::Call],
+) -> Result<(), Stop> {
+    for call in calls {
+        make(rt, name, subject, call)?;
     }
-    println!(rt; "made {call}")?;
+    say_made(rt, name)
+}
+
+/// Makes a call. Where it is refused, it leaves all that is displayed of the subject as it was; where it doesn't, standard
+/// output says so.
+fn make<R: Print + Eprint, S: Subject>(
+    rt: &R,
+    name: &str,
+    subject: &mut S,
+    call: &S::Call,
+) -> Result<(), Stop> {
+    let before = Page::of(subject)?;
+    match subject.make(call) {
+        Err(Stop::OutOfMemory) => {
+            say_refused(rt, name)?;
+            compare(rt, name, &before, &Page::of(subject)?)?;
+            subject.make(call)
+        }
+        answer => answer,
+    }
+}
+
+fn compare<R: Print>(rt: &R, name: &str, before: &Page, after: &Page) -> Result<(), Stop> {
+    if before.as_slice() != after.as_slice() {
+        println!(rt; "changed: {name}, which was refused")?;
+    }
+    Ok(())
+}
+
+/// What a call made, or none where memory was refused, and the call is to be made again.
+pub fn made<R: Print + Eprint, T: Drop>(
+    rt: &R,
+    name: &str,
+    answer: Result<T, Stop>,
+) -> Result<Option<T>, Stop> {
+    match answer {
+        Ok(value) => {
+            say_made(rt, name)?;
+            Ok(Some(value))
+        }
+        Err(Stop::OutOfMemory) => {
+            say_refused(rt, name)?;
+            Ok(None)
+        }
+        Err(stop) => Err(stop),
+    }
+}
+
+/// What a call made that was made again.
+pub fn made_again<R: Print, T: Drop>(
+    rt: &R,
+    name: &str,
+    answer: Result<T, Stop>,
+) -> Result<T, Stop> {
+    let value = answer?;
+    say_made(rt, name)?;
+    Ok(value)
+}
+
+fn say_made<R: Print>(rt: &R, name: &str) -> Result<(), Stop> {
+    println!(rt; "made {name}")?;
+    Ok(())
+}
+
+fn say_refused<R: Eprint>(rt: &R, name: &str) -> Result<(), Stop> {
+    eprintln!(rt; "refused {name}")?;
+    Ok(())
+}
+
+/// Writes what a value is displayed as on standard output.
+pub fn show<R: Print, S: Display>(rt: &R, value: &S) -> Result<(), Stop> {
+    print!(rt; "{value}")?;
     Ok(())
 }

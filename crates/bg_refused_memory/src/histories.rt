@@ -1,7 +1,7 @@
 //! The calls of `bg_history`.
 ghost use Rattle.std.specs.Prelude.{◌≡◌};
 
-use crate::asking::{change, make};
+use crate::asking::{Subject, change, made, made_again, show};
 use crate::stop::Stop;
 use bg_history::{Entry, History};
 use std::alloc::Global;
@@ -46,17 +46,29 @@ impl fmt::Display for Entries {
     }
 }
 
+impl Subject for Entries {
+    /// The moment of the entry that is added.
+    type Call = u64;
+
+    fn make(&mut self, moment: &u64) -> Result<(), Stop> {
+        self.add(*moment)
+    }
+}
+
 pub fn make_calls<R: AllocGlobal + Print + Eprint>(rt: &R) -> Result<(), Stop> {
+    let mut entries = make_entries(rt)?;
+    add_entries(rt, &mut entries)
+}
+
+fn make_entries<R: AllocGlobal + Print + Eprint>(rt: &R) -> Result<Entries, Stop> {
     let alloc = rt.alloc();
-    let mut entries = make(rt, "History::new", || Entries::new(alloc))?;
-    let moments = [1, 2, 3, 4, 5, 6, 7, 8];
-    change(
-        rt,
-        "History::reserve",
-        &mut entries,
-        &moments,
-        |entries, moment| { entries.add(*moment) },
-    )?;
-    print!(rt; "{entries}")?;
-    Ok(())
+    match made(rt, "History::new", Entries::new(alloc))? {
+        Some(entries) => Ok(entries),
+        None => made_again(rt, "History::new", Entries::new(alloc)),
+    }
+}
+
+fn add_entries<R: Print + Eprint>(rt: &R, entries: &mut Entries) -> Result<(), Stop> {
+    change(rt, "History::reserve", entries, &[1, 2, 3, 4, 5, 6, 7, 8])?;
+    show(rt, entries)
 }

@@ -1,16 +1,16 @@
 //! The call of `bg_openlist` that takes memory.
 
-use crate::asking::make;
+use crate::asking::{made, made_again};
 use crate::stop::Stop;
 use bg_openlist::OpenLists;
+use std::alloc::Global;
 
 pub fn make_calls<R: AllocGlobal + Print + Eprint>(rt: &R) -> Result<(), Stop> {
-    let alloc = rt.alloc();
-    let lists = make(
-        rt,
-        "OpenLists::new",
-        || Ok(OpenLists::<u64>::new(alloc, 8)?),
-    )?;
+    let lists = make_lists(rt)?;
+    show_lists(rt, &lists)
+}
+
+fn show_lists<R: Print>(rt: &R, lists: &OpenLists<u64>) -> Result<(), Stop> {
     println!(rt;
         "{} {:?} {:?}",
         lists.len(0),
@@ -18,4 +18,16 @@ pub fn make_calls<R: AllocGlobal + Print + Eprint>(rt: &R) -> Result<(), Stop> {
         lists.list_of(0)
     )?;
     Ok(())
+}
+
+fn make_lists<R: AllocGlobal + Print + Eprint>(rt: &R) -> Result<OpenLists<u64>, Stop> {
+    let alloc = rt.alloc();
+    match made(rt, "OpenLists::new", new_lists(alloc))? {
+        Some(lists) => Ok(lists),
+        None => made_again(rt, "OpenLists::new", new_lists(alloc)),
+    }
+}
+
+fn new_lists(alloc: Global) -> Result<OpenLists<u64>, Stop> {
+    Ok(OpenLists::new(alloc, 8)?)
 }

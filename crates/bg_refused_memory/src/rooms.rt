@@ -1,11 +1,11 @@
 //! The calls of `bg_book` that name their seats.
 ghost use Rattle.bg_book.specs.Runs.{AreKnown, AreApart};
 
-use crate::asking::{change, make};
-use crate::desks::AVAILABLE;
+use crate::asking::{Subject, change, made, made_again, show};
+use crate::desks::available;
 use crate::state::State;
 use crate::stop::Stop;
-use crate::strategies::Strategies;
+use crate::strategies::base_strategy;
 use bg_book::{Book, Call, ControlFault, EnterFault, Limits, Reply, Seat};
 use bg_revisions::Service;
 use bg_strategy::Strategy;
@@ -13,13 +13,26 @@ use std::alloc::Global;
 use std::fmt;
 
 /// A request enters at seat 0.
-const ENTER: Call = Call::Enter {
-    seat: 0,
-    service: Service::Active,
-};
+fn enter() -> Call {
+    Call::Enter {
+        seat: 0,
+        service: Service::Active,
+    }
+}
 
 /// The request of seat 0 leaves.
-const LEAVE: Call = Call::Leave { seat: 0 };
+fn leave() -> Call {
+    Call::Leave { seat: 0 }
+}
+
+/// A call that is made in a room.
+#[derive(Drop)]
+pub enum RoomCall {
+    /// One call.
+    Alone(Call),
+    /// Calls that are made by one.
+    Run([Call; 3]),
+}
 
 /// A book and the seats at which its calls are made.
 #[derive(Drop)]
@@ -32,7 +45,7 @@ pub struct Room {
 
 impl Room {
     /// Opens a book of two seats.
-    pub fn open(alloc: Global, strategy: Strategy) -> Result<Room, Stop> {
+    pub fn open(alloc: Global, strategy: &Strategy) -> Result<Room, Stop> {
         let ports = [9001, 9002];
         let (book, seats) = Book::open(alloc, strategy, "v1", &ports, 2, Limits::usual())?;
         Ok(Room { book, seats })
@@ -63,49 +76,39 @@ impl fmt::Display for Room {
     }
 }
 
+impl Subject for Room {
+    type Call = RoomCall;
+
+    fn make(&mut self, call: &RoomCall) -> Result<(), Stop> {
+        match call {
+            RoomCall::Alone(call) => self.call(call),
+            RoomCall::Run(calls) => self.run(calls),
+        }
+    }
+}
+
 pub fn make_calls<R: AllocGlobal + Print + Eprint>(rt: &R) -> Result<(), Stop> {
-    let mut room = open(rt)?;
+    let mut room = make_room(rt)?;
     make_calls_in(rt, &mut room)
 }
 
-fn open<R: AllocGlobal + Print + Eprint>(rt: &R) -> Result<Room, Stop> {
+fn make_room<R: AllocGlobal + Print + Eprint>(rt: &R) -> Result<Room, Stop> {
     let alloc = rt.alloc();
-    let mut strategies = Strategies::read(rt)?;
-    make(rt, "Book::open", || Room::open(alloc, strategies.take()?))
+    let strategy = base_strategy(rt)?;
+    match made(rt, "Book::open", Room::open(alloc, &strategy))? {
+        Some(room) => Ok(room),
+        None => made_again(rt, "Book::open", Room::open(alloc, &strategy)),
+    }
 }
 
+/// The first event and the first request take memory. After these the book has room, and a list of calls takes memory
+/// for its replies alone.
 fn make_calls_in<R: Print + Eprint>(rt: &R, room: &mut Room) -> Result<(), Stop> {
-    call_alone(rt, room)?;
-    run_calls(rt, room)
-}
-
-/// The first event and the first request take memory.
-fn call_alone<R: Print + Eprint>(rt: &R, room: &mut Room) -> Result<(), Stop> {
-    change(
-        rt,
-        "Book::call of an event",
-        room,
-        &[Call::Control(AVAILABLE)],
-        |room, call| { room.call(call) },
-    )?;
-    change(
-        rt,
-        "Book::call of a request",
-        room,
-        &[ENTER],
-        |room, call| { room.call(call) },
-    )
-}
-
-/// After these the book has room, and a list of calls takes memory for its replies alone.
-fn run_calls<R: Print + Eprint>(rt: &R, room: &mut Room) -> Result<(), Stop> {
-    change(
-        rt,
-        "Book::run",
-        room,
-        &[[LEAVE, ENTER, LEAVE]],
-        |room, calls| { room.run(calls) },
-    )?;
-    print!(rt; "{room}")?;
-    Ok(())
+    let event = RoomCall::Alone(Call::Control(available()));
+    let request = RoomCall::Alone(enter());
+    let calls = RoomCall::Run([leave(), enter(), leave()]);
+    change(rt, "Book::call of an event", room, &[event])?;
+    change(rt, "Book::call of a request", room, &[request])?;
+    change(rt, "Book::run", room, &[calls])?;
+    show(rt, room)
 }

@@ -1,6 +1,6 @@
 //! The calls of `bg_revisions`.
 
-use crate::asking::{change, make};
+use crate::asking::{Subject, change, made, made_again, show};
 use crate::stop::Stop;
 use bg_revisions::{Name, Ports, Roster};
 use std::alloc::Global;
@@ -61,6 +61,15 @@ impl fmt::Display for LookUps<'_> {
     }
 }
 
+impl Subject for Revisions {
+    /// The name of the revision that is added.
+    type Call = &'static str;
+
+    fn make(&mut self, name: &&'static str) -> Result<(), Stop> {
+        self.add(name)
+    }
+}
+
 pub fn make_calls<R: AllocGlobal + Print + Eprint>(rt: &R) -> Result<(), Stop> {
     make_parts(rt)?;
     make_revisions(rt)
@@ -68,23 +77,54 @@ pub fn make_calls<R: AllocGlobal + Print + Eprint>(rt: &R) -> Result<(), Stop> {
 
 /// Makes the parts of a revision.
 fn make_parts<R: AllocGlobal + Print + Eprint>(rt: &R) -> Result<(), Stop> {
-    let alloc = rt.alloc();
-    let name = make(rt, "Name::new", || Ok(Name::new(alloc, "v1")?))?;
-    let ports = make(rt, "Ports::new", || Ok(Ports::new(alloc, &[9001, 9002])?))?;
+    let name = make_name(rt)?;
+    let ports = make_ports(rt)?;
+    show_parts(rt, &name, &ports)
+}
+
+fn show_parts<R: Print>(rt: &R, name: &Name, ports: &Ports) -> Result<(), Stop> {
     println!(rt; "{name:?} {ports:?}")?;
     Ok(())
 }
 
-fn make_revisions<R: AllocGlobal + Print + Eprint>(rt: &R) -> Result<(), Stop> {
+fn make_name<R: AllocGlobal + Print + Eprint>(rt: &R) -> Result<Name, Stop> {
     let alloc = rt.alloc();
-    let mut revisions = make(rt, "Roster::new", || Revisions::new(alloc))?;
-    change(
-        rt,
-        "Roster::add",
-        &mut revisions,
-        &NAMES,
-        |revisions, name| { revisions.add(name) },
-    )?;
-    print!(rt; "{revisions}")?;
-    Ok(())
+    match made(rt, "Name::new", new_name(alloc))? {
+        Some(name) => Ok(name),
+        None => made_again(rt, "Name::new", new_name(alloc)),
+    }
+}
+
+fn new_name(alloc: Global) -> Result<Name, Stop> {
+    Ok(Name::new(alloc, "v1")?)
+}
+
+fn make_ports<R: AllocGlobal + Print + Eprint>(rt: &R) -> Result<Ports, Stop> {
+    let alloc = rt.alloc();
+    match made(rt, "Ports::new", new_ports(alloc))? {
+        Some(ports) => Ok(ports),
+        None => made_again(rt, "Ports::new", new_ports(alloc)),
+    }
+}
+
+fn new_ports(alloc: Global) -> Result<Ports, Stop> {
+    Ok(Ports::new(alloc, &[9001, 9002])?)
+}
+
+fn make_roster<R: AllocGlobal + Print + Eprint>(rt: &R) -> Result<Revisions, Stop> {
+    let alloc = rt.alloc();
+    match made(rt, "Roster::new", Revisions::new(alloc))? {
+        Some(revisions) => Ok(revisions),
+        None => made_again(rt, "Roster::new", Revisions::new(alloc)),
+    }
+}
+
+fn make_revisions<R: AllocGlobal + Print + Eprint>(rt: &R) -> Result<(), Stop> {
+    let mut revisions = make_roster(rt)?;
+    add_revisions(rt, &mut revisions)
+}
+
+fn add_revisions<R: Print + Eprint>(rt: &R, revisions: &mut Revisions) -> Result<(), Stop> {
+    change(rt, "Roster::add", revisions, &NAMES)?;
+    show(rt, revisions)
 }

@@ -1,8 +1,9 @@
 //! The calls of `bg_strategy`.
 
-use crate::asking::make;
+use crate::asking::{made, made_again};
 use crate::stop::Stop;
 use bg_strategy::{ServiceName, Strategy, read};
+use std::alloc::Global;
 
 /// A document that gives every field.
 const EVERY_FIELD: &str =
@@ -18,59 +19,74 @@ pub fn make_calls<R: AllocGlobal + Print + Eprint>(rt: &R) -> Result<(), Stop> {
 }
 
 fn make_names<R: AllocGlobal + Print + Eprint>(rt: &R) -> Result<(), Stop> {
-    let alloc = rt.alloc();
-    let name = make(
-        rt,
-        "ServiceName::new",
-        || Ok(ServiceName::new(alloc, "web")?),
-    )?;
-    let copy = make(rt, "ServiceName::clone", || Ok(name.clone()?))?;
+    let name = make_name(rt)?;
+    let copy = copy_of_name(rt, &name)?;
+    show_names(rt, &name, &copy)
+}
+
+fn show_names<R: Print>(rt: &R, name: &ServiceName, copy: &ServiceName) -> Result<(), Stop> {
     println!(rt; "{} {}", name.get(), copy.get())?;
     Ok(())
+}
+
+fn make_name<R: AllocGlobal + Print + Eprint>(rt: &R) -> Result<ServiceName, Stop> {
+    let alloc = rt.alloc();
+    match made(rt, "ServiceName::new", new_name(alloc))? {
+        Some(name) => Ok(name),
+        None => made_again(rt, "ServiceName::new", new_name(alloc)),
+    }
+}
+
+fn new_name(alloc: Global) -> Result<ServiceName, Stop> {
+    Ok(ServiceName::new(alloc, "web")?)
+}
+
+fn copy_of_name<R: Print + Eprint>(rt: &R, name: &ServiceName) -> Result<ServiceName, Stop> {
+    match made(rt, "ServiceName::clone", clone_name(name))? {
+        Some(copy) => Ok(copy),
+        None => made_again(rt, "ServiceName::clone", clone_name(name)),
+    }
+}
+
+fn clone_name(name: &ServiceName) -> Result<ServiceName, Stop> {
+    Ok(name.clone()?)
 }
 
 fn make_strategies<R: AllocGlobal + Print + Eprint>(rt: &R) -> Result<(), Stop> {
     let strategy = strategy_of(rt, EVERY_FIELD)?;
     let copy = copy_of(rt, &strategy)?;
+    show_strategies(rt, &strategy, &copy)
+}
+
+fn show_strategies<R: Print>(rt: &R, strategy: &Strategy, copy: &Strategy) -> Result<(), Stop> {
     println!(rt; "{strategy:?}\n{copy:?}")?;
     Ok(())
 }
 
-/// A strategy of two replicas, twice: an opening that is refused keeps the one that it was given.
-#[derive(Drop)]
-pub struct Strategies {
-    first: Option<Strategy>,
-    second: Option<Strategy>,
-}
-
-impl Strategies {
-    pub fn read<R: AllocGlobal + Print + Eprint>(rt: &R) -> Result<Strategies, Stop> {
-        let strategy = strategy_of(rt, BASE)?;
-        let copy = copy_of(rt, &strategy)?;
-        Ok(Strategies {
-            first: Some(strategy),
-            second: Some(copy),
-        })
-    }
-
-    /// One that wasn't taken yet.
-    pub fn take(&mut self) -> Result<Strategy, Stop> {
-        match self.first.take() {
-            Some(strategy) => Ok(strategy),
-            None => self.second.take().ok_or(Stop::OtherFault),
-        }
-    }
+/// The strategy of the books: two replicas, and no preview service.
+pub fn base_strategy<R: AllocGlobal + Print + Eprint>(rt: &R) -> Result<Strategy, Stop> {
+    strategy_of(rt, BASE)
 }
 
 fn strategy_of<R: AllocGlobal + Print + Eprint>(rt: &R, text: &str) -> Result<Strategy, Stop> {
     let alloc = rt.alloc();
-    make(
-        rt,
-        "bg_strategy::read",
-        || Ok(read(alloc, text.as_bytes())?),
-    )
+    match made(rt, "bg_strategy::read", read_strategy(alloc, text))? {
+        Some(strategy) => Ok(strategy),
+        None => made_again(rt, "bg_strategy::read", read_strategy(alloc, text)),
+    }
+}
+
+fn read_strategy(alloc: Global, text: &str) -> Result<Strategy, Stop> {
+    Ok(read(alloc, text.as_bytes())?)
 }
 
 fn copy_of<R: Print + Eprint>(rt: &R, strategy: &Strategy) -> Result<Strategy, Stop> {
-    make(rt, "Strategy::clone", || Ok(strategy.clone()?))
+    match made(rt, "Strategy::clone", clone_strategy(strategy))? {
+        Some(copy) => Ok(copy),
+        None => made_again(rt, "Strategy::clone", clone_strategy(strategy)),
+    }
+}
+
+fn clone_strategy(strategy: &Strategy) -> Result<Strategy, Stop> {
+    Ok(strategy.clone()?)
 }

@@ -33,7 +33,7 @@ pub goes_on : (start stage next : Stage) (first now new : Option (List ℕ)) (fa
     → Goes start first new next (faulted || fault) xs zs
 goes_on start stage next first now new faulted fault read xs ys zs p line s = λ last later answers appended.
     let more : Answered stage (lines_of ys) (s.written ∷ later) =
-    subst (λ ls. Answered stage ls (s.written ∷ later)) (sym line.1) (next, s.step line.0 line.2, answers) in
+    subst (λ ls. Answered stage ls (s.written ∷ later)) (sym line.1) (next, (read, line.2.0, s.step line.2.1), answers) in
     let all = p last (s.written ∷ later) more (Appends-trans now new last _ _ s.wrote.appended appended) in
     let same : (faulted || (is_fault_written s.written || has_fault later)) ≡ ((faulted || fault) || has_fault later) =
     or_assoc faulted (is_fault_written s.written) (has_fault later) ∙ ap (λ t. (faulted || t) || has_fault later) (sym s.wrote.fault_is) in

@@ -1,19 +1,20 @@
 -- What the lines of a script are answered.
-use Rattle.std.specs.Prelude.{◌≡◌, ℕ, Bool, false, ◌||◌, List, [], ◌∷◌, ◌⊎◌, ⊤, Option, None, Some, if◌then◌else◌}
+use Rattle.std.specs.Prelude.{◌≡◌, ℕ, Bool, false, ◌||◌, List, [], ◌∷◌, ⊤, Option, None, Result, Ok, Err, if◌then◌else◌}
 use Rattle.std.specs.List.{flat_map}
 use Rattle.std.specs.Io.KnownBytes.{Appends}
 use Rattle.bg_strategy.specs.declared.strategy.Strategy.{Strategy}
-use Rattle.bg_book.specs.declared.calls.Reply.{Reply}
+use Rattle.bg_book.specs.declared.calls.Call.{Call}
+use Rattle.bg_book.specs.declared.calls.Call.TheVariants as call
 use Rattle.bg_book.specs.declared.fault.OpenFault.TheVariants as open_fault
 use Rattle.bg_book.specs.declared.seat.Seat.{Seat}
-use Rattle.bg_book.specs.Refusals.{open_refusal, usual_limits}
+use Rattle.bg_book.specs.Refusals.{open_refusal, usual_limits, IsRefusedBy}
 use Rattle.bg_book.specs.Changes.{opened, NewSeats}
 use Rattle.bg_book.specs.Routing.{Routing}
 use Rattle.bg_book.specs.Runs.{CallStep}
 use Rattle.bg_operator.specs.declared.command.Command.{Command}
-use Rattle.bg_operator.specs.declared.command.Command.TheVariants.{Open, Make, Report, Quit}
-use Rattle.bg_operator.specs.declared.line_fault.LineFault.TheVariants.{UnknownWord, OutOfMemory}
-use Rattle.bg_operator.specs.Commands.{command_of}
+use Rattle.bg_operator.specs.declared.command.Command.TheVariants.{Open, Control, Enter, Leave, Report, Quit}
+use Rattle.bg_operator.specs.declared.line_fault.LineFault.{LineFault}
+use Rattle.bg_operator.specs.Commands.{IsReadAs, line_reading}
 use Rattle.bg_operator.specs.Lines.{lines_of}
 use Rattle.bg_operator.specs.Parting.{part_of, rest_of}
 use Rattle.bg_report.specs.Reports.{report_text}
@@ -44,63 +45,71 @@ abbrev pub is_fault_written : Written → Bool
 is_fault_written (Said answer) = is_fault answer
 is_fault_written (Reported book) = false
 
--- What `open` is answered while no book is open. Memory may be refused to the line and to the
--- opening, and then no book is open.
+-- what the opening of a book is answered while none is open
 abbrev pub OpenStep : Strategy → ℕ → List ℕ → List ℕ → Written → Stage → Type 0
 OpenStep s count name ports (Said Opened) (Running book seats) =
     (open_refusal s name ports count usual_limits ≡ None)
     × (book ≡ opened s name ports count usual_limits seats) × NewSeats count seats
 OpenStep s count name ports (Said (OpenRefused fault)) (Closed strategy seats) =
-    ((open_refusal s name ports count usual_limits ≡ Some fault) ⊎ (fault ≡ open_fault.OutOfMemory))
+    IsRefusedBy (open_refusal s name ports count usual_limits) open_fault.OutOfMemory fault
     × (strategy ≡ s) × (seats ≡ count)
-OpenStep s count name ports (Said (Unread OutOfMemory)) (Closed strategy seats) =
-    (strategy ≡ s) × (seats ≡ count)
 OpenStep s count name ports _ _ = ⊥
 
--- what a line is answered while no book is open; None is a line that is not well formed
-abbrev pub ClosedStep : Strategy → ℕ → Option Command → Written → Stage → Type 0
-ClosedStep s count None written next =
-    (written ≡ Said (Unread UnknownWord)) × (next ≡ Closed s count)
-ClosedStep s count (Some (Open name ports)) written next = OpenStep s count name ports written next
-ClosedStep s count (Some (Make call)) written next =
-    (written ≡ Said NotOpen) × (next ≡ Closed s count)
-ClosedStep s count (Some Report) written next =
-    (written ≡ Said NotOpen) × (next ≡ Closed s count)
-ClosedStep s count (Some Quit) written next = ⊥
+-- this is answered, and the script stands where it stood
+abbrev pub Stays : Stage → Answer → Written → Stage → Type 0
+Stays stage answer written next = (written ≡ Said answer) × (next ≡ stage)
+
+-- what a line that was read so is answered while no book is open
+abbrev pub ClosedStep : Strategy → ℕ → Result Command LineFault → Written → Stage → Type 0
+ClosedStep s count (Err fault) written next = Stays (Closed s count) (Unread fault) written next
+ClosedStep s count (Ok (Open name ports)) written next = OpenStep s count name ports written next
+ClosedStep s count (Ok (Control event)) written next = Stays (Closed s count) NotOpen written next
+ClosedStep s count (Ok (Enter seat service)) written next =
+    Stays (Closed s count) NotOpen written next
+ClosedStep s count (Ok (Leave seat)) written next = Stays (Closed s count) NotOpen written next
+ClosedStep s count (Ok Report) written next = Stays (Closed s count) NotOpen written next
+ClosedStep s count (Ok Quit) written next = ⊥
 
 -- what a call is answered, by the rules of the book
-abbrev pub CallMade : Routing → List Seat → Written → Stage
-    → (Reply → Routing → List Seat → Type 0) → Type 0
-CallMade book seats (Said (Made reply)) (Running new new_seats) step =
-    step reply new new_seats
-CallMade book seats _ _ step = ⊥
+abbrev pub CallMade : Routing → List Seat → Call → Written → Stage → Type 0
+CallMade book seats made (Said (Made reply)) (Running new new_seats) =
+    CallStep book seats made reply new new_seats
+CallMade book seats made _ _ = ⊥
 
--- What a line is answered while a book is open. Only a call changes it. Memory may be refused to the
--- line `open`.
-abbrev pub RunningStep : Routing → List Seat → Option Command → Written → Stage → Type 0
-RunningStep book seats None written next =
-    (written ≡ Said (Unread UnknownWord)) × (next ≡ Running book seats)
-RunningStep book seats (Some (Open name ports)) written next =
-    ((written ≡ Said AlreadyOpen) ⊎ (written ≡ Said (Unread OutOfMemory)))
-    × (next ≡ Running book seats)
-RunningStep book seats (Some (Make call)) written next =
-    CallMade book seats written next (CallStep book seats call)
-RunningStep book seats (Some Report) written next =
+-- what a line that was read so is answered while a book is open: only a call changes it
+abbrev pub RunningStep : Routing → List Seat → Result Command LineFault → Written → Stage → Type 0
+RunningStep book seats (Err fault) written next =
+    Stays (Running book seats) (Unread fault) written next
+RunningStep book seats (Ok (Open name ports)) written next =
+    Stays (Running book seats) AlreadyOpen written next
+RunningStep book seats (Ok (Control event)) written next =
+    CallMade book seats (call.Control event) written next
+RunningStep book seats (Ok (Enter seat service)) written next =
+    CallMade book seats (call.Enter seat service) written next
+RunningStep book seats (Ok (Leave seat)) written next =
+    CallMade book seats (call.Leave seat) written next
+RunningStep book seats (Ok Report) written next =
     (written ≡ Reported book) × (next ≡ Running book seats)
-RunningStep book seats (Some Quit) written next = ⊥
+RunningStep book seats (Ok Quit) written next = ⊥
 
--- a line may be answered so, and the script stands so then; `quit` is not answered
-abbrev pub LineStep : Stage → Option Command → Written → Stage → Type 0
-LineStep (Closed s count) command written next = ClosedStep s count command written next
-LineStep (Running book seats) command written next = RunningStep book seats command written next
+-- a line that was read so is answered so, and the script stands so then; `quit` is not answered
+abbrev pub ReadStep : Stage → Result Command LineFault → Written → Stage → Type 0
+ReadStep (Closed s count) read written next = ClosedStep s count read written next
+ReadStep (Running book seats) read written next = RunningStep book seats read written next
+
+-- a line may be answered so: as it is read, or for want of memory where it needs some
+abbrev pub LineStep : Stage → List ℕ → Written → Stage → Type 0
+LineStep stage line written next =
+    (read : Result Command LineFault) × IsReadAs (line_reading line) read
+    × ReadStep stage read written next
 
 -- the lines of a script may be answered so, one after the other, up to `quit` or to the end
 abbrev pub Answered : Stage → List (List ℕ) → List Written → Type 0
 Answered stage [] [] = ⊤
 Answered stage [] (written ∷ later) = ⊥
-Answered stage (line ∷ lines) [] = command_of line ≡ Some Quit
+Answered stage (line ∷ lines) [] = line_reading line ≡ Ok Quit
 Answered stage (line ∷ lines) (written ∷ later) =
-    (next : Stage) × LineStep stage (command_of line) written next × Answered next lines later
+    (next : Stage) × LineStep stage line written next × Answered next lines later
 
 -- all that is written
 abbrev pub text_of : List Written → List ℕ

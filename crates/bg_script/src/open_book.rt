@@ -1,13 +1,13 @@
 //! An open book, and what it answers to the lines of a script.
-ghost use Rattle.std.specs.Prelude.{◌≤◌, IfOk, IfErr, length};
-ghost use Rattle.bg_book.specs.Runs.{AreApart, AreKnown};
+ghost use Rattle.std.specs.Prelude.{IfOk, IfErr, length};
+ghost use Rattle.bg_book.specs.Runs.{AreApart, AreKnown, AreOut, CallStep, LeavesAll};
 ghost use Rattle.bg_script.specs.declared.answer.Answer.TheVariants.{Opened, OpenRefused};
 ghost use Rattle.bg_script.specs.Scripts.{OpenStep, Said, Reported, Closed, Running};
-ghost use Rattle.bg_script.specs.Serving.{AreOut, Served, StepRead, Wrote};
+ghost use Rattle.bg_script.specs.Serving.{Served, StepRead, Wrote};
 
 use crate::answer::{Answer, write_answer};
 use crate::run_end::RunEnd;
-use bg_book::{Book, Call, Limits, MOST_SEATS, OpenFault, Seat};
+use bg_book::{Book, Call, Limits, OpenFault, Reply, Seat};
 use bg_operator::{Command, LineFault};
 use bg_strategy::Strategy;
 use std::alloc::Global;
@@ -20,7 +20,6 @@ pub struct OpenBook {
     seats: Vec<Seat>,
     ghost known: { AreKnown book seats.items },
     ghost apart: { AreApart seats.items },
-    ghost few: { length seats.items ≤ 8 },
 }
 
 impl OpenBook {
@@ -37,8 +36,7 @@ impl OpenBook {
         ensures err { IfErr result (λ fault. OpenStep strategy.now seats name.now ports.now
             (Said (OpenRefused fault)) (Closed strategy.now seats)) }
     {
-        let copy = strategy.clone()?;
-        let (book, seats) = Book::open(alloc, copy, name, ports, seats, Limits::usual())?;
+        let (book, seats) = Book::open(alloc, strategy, name, ports, seats, Limits::usual())?;
         Ok(OpenBook { book, seats })
     }
 
@@ -62,7 +60,7 @@ impl OpenBook {
                     Err(fault) => Err(Answer::OpenRefused(fault)),
                 }
             }
-            Ok(Command::Make(_) | Command::Report | Command::Quit) => Err(Answer::NotOpen),
+            Ok(_) => Err(Answer::NotOpen),
             Err(fault) => Err(Answer::Unread(*fault)),
         }
     }
@@ -70,32 +68,40 @@ impl OpenBook {
     /// Answers a line. Returns whether it is answered by a fault.
     pub fn serve<W: Write>(
         &mut self,
-        read: &Result<Command, LineFault>,
+        read: Result<Command, LineFault>,
         writer: &mut W,
     ) -> Result<bool, RunEnd>
-        ensures { IfOk result (Served (Running self.old.book self.old.seats.items) read.now
+        ensures { IfOk result (Served (Running self.old.book self.old.seats.items) read
             (W.contents writer.old) (W.contents writer.new)
             (Running self.new.book self.new.seats.items)) }
     {
-        match read {
-            Ok(Command::Make(call)) => {
-                let reply = self.book.call(&mut self.seats, call);
-                say(Answer::Made(reply), writer)
-            }
-            Ok(Command::Report) => write_report(&self.book, writer),
-            Ok(Command::Open { .. } | Command::Quit) => say(Answer::AlreadyOpen, writer),
-            Err(fault) => say(Answer::Unread(*fault), writer),
-        }
+        let call = match read {
+            Ok(Command::Control(event)) => Call::Control(event),
+            Ok(Command::Enter { seat, service }) => Call::Enter { seat, service },
+            Ok(Command::Leave { seat }) => Call::Leave { seat },
+            Ok(Command::Report) => return write_report(&self.book, writer),
+            Ok(Command::Open { .. } | Command::Quit) => return say(Answer::AlreadyOpen, writer),
+            Err(fault) => return say(Answer::Unread(fault), writer),
+        };
+        let reply = self.call(&call);
+        say(Answer::Made(reply), writer)
     }
 
-    /// Lets each request that is in leave, without a reply.
-    pub fn leave_all(&mut self)
-        ensures { AreOut self.new.seats.items }
+    /// Makes a call of the book.
+    fn call(&mut self, call: &Call) -> Reply
+        ensures { CallStep self.old.book self.old.seats.items call.now result
+            self.new.book self.new.seats.items }
     {
-        // at a place without a seat, and at a seat that is out, nothing changes
-        for seat in 0..MOST_SEATS {
-            let _ = self.book.call(&mut self.seats, &Call::Leave { seat });
-        }
+        self.book.call(&mut self.seats, call)
+    }
+
+    /// Lets each request that is in leave, in the order of the seats, without a reply.
+    pub fn leave_all(&mut self)
+        ensures left { LeavesAll self.old.book self.old.seats.items
+            (length self.old.seats.items) self.new.book self.new.seats.items }
+        ensures out { AreOut self.new.seats.items }
+    {
+        self.book.leave_all(&mut self.seats);
     }
 }
 

@@ -125,7 +125,7 @@ fn answer_lines<B: BufRead, W: Write>(
         let Some(read) = lines.next(reader)? else {
             return Ok(faulted);
         };
-        let fault = opened.serve(&read, writer)?;
+        let fault = opened.serve(read, writer)?;
         faulted |= fault;
     }
     Err(RunEnd::ReadFailed)

@@ -20,12 +20,20 @@ impl Room {
     fn open(alloc: Global) -> Result<Room, Fail> {
         let strategy = strategy(alloc)?;
         let usual = Limits::usual();
-        let (book, seats) = Book::open(alloc, strategy, "v1", &[9001, 9002], 4, usual)?;
+        let (book, seats) = Book::open(alloc, &strategy, "v1", &[9001, 9002], 4, usual)?;
         Ok(Room { book, seats })
     }
 
     fn run(&mut self, calls: &[Call]) -> Result<Vec<Reply>, Fail> {
         Ok(self.book.run(&mut self.seats, calls)?)
+    }
+}
+
+/// A request enters at seat 0.
+fn enter() -> Call {
+    Call::Enter {
+        seat: 0,
+        service: Service::Active,
     }
 }
 
@@ -35,12 +43,8 @@ fn answers_a_list_of_calls(rt: HostRuntime) -> Result<(), Fail> {
         revision: 1,
         size: 2,
     });
-    let enter = Call::Enter {
-        seat: 0,
-        service: Service::Active,
-    };
     let mut room = Room::open(rt.alloc())?;
-    let replies = room.run(&[available, enter, enter, Call::Leave { seat: 0 }])?;
+    let replies = room.run(&[available, enter(), enter(), Call::Leave { seat: 0 }])?;
     let entered = Reply::Entered(Ticket {
         number: 1,
         revision: 1,

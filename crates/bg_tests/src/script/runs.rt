@@ -104,3 +104,21 @@ fn writes_taken(rt: &impl Abort, alloc: Global, command: Command, input: &str) -
     }
     0
 }
+
+#[test]
+fn reads_nothing_after_quit(rt: HostRuntime) {
+    let input = "{\"spec\":{\"strategy\":{\"blueGreen\":{\"activeService\":\"web\"}}}}\n---\nopen v1 9001\nquit\nreport\n";
+    let mut reader = Slow::new(input.as_bytes(), 1000);
+    let status = replay(rt.alloc(), 1, &mut reader, &mut Page::new());
+    assert_eq!(rt; status, Ok(0));
+    assert_eq!(rt; reader.unread(), b"report\n".as_slice());
+}
+
+#[test]
+fn reads_nothing_after_a_fault_of_the_strategy(rt: HostRuntime) {
+    let input = "{\"spec\": 5}\n---\nopen v1 9001\n";
+    let mut reader = Slow::new(input.as_bytes(), 1000);
+    let status = replay(rt.alloc(), 1, &mut reader, &mut Page::new());
+    assert_eq!(rt; status, Ok(1));
+    assert_eq!(rt; reader.unread(), b"open v1 9001\n".as_slice());
+}

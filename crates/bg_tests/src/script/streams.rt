@@ -18,6 +18,11 @@ impl<'a> Slow<'a> {
             reads_left,
         }
     }
+
+    /// The bytes that it didn't give yet.
+    pub fn unread(&self) -> &'a [u8] {
+        self.bytes
+    }
 }
 
 impl Read for Slow<'_> {

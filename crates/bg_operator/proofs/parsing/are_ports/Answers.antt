@@ -1,11 +1,11 @@
 use Rattle.std.proofs.Common.{refl, rules, tests}
 use Rattle.std.proofs.lemmas.Iterator.Consumers.{YieldsList-from_first}
 use Rattle.std.proofs.lemmas.Iterator.Search.{all_from_yields_List}
-use Rattle.bg_operator.specs.Commands.{is_number, words_ahead}
-use Rattle.bg_operator.proofs.WordNumbers.{is_some_number}
+use Rattle.bg_operator.specs.Words.{is_number, words_ahead}
+use Rattle.bg_operator.proofs.WordNumbers.{is_ok_number}
 use Rattle.bg_operator.proofs.parsing.are_ports.Goals as goal
 
 pub returns : goal.returns
 returns c =
     all_from_yields_List (is_number 16) c.all.new.self _ _ c.all.ensures.ran
-    (YieldsList-from_first (λ x. x.now) words_ahead {s = c.args.words} (words_ahead c.args.words) refl) (λ x b q k. search (rules, tests, is_some_number 16 x.now))
+    (YieldsList-from_first (λ x. x.now) words_ahead {s = c.args.words} (words_ahead c.args.words) refl) (λ x b q k. search (rules, tests, is_ok_number 16 x.now))

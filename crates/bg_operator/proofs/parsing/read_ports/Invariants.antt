@@ -1,7 +1,7 @@
 use Rattle.std.proofs.Common.{◌≡◌, true, ◌++◌, map}
 use Rattle.std.specs.List.{list_all}
 use Rattle.std.specs.Str.Parse.{digits_value}
-use Rattle.bg_operator.specs.Commands.{is_number, words_ahead}
+use Rattle.bg_operator.specs.Words.{is_number, words_ahead}
 use Rattle.bg_operator.proofs.parsing.read_ports.Given as goal
 
 abbrev pub invariant-loop-word : goal.invariant-loop-word

@@ -1,13 +1,16 @@
-use Rattle.std.proofs.Common.{◌≡◌, ◌≤◌, ◌+◌, ◌*◌, ◌∷◌, ℕ, true, false, length, None, Result, Ok, ap, ◌∙◌, subst, arith}
+use Rattle.std.proofs.Common.{◌≡◌, ◌≤◌, ◌+◌, ◌*◌, ◌∷◌, ℕ, true, false, length, Option, Some, None, Result, Ok, Err, inl, sym, ap, ◌∙◌, subst, arith}
+use Rattle.std.specs.Result.{IsErrAnd}
 use Rattle.bg_history.specs.Steps.{is_settled}
 use Rattle.bg_pasts.specs.Reachable.{Reachable}
 use Rattle.bg_book.specs.declared.calls.Control.{Control}
-use Rattle.bg_book.specs.declared.fault.ControlFault.{ControlFault}
+use Rattle.bg_book.specs.declared.control_fault.ControlFault.{ControlFault}
+use Rattle.bg_book.specs.declared.control_fault.ControlFault.TheVariants as control_fault
 use Rattle.bg_book.specs.declared.limits.Limits.{Limits}
 use Rattle.bg_book.specs.Changes.{with_past}
-use Rattle.bg_book.specs.Refusals.{all_open, refuse, event_of, is_full_for_control, control_refusal}
+use Rattle.bg_book.specs.Refusals.{all_open, refuse, AnswersBy, event_of, is_full_for_control, control_refusal}
 use Rattle.bg_book.specs.Routing.{Routing}
-use Rattle.bg_book.specs.Settling.{Reached, Recorded}
+use Rattle.bg_book.specs.Settling.{Reached}
+use Rattle.bg_book.specs.Recording.{Recorded}
 use Rattle.bg_book.specs.Invariant.{Midway, AtRest}
 use Rattle.bg_book.proofs.Events.{no_fault, accepted, within}
 use Rattle.bg_book.proofs.Reaching.{follow_few, reached_few, open_after, length_after, limits_after, control_opens_none}
@@ -27,7 +30,7 @@ settle-requires c = λ outcomes follow.
     let b = c.take_in.new.self.routing in
     let reach : Reachable b.strategy b.opening b.past = c.reachable.ensures b.strategy b.opening b.past c.stands-2.ensures.legal.allowed in
     let few = follow_few c.work_falls.ensures b.strategy b.past outcomes follow in
-    omega (arith, few, c.work_is_bounded.ensures b.strategy b.past reach.few, c.take_in.ensures.spare, c.in_ok-reserve.ensures.ok, c.places_kept-reserved.ensures)
+    omega (arith, few, c.work_is_bounded.ensures b.strategy b.past reach.few, c.in_ok-take_in.ensures.ok.spare, c.in_ok-reserve.ensures.ok, c.places_kept-reserved.ensures)
 
 -- the event wasn't refused
 unrefused : (b now : Routing) (control : Control) (answer : Result (Unit {0}) ControlFault) (t : Unit {0}) → b ≡ now → answer ≡ refuse (control_refusal b control) → answer ≡ Ok t → control_refusal now control ≡ None
@@ -35,6 +38,19 @@ unrefused b now control answer t is judged ok = subst (λ (v : Routing). control
 
 pub returns-clause-refusal : goal.returns-clause-refusal
 returns-clause-refusal c = unrefused _ _ c.args.control.now c.check.result c.in_ok-check.field-0 c.self.view_is c.check.ensures c.in_ok-check.was
+
+-- it was
+refused : (b now : Routing) (control : Control) (answer : Result (Unit {0}) ControlFault) (e : ControlFault) → b ≡ now → answer ≡ refuse (control_refusal b control) → answer ≡ Err e → control_refusal now control ≡ Some e
+refused b now control answer e is judged err = subst (λ (v : Routing). control_refusal v control ≡ Some e) is (fault_of (control_refusal b control) (sym judged ∙ err)) where
+  fault_of : (x : Option ControlFault) → refuse x ≡ Err e → x ≡ Some e
+  fault_of None h = absurd (cc)
+  fault_of (Some f) h = cc
+
+pub returns-in_err-check-clause-refusal : goal.returns-in_err-check-clause-refusal
+returns-in_err-check-clause-refusal c = told _ control_fault.OutOfMemory _ c.from_residual.result (refused _ _ c.args.control.now c.check.result c.in_err-check.field-0.0 c.self.view_is c.check.ensures c.in_err-check.was) c.from_residual.ensures.1 where
+  told : (x : Option ControlFault) (last e : ControlFault) (r : Result ℕ ControlFault) → x ≡ Some e → IsErrAnd r (λ f. f ≡ e) → AnswersBy x last r
+  told x last e (Ok n) is h = absurd h
+  told x last e (Err f) is h = inl (is ∙ ap Some (sym h))
 
 pub returns-clause-few : goal.returns-clause-few
 returns-clause-few c =
@@ -44,16 +60,16 @@ returns-clause-few c =
     omega (arith, few)
 
 -- what holds after the outcomes of an event that had room
-at_rest : (rollout reserved event settled : Midway) (control : Control) (n : ℕ) → AtRest rollout → reserved.routing ≡ rollout.routing → Recorded (event_of control) reserved event
+at_rest : (rollout reserved event settled : Midway) (control : Control) (n : ℕ) → AtRest rollout → reserved.routing ≡ rollout.routing → Recorded (event_of reserved.routing control) reserved event
     → Reached event.routing settled.routing n → n ≤ 136 → settled.spare + n ≡ event.spare → 141 + 3 * all_open rollout.routing.past ≤ reserved.spare
     → is_full_for_control rollout.routing.limits rollout.routing.past ≡ false → is_settled settled.routing.strategy settled.routing.past ≡ true → AtRest settled
 at_rest rollout reserved event settled control n rest same recorded reached few spare places room quiet =
-    let made : event.routing ≡ with_past rollout.routing (event_of control ∷ rollout.routing.past) rollout.routing.seats =
-    recorded.routing ∙ ap (λ (v : Routing). with_past v (event_of control ∷ v.past) v.seats) same in
+    let made : event.routing ≡ with_past rollout.routing (event_of rollout.routing control ∷ rollout.routing.past) rollout.routing.seats =
+    recorded.routing ∙ ap (λ (v : Routing). with_past v (event_of v control ∷ v.past) v.seats) same in
     let kept : all_open settled.routing.past ≡ all_open rollout.routing.past =
-    open_after event.routing settled.routing n reached ∙ ap (λ (v : Routing). all_open v.past) made ∙ control_opens_none control rollout.routing.past in
+    open_after event.routing settled.routing n reached ∙ ap (λ (v : Routing). all_open v.past) made ∙ control_opens_none rollout.routing control rollout.routing.past in
     let entries : length settled.routing.past ≡ n + length event.routing.past = length_after event.routing settled.routing n reached in
-    let one : length event.routing.past ≡ length (event_of control ∷ rollout.routing.past) = ap (λ (v : Routing). length v.past) made in
+    let one : length event.routing.past ≡ length (event_of rollout.routing control ∷ rollout.routing.past) = ap (λ (v : Routing). length v.past) made in
     let limits : settled.routing.limits ≡ rollout.routing.limits = limits_after event.routing settled.routing n reached ∙ ap (λ (v : Routing). v.limits) made in
     let full : length rollout.routing.past + 141 + 3 * all_open rollout.routing.past ≤ rollout.routing.limits.entries = within _ _ room in
     let limit : settled.routing.limits.entries ≡ rollout.routing.limits.entries = ap (λ (l : Limits). l.entries) limits in
@@ -69,6 +85,6 @@ invariant_of-self-2 c =
     let reach : Reachable b.strategy b.opening b.past = c.reachable.ensures b.strategy b.opening b.past c.stands-2.ensures.legal.allowed in
     let few = reached_few c.work_falls.ensures b _ c.settle.result 136 c.settle.ensures.reached (c.work_is_bounded.ensures b.strategy b.past reach.few) in
     let refusal = no_fault (control_refusal c.self.inside.rollout.routing c.args.control.now) c.check.result c.in_ok-check.field-0 c.check.ensures c.in_ok-check.was in
-    at_rest c.self.inside.rollout c.reserve.new.self c.take_in.new.self c.settle.new.self c.args.control.now c.settle.result c.self.invariant c.reserve.ensures.routing c.take_in.ensures
+    at_rest c.self.inside.rollout c.reserve.new.self c.take_in.new.self c.settle.new.self c.args.control.now c.settle.result c.self.invariant c.reserve.ensures.routing c.in_ok-take_in.ensures.ok
     c.settle.ensures.reached few c.settle.ensures.spare (omega (arith, c.in_ok-reserve.ensures.ok, c.places_kept-reserved.ensures))
     (accepted c.self.inside.rollout.routing c.args.control.now refusal).1 c.settle.ensures.settled

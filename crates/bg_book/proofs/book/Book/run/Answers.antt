@@ -1,8 +1,6 @@
-use Rattle.std.proofs.Common.{◌+◌, ◌++◌, ◌∷◌, [], List, take, get_or, sym, ap, ◌∙◌, subst}
+use Rattle.std.proofs.Common.{◌+◌, ◌++◌, ◌∷◌, [], List, take, sym, ap, ◌∙◌, subst}
 use Rattle.std.proofs.lemmas.List.{take_more}
-use Rattle.bg_revisions.specs.declared.revision.Service.TheVariants.{Active}
 use Rattle.bg_book.specs.declared.calls.Call.{Call}
-use Rattle.bg_book.specs.declared.calls.Call.TheVariants as call
 use Rattle.bg_book.specs.declared.calls.Reply.{Reply}
 use Rattle.bg_book.specs.Runs.{Runs}
 use Rattle.bg_book.proofs.Running.{run_more}
@@ -12,11 +10,12 @@ pub loop-call-preserved : goal.loop-call-preserved
 loop-call-preserved c =
     let b = c.args.self.now in
     let seats = c.args.seats.now in
-    let made = run_more b seats (take c.loop-call.call-index c.args.calls.now) c.loop-call.replies.items c.loop-call.self c.loop-call.seats _ c.call-reply.result c.call-reply.new.self c.call-reply.new.seats
+    let before = take c.loop-call.call-index c.args.calls.now in
+    let made = run_more b seats before c.loop-call.replies.items c.loop-call.self c.loop-call.seats c.call-item.result c.call-reply.result c.call-reply.new.self c.call-reply.new.seats
     c.loop-call.invariant.0 c.call-reply.ensures.reply in (
       subst (λ (calls : List Call). Runs b seats calls c.push_reserved.new.self.items c.call-reply.new.self c.call-reply.new.seats)
-          (sym (take_more c.args.calls.now c.loop-call.call-index (call.Enter 0 Active) c.loop-call-test.true))
-          (subst (λ (replies : List Reply). Runs b seats (take c.loop-call.call-index c.args.calls.now ++ get_or c.args.calls.now c.loop-call.call-index (call.Enter 0 Active) ∷ []) replies c.call-reply.new.self c.call-reply.new.seats)
+          (ap (λ (d : Call). before ++ d ∷ []) c.call-item.is ∙ sym (take_more c.args.calls.now c.loop-call.call-index c.call-item.result c.loop-call-test.true))
+          (subst (λ (replies : List Reply). Runs b seats (before ++ c.call-item.result ∷ []) replies c.call-reply.new.self c.call-reply.new.seats)
           (sym c.push_reserved.ensures.items) made),
       c.call-reply.ensures.known,
       c.call-reply.ensures.apart,

@@ -20,7 +20,6 @@ use Rattle.bg_listing.specs.Listed.{revision_of, revisions_of}
 use Rattle.bg_pasts.specs.Reachable.{Reachable}
 use Rattle.bg_book.specs.OpenLists.{OpenAt, lists_of}
 use Rattle.bg_book.specs.declared.rollout.Rollout.TheInside.{Inside}
-use Rattle.bg_book.specs.Settling.{Recorded}
 use Rattle.bg_book.specs.Invariant.{Midway, Stands, midway_of, running_of}
 use Rattle.bg_book.proofs.Events.{found_there, wants}
 use Rattle.std.proofs.lemmas.Bool.Decides.{nat_tests}
@@ -29,7 +28,7 @@ use Rattle.bg_history.specs.Deadlines.{exists_in}
 use Rattle.bg_book.proofs.Requests.{and_parts}
 use Rattle.bg_book.proofs.Lists.{lists-Removed}
 use Rattle.bg_book.proofs.Outcomes.{first_is_allowed, step_is_first, no_step_is_neutral, resumed_is_newest, scaled_down_exists, removed_was}
-use Rattle.bg_book.proofs.Recording.{Carries, stands_recorded, recorded_by}
+use Rattle.bg_book.proofs.Carrying.{Carries, stands_recorded, recorded_by, recorded_left}
 use Rattle.bg_book.proofs.rollout.Rollout.record_outcome.Goals as goal
 use Rattle.bg_book.proofs.rollout.Rollout.record_outcome.Goals.{After-push_reserved, in-Resumed, in-ScaledDown, in-Removed, in-Ready, in-Switched, in-Promoted}
 
@@ -222,11 +221,6 @@ invariant_of-self c =
     (sym left.rest)
     (stands_recorded (midway_of inside).routing (running_of inside) (entry.Outcome c.args.outcome) _ c.match-outcome.self-inside.lists c.push_reserved.new.self inside.history c.self.invariant (carried c) refl
     (pushed c) left.follows.lists)
-
--- the same of the rollout as it was left
-recorded_left : (inside left : Inside) (now : Midway) (core : Standing) (history : Kept) (e : Entry) → inside ≡ left
-    → Recorded e now (midway_of (record inside { core = core; history = history })) → Recorded e now (midway_of (record left { core = core; history = history }))
-recorded_left inside left now core history e is made = subst (λ (i : Inside). Recorded e now (midway_of (record i { core = core; history = history }))) is made
 
 pub returns : goal.returns
 returns c =

@@ -1,5 +1,5 @@
 use Rattle.std.proofs.Common.{◌≡◌, length}
-use Rattle.bg_operator.specs.Commands.{words_ahead}
+use Rattle.bg_operator.specs.Words.{words_ahead}
 use Rattle.bg_operator.proofs.words.WordsIterator.next.Given as goal
 
 abbrev pub invariant-loop-word : goal.invariant-loop-word

@@ -1,0 +1,53 @@
+use Rattle.std.proofs.Common.{◌≡◌, Ok, map, refl, sym, ap, ◌∙◌, subst}
+use Rattle.std.specs.Prelude.{OnOk}
+use Rattle.bg_history.specs.declared.entry.Entry.TheVariants as event
+use Rattle.bg_revisions.specs.Rosters.{Listing, reported}
+use Rattle.bg_book.specs.declared.calls.Control.TheVariants.{Available}
+use Rattle.bg_book.specs.Invariant.{RunningState, Stands, midway_of, running_of}
+use Rattle.bg_book.proofs.Events.{allowed-Available, fits_inside, reported_ok}
+use Rattle.bg_book.proofs.Carrying.{Carries, stands_recorded, recorded_by}
+use Rattle.bg_book.proofs.rollout.Rollout.take_report.Goals as goal
+
+-- the roster after the report
+reported_roster : (c : goal.After-push_reserved) → c.set_available-accepted.new.self
+    ≡ record c.self.inside.roster { revisions = map (reported c.args.revision c.args.size) c.self.inside.roster.revisions }
+reported_roster c =
+    let b = (midway_of c.self.inside).routing in
+    let r = c.args.revision in
+    let n = c.args.size in
+    let stand : Stands b (running_of c.self.inside) = c.self.invariant in
+    let fits = fits_inside _ _ (Available r n) c.self.view_is c.requires.fits in
+    let done : c.set_available-accepted.result ≡ Ok tt =
+    c.set_available-accepted.ensures.result ∙ reported_ok b _ r n stand.revisions (c.finds.ensures.number b.strategy b.opening b.past r) fits in
+    subst (λ t. OnOk t (c.set_available-accepted.new.self ≡ record c.self.inside.roster { revisions = map (reported r n) c.self.inside.roster.revisions })) done
+    c.set_available-accepted.ensures.reported
+
+pub invariant_of-self : goal.invariant_of-self
+invariant_of-self c =
+    let b = (midway_of c.self.inside).routing in
+    let k = running_of c.self.inside in
+    let r = c.args.revision in
+    let n = c.args.size in
+    let stand : Stands b k = c.self.invariant in
+    let roster = reported_roster c in
+    let new : RunningState = record k { roster = c.set_available-accepted.new.self } in
+    let carried : Carries b k (event.Available r n) new = record {
+      allowed = allowed-Available b r n (fits_inside _ _ (Available r n) c.self.view_is c.requires.fits);
+      plain = record { requests = refl; numbers = refl; entered = refl; calls = λ i. refl };
+      core = c.neutral.ensures _ _ _ refl stand.core;
+      revisions = ap (λ (l : Listing). l.revisions) roster ∙ ap (map (reported r n)) stand.revisions ∙ sym (c.reports.ensures b.strategy b.opening b.past r n);
+      replicas = ap (λ (l : Listing). l.replicas) roster;
+      last = ap (λ (l : Listing). l.last) roster ∙ stand.last;
+      deadlines = stand.deadlines;
+      moment = stand.moment;
+      given = refl;
+      open_is = refl;
+    } in
+    stands_recorded b k (event.Available r n) new b.lists c.push_reserved.new.self c.self.inside.history stand carried refl c.push_reserved.ensures.entry stand.routing.lists
+
+pub returns : goal.returns
+returns c =
+    let b = (midway_of c.self.inside).routing in
+    let stand : Stands b (running_of c.self.inside) = c.self.invariant in
+    recorded_by b _ _ (event.Available c.args.revision c.args.size) b.lists c.push_reserved.new.self c.self.inside.history c.self.view_is refl refl
+    c.push_reserved.ensures.entry c.push_reserved.ensures.spare stand.routing.lists

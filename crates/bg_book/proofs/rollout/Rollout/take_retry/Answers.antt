@@ -1,0 +1,59 @@
+use Rattle.std.proofs.Common.{◌≡◌, ℕ, max, map, refl, sym, ap, ◌∙◌, subst}
+use Rattle.std.specs.Prelude.{IfSome}
+use Rattle.bg_revisions.specs.declared.revision.Selectors.{Selectors}
+use Rattle.bg_revisions.specs.Rosters.{Listing, numbered, resized}
+use Rattle.bg_history.specs.declared.entry.Entry.TheVariants as event
+use Rattle.bg_history.specs.Turns.{newest_of}
+use Rattle.bg_history.specs.Sizes.{desired}
+use Rattle.bg_pasts.specs.Reachable.{Reachable}
+use Rattle.bg_book.specs.Invariant.{RunningState, Stands, midway_of, running_of}
+use Rattle.bg_book.proofs.Carrying.{Carries, stands_recorded, recorded_by, allowed_inside, core_inside}
+use Rattle.bg_book.proofs.Events.{grown}
+use Rattle.bg_book.proofs.rollout.Rollout.take_retry.Goals as goal
+
+-- the roster in which the newest revision wants as many as a preview
+grown_roster : (c : goal.After-push_reserved) → c.grow.new.roster
+    ≡ record c.self.inside.roster {
+      revisions = map (resized (newest_of c.self.inside.history.past)
+      (max c.self.inside.strategy.preview_replicas (desired c.self.inside.strategy (newest_of c.self.inside.history.past) c.self.inside.history.past)))
+      c.self.inside.roster.revisions;
+    }
+grown_roster c =
+    let b = (midway_of c.self.inside).routing in
+    let stand : Stands b (running_of c.self.inside) = c.self.invariant in
+    let reach : Reachable b.strategy b.opening b.past = c.reachable.ensures b.strategy b.opening b.past stand.routing.legal.allowed in
+    let newest : c.selectors-selectors.result.newest ≡ newest_of b.past = ap (λ (x : Selectors). x.newest) (c.selectors-selectors.ensures b.strategy b.past stand.core) in
+    grown b (newest_of b.past) b.strategy.preview_replicas c.self.inside.roster c.grow.new.roster stand.revisions
+    (c.finds.ensures.number b.strategy b.opening b.past (newest_of b.past)) reach.newest
+    (subst (λ (n : ℕ). IfSome (numbered n c.self.inside.roster.revisions) (λ v. c.grow.new.roster ≡ record c.self.inside.roster {
+      revisions = map (resized n (max b.strategy.preview_replicas v.desired)) c.self.inside.roster.revisions;
+    })) newest c.grow.ensures)
+
+pub invariant_of-self : goal.invariant_of-self
+invariant_of-self c =
+    let b = (midway_of c.self.inside).routing in
+    let k = running_of c.self.inside in
+    let e = event.Retry in
+    let new : RunningState = record k { core = c.args.core; roster = c.grow.new.roster; deadlines = c.record.new.self } in
+    let stand : Stands b k = c.self.invariant in
+    let roster = grown_roster c in
+    let carried : Carries b k e new = record {
+      allowed = allowed_inside _ _ e c.self.view_is c.requires.allowed;
+      plain = record { requests = refl; numbers = refl; entered = refl; calls = λ i. refl };
+      core = core_inside _ _ c.args.core e c.self.view_is c.requires.core;
+      revisions = ap (λ (l : Listing). l.revisions) roster ∙ ap (map (resized _ _)) stand.revisions ∙ sym (c.resizes.ensures.retry b.strategy b.opening b.past);
+      replicas = ap (λ (l : Listing). l.replicas) roster;
+      last = ap (λ (l : Listing). l.last) roster ∙ stand.last;
+      deadlines = c.record.ensures b.strategy b.past stand.deadlines (c.selectors-selectors.ensures b.strategy b.past stand.core) stand.moment;
+      moment = stand.moment;
+      given = refl;
+      open_is = refl;
+    } in
+    stands_recorded b k e new b.lists c.push_reserved.new.self c.self.inside.history stand carried refl c.push_reserved.ensures.entry stand.routing.lists
+
+pub returns : goal.returns
+returns c =
+    let b = (midway_of c.self.inside).routing in
+    let stand : Stands b (running_of c.self.inside) = c.self.invariant in
+    recorded_by b _ _ event.Retry b.lists c.push_reserved.new.self c.self.inside.history c.self.view_is refl refl
+    c.push_reserved.ensures.entry c.push_reserved.ensures.spare stand.routing.lists

@@ -1,0 +1,41 @@
+-- What a line is read as, by its bytes and its words.
+use Rattle.std.proofs.Common.{◌≡◌, ℕ, suc, ◌<◌, true, false, List, [], ◌∷◌, map, length, Some, None, Err, if◌then◌else◌, refl, ap, ◌∙◌, arith}
+use Rattle.std.specs.Prelude.{◌&&◌, nat_lt}
+use Rattle.std.specs.List.{list_all}
+use Rattle.std.specs.Option.{option_or, option_map_or}
+use Rattle.std.proofs.lemmas.Bool.Decides.{nat_tests}
+use Rattle.bg_operator.specs.declared.line_fault.LineFault.{LineFault}
+use Rattle.bg_operator.specs.declared.line_fault.LineFault.TheVariants.{BadNumber, WrongCount}
+use Rattle.bg_operator.specs.Words.{is_number, words_of}
+use Rattle.bg_operator.specs.Shapes.{first_wrong, Number, shape_fault, word_fault}
+use Rattle.bg_operator.specs.Commands.{line_reading, template_shape, text_fault, words_reading}
+
+-- a fault of the bytes is that of the line
+pub read_by_bytes : (line : List ℕ) (fault : LineFault) → text_fault line ≡ Some fault → line_reading line ≡ Err fault
+unfolding line_reading
+read_by_bytes line fault e = ap (λ o. option_map_or Err o (words_reading (words_of line))) e
+
+-- a line of good bytes is read by its words
+pub read_by_words : (line : List ℕ) (words : List (List ℕ)) → text_fault line ≡ None → words_of line ≡ words
+    → line_reading line ≡ words_reading words
+unfolding line_reading
+read_by_words line words e is =
+    ap (λ o. option_map_or Err o (words_reading (words_of line))) e ∙ ap words_reading is
+
+-- the first wrong word of those that must be ports
+wrong_port : (words : List (List ℕ))
+    → first_wrong (Number 16 ∷ map (λ word. Number 16) words) words ≡ (if list_all (is_number 16) words then None else Some BadNumber)
+wrong_port [] = refl
+wrong_port (word ∷ words) =
+    ap (option_or (word_fault (Number 16) word)) (wrong_port words)
+    ∙ elim (is_number 16 word) as (λ t. option_or (if t then None else Some BadNumber) (if list_all (is_number 16) words then None else Some BadNumber) ≡ (if t && list_all (is_number 16) words then None else Some BadNumber)) [ true ↦ refl | false ↦ refl ]
+
+more_than_one : (n : ℕ) → 0 < n → nat_lt 1 (suc n) ≡ true
+more_than_one n some = grind (arith, nat_tests)
+
+-- the fault of a name and one word or more
+pub fault_of_ports : (name : List ℕ) (words : List (List ℕ)) → 0 < length words
+    → shape_fault template_shape (name ∷ words) ≡ (if list_all (is_number 16) words then None else Some BadNumber)
+fault_of_ports name words some =
+    ap (λ t. if t then first_wrong (Number 16 ∷ map (λ word. Number 16) words) words else Some WrongCount) (more_than_one (length words) some)
+    ∙ wrong_port words

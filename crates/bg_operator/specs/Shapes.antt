@@ -1,0 +1,43 @@
+-- Which words may follow the first word of a line, and the fault of those that may not.
+use Rattle.std.specs.Prelude.{ℕ, List, ◌∷◌, ◌++◌, map, length, ◌==◌, if◌then◌else◌, nat_le, nat_lt, bytes_eq, Option, Some, None}
+use Rattle.std.specs.Option.{option_or}
+use Rattle.std.specs.List.{list_any}
+use Rattle.bg_operator.specs.Words.{is_number}
+use Rattle.bg_operator.specs.declared.line_fault.LineFault.{LineFault}
+use Rattle.bg_operator.specs.declared.line_fault.LineFault.TheVariants.{WrongCount, BadWord, BadNumber}
+
+-- what a word must be: anything, a number below 2 ^ bits, or one of these words
+pub data Form : Type 0 where
+  AnyWord : Form
+  Number : (bits : ℕ) → Form
+  OneOf : (words : List (List ℕ)) → Form
+
+-- the words that follow: one of each form, in order; the same, but the last ones may be missing; or
+-- one of each form and then one or more of a further form
+pub data Shape : Type 0 where
+  Exactly : (forms : List Form) → Shape
+  AtMost : (forms : List Form) → Shape
+  AndMore : (forms : List Form) (further : Form) → Shape
+
+-- the fault of a word that must be of this form
+abbrev pub word_fault : Form → List ℕ → Option LineFault
+word_fault AnyWord word = None
+word_fault (Number bits) word = if is_number bits word then None else Some BadNumber
+word_fault (OneOf words) word = if list_any (bytes_eq word) words then None else Some BadWord
+
+-- the fault of the first word from the left that isn't of its form
+abbrev pub first_wrong : List Form → List (List ℕ) → Option LineFault
+first_wrong (form ∷ forms) (word ∷ words) =
+    option_or (word_fault form word) (first_wrong forms words)
+first_wrong _ _ = None
+
+-- the fault of the words that follow: their count comes before each word
+abbrev pub shape_fault : Shape → List (List ℕ) → Option LineFault
+shape_fault (Exactly forms) words =
+    if length words == length forms then first_wrong forms words else Some WrongCount
+shape_fault (AtMost forms) words =
+    if nat_le (length words) (length forms) then first_wrong forms words else Some WrongCount
+shape_fault (AndMore forms further) words =
+    if nat_lt (length forms) (length words)
+    then first_wrong (forms ++ map (λ word. further) words) words
+    else Some WrongCount
