@@ -27,6 +27,13 @@ impl Bytes {
         Ok(Bytes { bytes: copy })
     }
 
+    /// Takes the bytes with their memory.
+    pub fn from_vec(bytes: Vec<u8>) -> Bytes
+        ensures { result ≡ bytes.items }
+    {
+        Bytes { bytes }
+    }
+
     /// The bytes.
     pub fn get(&self) -> &[u8]
         ensures { result.now ≡ self.now }

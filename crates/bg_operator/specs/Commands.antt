@@ -11,8 +11,8 @@ use Rattle.bg_operator.specs.declared.line_fault.LineFault.TheVariants.{TooLong,
 use Rattle.bg_operator.specs.Words.{analyses, meaning_in, results, services, words_in, words_of}
 use Rattle.bg_operator.specs.Shapes.{Shape, AnyWord, Number, OneOf, Exactly, AtMost, AndMore, shape_fault}
 
--- A row of the table of lines: the first word, the words that may follow, and what they order. Words
--- of another shape order nothing.
+-- A row of the table of lines: the first word, the words that may follow, and what they order.
+-- Words that have a fault order nothing.
 pub record Row : Type 0 where
   pub first : List ℕ
   pub shape : Shape
@@ -139,7 +139,8 @@ rows =
     ∷ single_word (codes "quit") Quit
     ∷ []
 
--- what the words after the first are read as by a row: their fault, or else the command
+-- What the words after the first are read as by a row: their fault, or else the command. Words
+-- without a fault always have one.
 abbrev pub row_reading : Row → List (List ℕ) → Result Command LineFault
 row_reading row words =
     option_map_or Err (shape_fault row.shape words) (ok_or (row.order words) WrongCount)

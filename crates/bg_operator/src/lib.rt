@@ -13,6 +13,7 @@ mod read_fault;
 mod script_lines;
 mod strategy_part;
 mod taking;
+mod vocabulary;
 mod words;
 
 pub use command::Command;

@@ -5,8 +5,8 @@ ghost use Rattle.bg_operator.specs.declared.line_fault.LineFault.TheVariants as 
 use std::alloc::{AllocError, AllocFailed};
 use thiserror::Error;
 
-/// Why a line of a script gives no command: the first of these, in this order, that the line has. Of
-/// `BadWord` and `BadNumber` it is the one of the first wrong word from the left.
+/// Why a line of a script gives no command: the first of these, in this order, that it has. Of
+/// `BadWord` and `BadNumber` it is that of the first wrong word from the left.
 #[derive(Clone, Copy, PartialEq, Eq, Debug, Drop, Error)]
 pub enum LineFault {
     /// It has more than 4,096 bytes.

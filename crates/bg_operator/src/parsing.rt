@@ -1,9 +1,8 @@
 //! What a line of a script orders.
-ghost use Rattle.std.specs.Prelude.{◌≡◌, ◌∷◌, [], false, true, ◌==◌, length, map, None, MatchResult};
+ghost use Rattle.std.specs.Prelude.{◌≡◌, [], ◌∷◌, true, map, None, MatchResult};
 ghost use Rattle.std.specs.List.{list_all};
-ghost use Rattle.std.specs.Option.{ok_or};
 ghost use Rattle.std.specs.Str.Parse.{digits_value};
-ghost use Rattle.bg_operator.specs.Words.{analyses, is_number, meaning_in, results, services, words_ahead};
+ghost use Rattle.bg_operator.specs.Words.{is_number, words_ahead};
 ghost use Rattle.bg_operator.specs.Commands.{available_row, deploy_row, enter_row, is_printable, IsReadAs, leave_row, line_reading, open_row, promote_row, row_reading, single_word, template_shape, text_fault, tick_row, verdict_row, words_reading};
 ghost use Rattle.bg_operator.specs.Shapes.{shape_fault};
 ghost use Rattle.bg_operator.specs.declared.line_fault.LineFault.TheVariants as line_fault;
@@ -11,10 +10,10 @@ ghost use Rattle.bg_operator.specs.declared.line_fault.LineFault.TheVariants as 
 use crate::command::Command;
 use crate::line_fault::LineFault;
 use crate::lines::LONGEST_LINE;
-use crate::words::{Words, long_number, number, short_number};
+use crate::vocabulary::{analysis_named, result_named, service_named};
+use crate::words::{Words, end, is_over, long_number, number, one, short_number, two};
 use bg_book::Control;
-use bg_history::{Analysis, AnalysisResult};
-use bg_revisions::{Name, Ports, Service};
+use bg_revisions::{Name, Ports};
 use std::alloc::Global;
 
 /// Reads a line of a script, given without its end. Words are separated by one or more spaces, and
@@ -30,8 +29,8 @@ use std::alloc::Global;
 /// A number is 1 to 20 digits whose value is below 2^16 for a port, 2^32 for a seat and a size, and
 /// 2^64 for a moment and a revision. A name may be any word here: the book judges it.
 ///
-/// A line that is none of these has the first [`LineFault`] in their order. `OutOfMemory` comes only
-/// at an `open` or a `deploy` without another fault.
+/// Any other line is told the first fault that it has, in the order of [`LineFault`]. `OutOfMemory`
+/// comes only at an `open` or a `deploy` without another fault.
 pub fn parse_line(alloc: Global, line: &[u8]) -> Result<Command, LineFault>
     ensures { IsReadAs (line_reading line.now) result }
 {
@@ -118,12 +117,6 @@ fn template(mut words: Words<'_>) -> Result<(&str, Words<'_>), LineFault>
     Ok((name, words))
 }
 
-fn is_over(mut words: Words) -> bool
-    ensures { result ≡ (length (words_ahead words.entry) == 0) }
-{
-    words.next().is_none()
-}
-
 fn are_ports(mut words: Words) -> bool
     ensures { result ≡ list_all (is_number 16) (words_ahead words.entry) }
 {
@@ -205,68 +198,4 @@ fn alone(command: Command, words: Words) -> Result<Command, LineFault>
 {
     end(words)?;
     Ok(command)
-}
-
-fn service_named(word: &str) -> Result<Service, LineFault>
-    ensures { result ≡ ok_or (meaning_in services word.now) line_fault.BadWord }
-{
-    match word {
-        "active" => Ok(Service::Active),
-        "preview" => Ok(Service::Preview),
-        _ => Err(LineFault::BadWord),
-    }
-}
-
-fn analysis_named(word: &str) -> Result<Analysis, LineFault>
-    ensures { result ≡ ok_or (meaning_in analyses word.now) line_fault.BadWord }
-{
-    match word {
-        "pre" => Ok(Analysis::Pre),
-        "post" => Ok(Analysis::Post),
-        _ => Err(LineFault::BadWord),
-    }
-}
-
-fn result_named(word: &str) -> Result<AnalysisResult, LineFault>
-    ensures { result ≡ ok_or (meaning_in results word.now) line_fault.BadWord }
-{
-    match word {
-        "successful" => Ok(AnalysisResult::Successful),
-        "failed" => Ok(AnalysisResult::Failed),
-        "error" => Ok(AnalysisResult::Error),
-        _ => Err(LineFault::BadWord),
-    }
-}
-
-/// The one word to come, where it is one.
-fn one(mut words: Words<'_>) -> Result<&str, LineFault>
-    ensures { MatchResult result (λ word. words_ahead words.entry ≡ word.now ∷ [])
-        (λ fault. ((length (words_ahead words.entry) == 1) ≡ false)
-        × (fault ≡ line_fault.WrongCount)) }
-{
-    let word = words.next().ok_or(LineFault::WrongCount)?;
-    end(words)?;
-    Ok(word)
-}
-
-/// The two words to come, where they are two.
-fn two(mut words: Words<'_>) -> Result<(&str, &str), LineFault>
-    ensures { MatchResult result (λ p. words_ahead words.entry ≡ p.0.now ∷ p.1.now ∷ [])
-        (λ fault. ((length (words_ahead words.entry) == 2) ≡ false)
-        × (fault ≡ line_fault.WrongCount)) }
-{
-    let first = words.next().ok_or(LineFault::WrongCount)?;
-    Ok((first, one(words)?))
-}
-
-/// `WrongCount` where a word is still to come.
-fn end(mut words: Words) -> Result<(), LineFault>
-    ensures { MatchResult result (λ _. words_ahead words.entry ≡ [])
-        (λ fault. ((length (words_ahead words.entry) == 0) ≡ false)
-        × (fault ≡ line_fault.WrongCount)) }
-{
-    match words.next() {
-        None => Ok(()),
-        Some(_) => Err(LineFault::WrongCount),
-    }
 }

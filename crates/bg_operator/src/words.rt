@@ -1,17 +1,18 @@
 //! The words of a line, and the numbers that words are.
-ghost use Rattle.std.specs.Prelude.{◌≡◌};
+ghost use Rattle.std.specs.Prelude.{◌≡◌, ◌∷◌, [], false, ◌==◌, length, MatchResult};
 ghost use Rattle.std.specs.Char.{is_ascii_digit};
 ghost use Rattle.std.specs.List.{list_all};
 ghost use Rattle.std.specs.Iterator.{YieldsFirstRef, item_count};
 ghost use Rattle.bg_operator.specs.Words.{number_reading, words_of, words_ahead};
+ghost use Rattle.bg_operator.specs.declared.line_fault.LineFault.TheVariants as line_fault;
 
 use crate::line_fault::LineFault;
 
 /// How many digits a number has at most.
 const MOST_DIGITS: usize = 20;
 
-/// The words of a line that are still to come. Words are separated by one or more spaces, and spaces
-/// at both ends are passed over.
+/// The words of a line that are still to come. Words are separated by one or more spaces, and
+/// spaces at both ends are passed over.
 #[derive(Clone, Copy, Drop)]
 pub struct Words<'a> {
     rest: &'a str,
@@ -46,7 +47,47 @@ impl<'a> Iterator for Words<'a> {
     }
 }
 
-/// The number that a word is: 1 to 20 digits whose value is below 2^64. Any other word is `BadNumber`.
+/// Whether no word is to come.
+pub fn is_over(mut words: Words) -> bool
+    ensures { result ≡ (length (words_ahead words.entry) == 0) }
+{
+    words.next().is_none()
+}
+
+/// `WrongCount` where a word is still to come.
+pub fn end(mut words: Words) -> Result<(), LineFault>
+    ensures { MatchResult result (λ _. words_ahead words.entry ≡ [])
+        (λ fault. ((length (words_ahead words.entry) == 0) ≡ false)
+        × (fault ≡ line_fault.WrongCount)) }
+{
+    match words.next() {
+        None => Ok(()),
+        Some(_) => Err(LineFault::WrongCount),
+    }
+}
+
+/// The one word to come. `WrongCount` where there is none, or more than one.
+pub fn one(mut words: Words<'_>) -> Result<&str, LineFault>
+    ensures { MatchResult result (λ word. words_ahead words.entry ≡ word.now ∷ [])
+        (λ fault. ((length (words_ahead words.entry) == 1) ≡ false)
+        × (fault ≡ line_fault.WrongCount)) }
+{
+    let word = words.next().ok_or(LineFault::WrongCount)?;
+    end(words)?;
+    Ok(word)
+}
+
+/// The two words to come. `WrongCount` where there are fewer, or more.
+pub fn two(mut words: Words<'_>) -> Result<(&str, &str), LineFault>
+    ensures { MatchResult result (λ p. words_ahead words.entry ≡ p.0.now ∷ p.1.now ∷ [])
+        (λ fault. ((length (words_ahead words.entry) == 2) ≡ false)
+        × (fault ≡ line_fault.WrongCount)) }
+{
+    let first = words.next().ok_or(LineFault::WrongCount)?;
+    Ok((first, one(words)?))
+}
+
+/// The number that a word is: 1 to 20 digits whose value is below 2^64. Any other is `BadNumber`.
 pub fn long_number(word: &str) -> Result<u64, LineFault>
     ensures { result ≡ number_reading 64 word.now }
 {

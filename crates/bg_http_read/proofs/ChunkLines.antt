@@ -1,0 +1,94 @@
+-- Lines of chunks at the front of bytes.
+use Rattle.std.proofs.Common.{◌≡◌, ℕ, ◌<◌, ◌≤◌, List, [], ◌++◌, length, take, drop, refl, ap, sym, ◌∙◌, arith, append_assoc, take-append-drop, take_all, min, subst, inl, inr}
+use Rattle.std.proofs.lemmas.List.{append-nil, length-take, length-append, take-append-le}
+use Rattle.httparse.specs.Ascii.{crlf_bytes}
+use Rattle.httparse.specs.Grammar.{ChunkLine, print_chunk_line, chunk_size, print_extension, HasNoChunkLine, NeverHasChunkLine, MayBecomeChunkLine}
+use Rattle.httparse.specs.Spans.{IsChunkLineAt}
+use Rattle.httparse.proofs.ChunkLemmas.{chunk_line_unique}
+use Rattle.bg_http_read.specs.BodyFaults.{malformed, cut, LineFails}
+use Rattle.bg_http_read.specs.Chunks.{IsLineOf, ReadsLine}
+use Rattle.bg_http_read.proofs.Fronts.{prefix_of, front_is, front_grows}
+
+-- a line ends in CR LF
+text_of : (line : ChunkLine) → print_chunk_line line
+    ≡ (line.digits ++ line.pad ++ print_extension line.extension) ++ crlf_bytes
+unfolding print_chunk_line
+text_of line = refl
+
+-- a line has at least one byte
+pub line_some : (line : ChunkLine) → 0 < length (print_chunk_line line)
+line_some line =
+    let text_is = text_of line in
+    let long = length-append (line.digits ++ line.pad ++ print_extension line.extension) crlf_bytes in
+    omega (arith, long, ap length text_is)
+
+-- the line at the front of the first bytes is one at the front of all
+pub line_front : (bytes : List ℕ) (m n size : ℕ) (l : ChunkLine) → m ≤ 1024
+    → IsChunkLineAt (take m bytes) n size l
+    → ReadsLine bytes size (drop n bytes) × ((0 < n) × (n ≤ length bytes))
+line_front bytes m n size l few at =
+    let text = print_chunk_line l in
+    let reads = at.reads in
+    let front = reads.1 in
+    let long = length-append text (drop n (take m bytes)) in
+    let short : length text ≤ 1024 = omega (arith, ap length front, long, length-take m bytes, few) in
+    let fits : length text ≤ length bytes = omega (arith, ap length front, long, length-take m bytes) in
+    let whole : bytes ++ [] ≡ text ++ (drop n (take m bytes) ++ drop m bytes) =
+    append-nil bytes ∙ sym (take-append-drop m bytes) ∙ ap (λ x. x ++ drop m bytes) front
+    ∙ append_assoc text (drop n (take m bytes)) (drop m bytes) in
+    let at_text = prefix_of bytes [] text (drop n (take m bytes) ++ drop m bytes) whole fits in
+    let is : IsLineOf size l = record { valid = reads.0; short = short; size_is = at.size_is } in
+    let some = line_some l in (
+      record {
+        line = l;
+        is = is;
+        input_is = subst (λ k. bytes ≡ text ++ drop k bytes) (sym at.len_is) at_text;
+      },
+      (omega (arith, some, at.len_is), omega (arith, fits, at.len_is)),
+    )
+
+-- where the first bytes can't become a line, none comes
+pub never_line : (bytes : List ℕ) (m : ℕ) → m ≡ min (length bytes) 1024
+    → NeverHasChunkLine (take m bytes) → LineFails malformed bytes
+never_line bytes m e h = inl (subst NeverHasChunkLine (front_is bytes m 1024 e) h)
+
+-- where 1,024 bytes hold no line, none comes
+pub full_line : (bytes : List ℕ) (m : ℕ) → m ≡ min (length bytes) 1024 → 1024 ≤ length bytes
+    → HasNoChunkLine (take m bytes) → LineFails malformed bytes
+full_line bytes m e full h = inr (full, subst HasNoChunkLine (front_is bytes m 1024 e) h)
+
+-- where fewer bytes hold no line, one may come
+pub open_line : (bytes : List ℕ) (m : ℕ) → m ≡ min (length bytes) 1024 → length bytes < 1024
+    → HasNoChunkLine (take m bytes) → MayBecomeChunkLine (take m bytes) → LineFails cut bytes
+open_line bytes m e few none may =
+    let same : take m bytes ≡ bytes = take_all m bytes (omega (arith, e, few)) in
+    (few, subst HasNoChunkLine same none, subst MayBecomeChunkLine same may)
+
+-- where none comes, none does whatever follows
+pub malformed_line_more : (bytes more : List ℕ) → LineFails malformed bytes
+    → LineFails malformed (bytes ++ more)
+malformed_line_more bytes more (inl h) =
+    let front = front_grows bytes more 1024 in
+    inl (subst NeverHasChunkLine (sym front.1) (λ later. rw append_assoc (h (front.0 ++ later))))
+malformed_line_more bytes more (inr (full, none)) =
+    inr (
+      omega (arith, full, length-append bytes more),
+      subst HasNoChunkLine (sym (take-append-le 1024 bytes more full)) none,
+    )
+
+-- two lines at one front are one
+pub one_line : (input : List ℕ) (s t : ℕ) (a b : List ℕ) → ReadsLine input s a → ReadsLine input t b
+    → (s ≡ t) × (a ≡ b)
+one_line input s t a b p q =
+    let same = chunk_line_unique input p.line q.line a b
+    (p.is.valid, p.input_is) (q.is.valid, q.input_is) in
+    (p.is.size_is ∙ ap chunk_size same.0 ∙ sym q.is.size_is, same.1)
+
+-- a line stays one, whatever follows
+pub line_more : (input more : List ℕ) (size : ℕ) (after : List ℕ) → ReadsLine input size after
+    → ReadsLine (input ++ more) size (after ++ more)
+line_more input more size after p = record {
+  line = p.line;
+  is = p.is;
+  input_is = ap (λ l. l ++ more) p.input_is ∙ append_assoc (print_chunk_line p.line) after more;
+}

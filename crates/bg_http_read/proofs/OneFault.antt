@@ -1,0 +1,182 @@
+-- An input has one fault of a request.
+use Rattle.std.proofs.Common.{◌≡◌, ◌⊎◌, ℕ, true, false, List, [], take, refl, ap, sym, ◌∙◌, arith, subst, take_all, Ok, Err, inl, inr}
+use Rattle.std.proofs.lemmas.List.{append-nil}
+use Rattle.httparse.specs.Grammar as grammar
+use Rattle.bg_http.specs.RequestRules.{request_framing}
+use Rattle.bg_http.specs.declared.request_rules.Framing.{Framing}
+use Rattle.bg_http.specs.declared.request_rules.Framing.TheVariants as framing
+use Rattle.bg_http.specs.declared.request_fault.RequestFault.{RequestFault}
+use Rattle.bg_http.specs.declared.request_fault.RequestFault.TheVariants as fault
+use Rattle.bg_http.specs.declared.response_fault.ResponseFault.{ResponseFault}
+use Rattle.bg_http.specs.declared.response_fault.ResponseFault.TheVariants as read
+use Rattle.bg_http_read.specs.BodyFaults.{Failure, malformed, large, cut}
+use Rattle.bg_http_read.specs.HeadFaults.{RequestHeadFails}
+use Rattle.bg_http_read.specs.Laws.{is_of_machine, EndsInManyTrailers, IsUndecided}
+use Rattle.bg_http_read.specs.RequestHeads.{RequestHeadIsMalformed, RequestHeadIsLarge, RequestHeadIsCut}
+use Rattle.bg_http_read.specs.Requests.{HeadRefused, BodyRefused, FramedBodyFails, RequestBodyFails, RequestFails, as_request}
+use Rattle.bg_http_read.proofs.RequestOrFault.{one_request_head, head_or_fault}
+use Rattle.bg_http_read.proofs.OneFailure.{one_body_failure, one_length_failure}
+
+of_both : {A : Type 0} (e : RequestFault) → is_of_machine e ≡ true → is_of_machine e ≡ false → A
+of_both e is isnt = absurd (differ (sym is ∙ isnt))
+  where
+    differ : true ≡ false → ⊥
+    differ h = cc
+
+-- what can become a head isn't malformed, but where it ends in its target
+malformed_or_begun : (bytes : List ℕ) → grammar.NeverHasRequest bytes → grammar.MayBecomeRequest bytes
+    → grammar.EndsInTarget bytes
+malformed_or_begun bytes never (inl (more, head, reads)) = absurd (never more head [] reads)
+malformed_or_begun bytes never (inr ends) = ends
+
+large_or_malformed : (input : List ℕ) → RequestHeadIsLarge input → RequestHeadIsMalformed input
+    → grammar.EndsInTarget (take 16384 input)
+large_or_malformed input (inl (tree, rest, reads, many)) never =
+    absurd (never [] tree rest (reads.0, append-nil (take 16384 input) ∙ reads.1))
+large_or_malformed input (inr (full, none, may)) never =
+    malformed_or_begun (take 16384 input) never may
+
+large_or_cut : (input : List ℕ) → RequestHeadIsLarge input → RequestHeadIsCut input → ⊥
+large_or_cut input (inl (tree, rest, reads, many)) (few, none, may) =
+    let same = take_all 16384 input (omega (arith, few)) in
+    none tree rest (subst (λ l. grammar.ReadsRequest l tree rest) same reads)
+large_or_cut input (inr (full, none, may)) (few, other, begun) = omega (arith, full, few)
+
+malformed_or_cut : (input : List ℕ) → RequestHeadIsMalformed input → RequestHeadIsCut input
+    → grammar.EndsInTarget (take 16384 input)
+malformed_or_cut input never (few, none, may) =
+    let same = take_all 16384 input (omega (arith, few)) in
+    malformed_or_begun (take 16384 input) never (subst grammar.MayBecomeRequest (sym same) may)
+
+one_head_fault : (input : List ℕ) (one other : ResponseFault) → RequestHeadFails input one
+    → RequestHeadFails input other → is_of_machine (as_request one) ≡ false
+    → is_of_machine (as_request other) ≡ false
+    → (as_request one ≡ as_request other) ⊎ grammar.EndsInTarget (take 16384 input)
+one_head_fault input read.ReadFailed other h k isnt neither = of_both fault.ReadFailed refl isnt
+one_head_fault input read.TooLarge other h k isnt neither = absurd h
+one_head_fault input read.OutOfMemory other h k isnt neither = of_both fault.OutOfMemory refl isnt
+one_head_fault input read.HeadTooLarge read.ReadFailed h k isnt neither = of_both fault.ReadFailed refl neither
+one_head_fault input read.HeadTooLarge read.HeadTooLarge h k isnt neither = inl refl
+one_head_fault input read.HeadTooLarge read.Bad h k isnt neither = inr (large_or_malformed input h k)
+one_head_fault input read.HeadTooLarge read.TooLarge h k isnt neither = absurd k
+one_head_fault input read.HeadTooLarge read.Closed h k isnt neither = absurd (large_or_cut input h k)
+one_head_fault input read.HeadTooLarge read.OutOfMemory h k isnt neither = of_both fault.OutOfMemory refl neither
+one_head_fault input read.Bad read.ReadFailed h k isnt neither = of_both fault.ReadFailed refl neither
+one_head_fault input read.Bad read.HeadTooLarge h k isnt neither = inr (large_or_malformed input k h)
+one_head_fault input read.Bad read.Bad h k isnt neither = inl refl
+one_head_fault input read.Bad read.TooLarge h k isnt neither = absurd k
+one_head_fault input read.Bad read.Closed h k isnt neither = inr (malformed_or_cut input h k)
+one_head_fault input read.Bad read.OutOfMemory h k isnt neither = of_both fault.OutOfMemory refl neither
+one_head_fault input read.Closed read.ReadFailed h k isnt neither = of_both fault.ReadFailed refl neither
+one_head_fault input read.Closed read.HeadTooLarge h k isnt neither = absurd (large_or_cut input k h)
+one_head_fault input read.Closed read.Bad h k isnt neither = inr (malformed_or_cut input k h)
+one_head_fault input read.Closed read.TooLarge h k isnt neither = absurd k
+one_head_fault input read.Closed read.Closed h k isnt neither = inl refl
+one_head_fault input read.Closed read.OutOfMemory h k isnt neither = of_both fault.OutOfMemory refl neither
+
+one_framed_failure : (named : Framing) (one other : Failure) (input : List ℕ)
+    → FramedBodyFails one named input → FramedBodyFails other named input
+    → (one ≡ other) ⊎ EndsInManyTrailers input
+one_framed_failure framing.NoBody one other input h k = absurd h
+one_framed_failure framing.Chunks one other input h k =
+    one_body_failure one other 1048576 input h k
+one_framed_failure (framing.Length size) one other input h k =
+    inl (one_length_failure one other size input h k)
+
+abbrev fault_of : Failure → RequestFault
+fault_of malformed = fault.Bad
+fault_of large = fault.TooLarge
+fault_of cut = fault.Closed
+
+-- a fault of a body that isn't the machine's is a failure of the body
+body_failure : (named : Framing) (input : List ℕ) (e : RequestFault)
+    → RequestBodyFails named input e → is_of_machine e ≡ false
+    → (failure : Failure) × FramedBodyFails failure named input × (e ≡ fault_of failure)
+body_failure named input fault.ReadFailed h isnt = of_both fault.ReadFailed refl isnt
+body_failure named input fault.WriteFailed h isnt = absurd h
+body_failure named input fault.HeadTooLarge h isnt = absurd h
+body_failure named input fault.Bad h isnt = (malformed, h, refl)
+body_failure named input fault.Closed h isnt = (cut, h, refl)
+body_failure named input fault.NotDone h isnt = absurd h
+body_failure named input fault.TooLarge h isnt = (large, h, refl)
+body_failure named input fault.OutOfMemory h isnt = of_both fault.OutOfMemory refl isnt
+
+one_body_fault : (named : Framing) (input : List ℕ) (one other : RequestFault)
+    → RequestBodyFails named input one → RequestBodyFails named input other
+    → is_of_machine one ≡ false → is_of_machine other ≡ false
+    → (one ≡ other) ⊎ EndsInManyTrailers input
+one_body_fault named input one other h k isnt neither =
+    let first = body_failure named input one h isnt in
+    let second = body_failure named input other k neither in
+    same first.2 second.2 (one_framed_failure named first.0 second.0 input first.1 second.1)
+  where
+    same : {f g : Failure} → one ≡ fault_of f → other ≡ fault_of g
+        → (f ≡ g) ⊎ EndsInManyTrailers input → (one ≡ other) ⊎ EndsInManyTrailers input
+    same a b (inl e) = inl (a ∙ ap fault_of e ∙ sym b)
+    same a b (inr ends) = inr ends
+
+-- two faults of which each is of a head
+one_refused : (input : List ℕ) (one other : RequestFault) → HeadRefused input one
+    → HeadRefused input other → is_of_machine one ≡ false → is_of_machine other ≡ false
+    → (one ≡ other) ⊎ IsUndecided input
+one_refused input one other (inl h) (inl k) isnt neither =
+    let same = one_request_head input h.head k.head h.after k.after h.reads k.reads in
+    let both : Err one ≡ Err other =
+    sym h.judged ∙ ap request_framing same.0 ∙ k.judged in
+    inl cc
+one_refused input one other (inl h) (inr (of, is, fails)) isnt neither =
+    of_both other (ap is_of_machine is ∙ head_or_fault input h.head h.after of h.reads fails) neither
+one_refused input one other (inr (of, is, fails)) (inl k) isnt neither =
+    of_both one (ap is_of_machine is ∙ head_or_fault input k.head k.after of k.reads fails) isnt
+one_refused input one other (inr (of, is, fails)) (inr (next, same, lacks)) isnt neither =
+    by_head (one_head_fault input of next fails lacks (sym (ap is_of_machine is) ∙ isnt) (sym (ap is_of_machine same) ∙ neither))
+  where
+    by_head : (as_request of ≡ as_request next) ⊎ grammar.EndsInTarget (take 16384 input)
+        → (one ≡ other) ⊎ IsUndecided input
+    by_head (inl e) = inl (is ∙ e ∙ sym same)
+    by_head (inr ends) = inr (inl ends)
+
+-- a head isn't refused where its body is
+refused_or_body : (input : List ℕ) (one other : RequestFault) → HeadRefused input one
+    → BodyRefused input other → is_of_machine one ≡ false → ⊥
+refused_or_body input one other (inl h) k isnt =
+    let same = one_request_head input h.head k.head h.after k.after h.reads k.begins.reads in
+    let both : Err one ≡ Ok k.framing =
+    sym h.judged ∙ ap request_framing same.0 ∙ k.begins.judged in
+    cc
+refused_or_body input one other (inr (of, is, fails)) k isnt =
+    of_both one (ap is_of_machine is ∙ head_or_fault input k.head k.after of k.begins.reads fails) isnt
+
+bodies : (input : List ℕ) (one other : RequestFault) → BodyRefused input one
+    → BodyRefused input other → is_of_machine one ≡ false → is_of_machine other ≡ false
+    → (one ≡ other) ⊎ IsUndecided input
+bodies input one other h k isnt neither =
+    let same = one_request_head input h.head k.head h.after k.after h.begins.reads k.begins.reads in
+    let both : Ok h.framing ≡ Ok k.framing =
+    sym h.begins.judged ∙ ap request_framing same.0 ∙ k.begins.judged in
+    let framings : h.framing ≡ k.framing = cc in
+    by_body (one_body_fault h.framing h.after one other h.holds
+    (subst (λ n. RequestBodyFails n h.after other) (sym framings)
+    (subst (λ l. RequestBodyFails k.framing l other) (sym same.1) k.holds)) isnt neither)
+  where
+    by_body : (one ≡ other) ⊎ EndsInManyTrailers h.after → (one ≡ other) ⊎ IsUndecided input
+    by_body (inl e) = inl e
+    by_body (inr ends) = inr (inr (record {
+      head = h.head;
+      framing = h.framing;
+      after = h.after;
+      begins = h.begins;
+      holds = ends;
+    }))
+
+pub one_fault : (input : List ℕ) (one other : RequestFault) → RequestFails input one
+    → RequestFails input other → is_of_machine one ≡ false → is_of_machine other ≡ false
+    → (one ≡ other) ⊎ IsUndecided input
+one_fault input one other (inl h) (inl k) isnt neither = one_refused input one other h k isnt neither
+one_fault input one other (inl h) (inr (inl k)) isnt neither =
+    absurd (refused_or_body input one other h k isnt)
+one_fault input one other (inr (inl h)) (inl k) isnt neither =
+    absurd (refused_or_body input other one k h neither)
+one_fault input one other (inr (inl h)) (inr (inl k)) isnt neither = bodies input one other h k isnt neither
+one_fault input one other (inr (inr h)) k isnt neither = of_both one (ap is_of_machine h.0) isnt
+one_fault input one other h (inr (inr k)) isnt neither = of_both other (ap is_of_machine k.0) neither

@@ -1,0 +1,242 @@
+-- An input has one fault of a response.
+use Rattle.std.proofs.Common.{◌≡◌, ◌⊎◌, ℕ, true, false, List, [], take, refl, ap, sym, ◌∙◌, arith, subst, take_all, Ok, Err, inl, inr}
+use Rattle.std.proofs.lemmas.List.{append-nil}
+use Rattle.httparse.specs.Grammar as grammar
+use Rattle.bg_http.specs.ResponseRules.{response_framing}
+use Rattle.bg_http.specs.declared.request.Request.{Request}
+use Rattle.bg_http.specs.declared.response_rules.ResponseFraming.{ResponseFraming}
+use Rattle.bg_http.specs.declared.response_rules.ResponseFraming.TheVariants as framing
+use Rattle.bg_http.specs.declared.response_fault.ResponseFault.{ResponseFault}
+use Rattle.bg_http.specs.declared.response_fault.ResponseFault.TheVariants as fault
+use Rattle.bg_http_read.specs.BodyFaults.{Failure, malformed, large, cut, EndFails}
+use Rattle.bg_http_read.specs.HeadFaults.{ResponseHeadFails}
+use Rattle.bg_http_read.specs.Laws.{is_of_reading, EndsInManyTrailers, IsUndecidedResponse}
+use Rattle.bg_http_read.specs.ResponseHeads.{ResponseHeadIsMalformed, ResponseHeadIsLarge, ResponseHeadIsCut}
+use Rattle.bg_http_read.specs.Responses.{FramedResponseBodyFails, ResponseBodyFails, AfterInterim, HasManyInterim, BreaksResponseRule, FinalHeadThen, ResponseFails, breaks_rule, no_head, many_interim, no_body}
+use Rattle.bg_http_read.proofs.InterimOrder.{IsInterim, one_response_head, in_order, interim_earlier, final_or_interim}
+use Rattle.bg_http_read.proofs.ResponseOrFault.{head_or_fault}
+use Rattle.bg_http_read.proofs.OneFailure.{one_body_failure, one_length_failure}
+
+of_both : {A : Type 0} (e : ResponseFault) → is_of_reading e ≡ true → is_of_reading e ≡ false → A
+of_both e is isnt = absurd (differ (sym is ∙ isnt))
+  where
+    differ : true ≡ false → ⊥
+    differ h = cc
+
+large_or_malformed : (input : List ℕ) → ResponseHeadIsLarge input → ResponseHeadIsMalformed input
+    → ⊥
+large_or_malformed input (inl (tree, rest, reads, many)) never =
+    never [] tree rest (reads.0, append-nil (take 16384 input) ∙ reads.1)
+large_or_malformed input (inr (full, none, may)) never = never may.0 may.1 [] may.2
+
+large_or_cut : (input : List ℕ) → ResponseHeadIsLarge input → ResponseHeadIsCut input → ⊥
+large_or_cut input (inl (tree, rest, reads, many)) (few, none, may) =
+    let same = take_all 16384 input (omega (arith, few)) in
+    none tree rest (subst (λ l. grammar.ReadsResponse l tree rest) same reads)
+large_or_cut input (inr (full, none, may)) (few, other, begun) = omega (arith, full, few)
+
+malformed_or_cut : (input : List ℕ) → ResponseHeadIsMalformed input → ResponseHeadIsCut input → ⊥
+malformed_or_cut input never (few, none, may) =
+    let same = take_all 16384 input (omega (arith, few)) in
+    subst grammar.NeverHasResponse same never may.0 may.1 [] may.2
+
+one_head_fault : (input : List ℕ) (one other : ResponseFault) → ResponseHeadFails input one
+    → ResponseHeadFails input other → is_of_reading one ≡ false → is_of_reading other ≡ false
+    → one ≡ other
+one_head_fault input fault.ReadFailed other h k isnt neither = of_both fault.ReadFailed refl isnt
+one_head_fault input fault.TooLarge other h k isnt neither = absurd h
+one_head_fault input fault.OutOfMemory other h k isnt neither = of_both fault.OutOfMemory refl isnt
+one_head_fault input fault.HeadTooLarge fault.ReadFailed h k isnt neither = of_both fault.ReadFailed refl neither
+one_head_fault input fault.HeadTooLarge fault.HeadTooLarge h k isnt neither = refl
+one_head_fault input fault.HeadTooLarge fault.Bad h k isnt neither = absurd (large_or_malformed input h k)
+one_head_fault input fault.HeadTooLarge fault.TooLarge h k isnt neither = absurd k
+one_head_fault input fault.HeadTooLarge fault.Closed h k isnt neither = absurd (large_or_cut input h k)
+one_head_fault input fault.HeadTooLarge fault.OutOfMemory h k isnt neither = of_both fault.OutOfMemory refl neither
+one_head_fault input fault.Bad fault.ReadFailed h k isnt neither = of_both fault.ReadFailed refl neither
+one_head_fault input fault.Bad fault.HeadTooLarge h k isnt neither = absurd (large_or_malformed input k h)
+one_head_fault input fault.Bad fault.Bad h k isnt neither = refl
+one_head_fault input fault.Bad fault.TooLarge h k isnt neither = absurd k
+one_head_fault input fault.Bad fault.Closed h k isnt neither = absurd (malformed_or_cut input h k)
+one_head_fault input fault.Bad fault.OutOfMemory h k isnt neither = of_both fault.OutOfMemory refl neither
+one_head_fault input fault.Closed fault.ReadFailed h k isnt neither = of_both fault.ReadFailed refl neither
+one_head_fault input fault.Closed fault.HeadTooLarge h k isnt neither = absurd (large_or_cut input k h)
+one_head_fault input fault.Closed fault.Bad h k isnt neither = absurd (malformed_or_cut input k h)
+one_head_fault input fault.Closed fault.TooLarge h k isnt neither = absurd k
+one_head_fault input fault.Closed fault.Closed h k isnt neither = refl
+one_head_fault input fault.Closed fault.OutOfMemory h k isnt neither = of_both fault.OutOfMemory refl neither
+
+one_end_failure : (one other : Failure) (limit : ℕ) (input : List ℕ) → EndFails one limit input
+    → EndFails other limit input → one ≡ other
+one_end_failure malformed other limit input h k = absurd h
+one_end_failure cut other limit input h k = absurd h
+one_end_failure large malformed limit input h k = absurd k
+one_end_failure large cut limit input h k = absurd k
+one_end_failure large large limit input h k = refl
+
+one_framed_failure : (named : ResponseFraming) (one other : Failure) (input : List ℕ)
+    → FramedResponseBodyFails one named input → FramedResponseBodyFails other named input
+    → (one ≡ other) ⊎ EndsInManyTrailers input
+one_framed_failure framing.Interim one other input h k = absurd h
+one_framed_failure framing.NoBody one other input h k = absurd h
+one_framed_failure framing.Chunks one other input h k =
+    one_body_failure one other 4194304 input h k
+one_framed_failure (framing.Length size) one other input h k =
+    inl (one_length_failure one other size input h k)
+one_framed_failure framing.ToTheEnd one other input h k =
+    inl (one_end_failure one other 4194304 input h k)
+
+abbrev fault_of : Failure → ResponseFault
+fault_of malformed = fault.Bad
+fault_of large = fault.TooLarge
+fault_of cut = fault.Closed
+
+-- a fault of a body that isn't the machine's is a failure of the body
+body_failure : (named : ResponseFraming) (input : List ℕ) (e : ResponseFault)
+    → ResponseBodyFails named input e → is_of_reading e ≡ false
+    → (failure : Failure) × FramedResponseBodyFails failure named input × (e ≡ fault_of failure)
+body_failure named input fault.ReadFailed h isnt = of_both fault.ReadFailed refl isnt
+body_failure named input fault.HeadTooLarge h isnt = absurd h
+body_failure named input fault.Bad h isnt = (malformed, h, refl)
+body_failure named input fault.TooLarge h isnt = (large, h, refl)
+body_failure named input fault.Closed h isnt = (cut, h, refl)
+body_failure named input fault.OutOfMemory h isnt = of_both fault.OutOfMemory refl isnt
+
+one_body_fault : (named : ResponseFraming) (input : List ℕ) (one other : ResponseFault)
+    → ResponseBodyFails named input one → ResponseBodyFails named input other
+    → is_of_reading one ≡ false → is_of_reading other ≡ false
+    → (one ≡ other) ⊎ EndsInManyTrailers input
+one_body_fault named input one other h k isnt neither =
+    let first = body_failure named input one h isnt in
+    let second = body_failure named input other k neither in
+    same first.2 second.2 (one_framed_failure named first.0 second.0 input first.1 second.1)
+  where
+    same : {f g : Failure} → one ≡ fault_of f → other ≡ fault_of g
+        → (f ≡ g) ⊎ EndsInManyTrailers input → (one ≡ other) ⊎ EndsInManyTrailers input
+    same a b (inl e) = inl (a ∙ ap fault_of e ∙ sym b)
+    same a b (inr ends) = inr ends
+
+-- what a fault says at one place behind interim responses
+data Stops (request : Request) (e : ResponseFault) (place : List ℕ) : Type 0 where
+  by_rule : BreaksResponseRule request e place → Stops request e place
+  by_head : ResponseHeadFails place e → Stops request e place
+  by_body : FinalHeadThen request (λ named after. ResponseBodyFails named after e) place
+      → Stops request e place
+
+-- where it stops, no interim response is
+stops_or_interim : (request : Request) (e : ResponseFault) (place : List ℕ) → Stops request e place
+    → IsInterim request place → is_of_reading e ≡ true
+stops_or_interim request e place (by_rule (head, after, reads, broken)) (other, next, judged) =
+    let same = one_response_head place head other after next reads judged.reads in
+    let both : Err e ≡ Ok framing.Interim =
+    sym broken ∙ ap (response_framing request) same.0 ∙ judged.judged in
+    cc
+stops_or_interim request e place (by_head fails) (other, next, judged) =
+    head_or_fault place other next e judged.reads fails
+stops_or_interim request e place (by_body (head, named, after, final, fails)) interim =
+    absurd (final_or_interim request place head named after final.0 final.1 interim)
+
+-- at one place one fault stops it
+one_stop : (request : Request) (one other : ResponseFault) (place : List ℕ)
+    → Stops request one place → Stops request other place → is_of_reading one ≡ false
+    → is_of_reading other ≡ false
+    → (one ≡ other) ⊎ FinalHeadThen request (λ named after. EndsInManyTrailers after) place
+one_stop request one other place (by_rule (head, after, reads, broken)) (by_rule (second, next, found, wrong)) isnt neither =
+    let same = one_response_head place head second after next reads found in
+    let both : Err one ≡ Err other =
+    sym broken ∙ ap (response_framing request) same.0 ∙ wrong in
+    inl cc
+one_stop request one other place (by_rule (head, after, reads, broken)) (by_head fails) isnt neither =
+    of_both other (head_or_fault place head after other reads fails) neither
+one_stop request one other place (by_rule (head, after, reads, broken)) (by_body (second, named, next, final, fails)) isnt neither =
+    let same = one_response_head place head second after next reads final.0.reads in
+    let both : Err one ≡ Ok named =
+    sym broken ∙ ap (response_framing request) same.0 ∙ final.0.judged in
+    cc
+one_stop request one other place (by_head fails) (by_rule (head, after, reads, broken)) isnt neither =
+    of_both one (head_or_fault place head after one reads fails) isnt
+one_stop request one other place (by_head fails) (by_head lacks) isnt neither =
+    inl (one_head_fault place one other fails lacks isnt neither)
+one_stop request one other place (by_head fails) (by_body (head, named, after, final, lacks)) isnt neither =
+    of_both one (head_or_fault place head after one final.0.reads fails) isnt
+one_stop request one other place (by_body (head, named, after, final, fails)) (by_rule (second, next, reads, broken)) isnt neither =
+    let same = one_response_head place head second after next final.0.reads reads in
+    let both : Ok named ≡ Err other =
+    sym final.0.judged ∙ ap (response_framing request) same.0 ∙ broken in
+    cc
+one_stop request one other place (by_body (head, named, after, final, fails)) (by_head lacks) isnt neither =
+    of_both other (head_or_fault place head after other final.0.reads lacks) neither
+one_stop request one other place (by_body (head, named, after, final, fails)) (by_body (second, ending, next, last, lacks)) isnt neither =
+    let same = one_response_head place head second after next final.0.reads last.0.reads in
+    let both : Ok named ≡ Ok ending =
+    sym final.0.judged ∙ ap (response_framing request) same.0 ∙ last.0.judged in
+    let framings : named ≡ ending = cc in
+    found (one_body_fault named after one other fails
+    (subst (λ n. ResponseBodyFails n after other) (sym framings)
+    (subst (λ l. ResponseBodyFails ending l other) (sym same.1) lacks)) isnt neither)
+  where
+    found : (one ≡ other) ⊎ EndsInManyTrailers after
+        → (one ≡ other) ⊎ FinalHeadThen request (λ named after. EndsInManyTrailers after) place
+    found (inl e) = inl e
+    found (inr ends) = inr (head, named, after, final, ends)
+
+-- two faults at places behind interim responses
+one_stop_of_two : (request : Request) (input : List ℕ) (one other : ResponseFault)
+    → AfterInterim request input (Stops request one)
+    → AfterInterim request input (Stops request other) → is_of_reading one ≡ false
+    → is_of_reading other ≡ false → (one ≡ other) ⊎ IsUndecidedResponse request input
+one_stop_of_two request input one other h k isnt neither =
+    by_order (in_order request h.count k.count input h.after k.after h.skips k.skips)
+  where
+    undecided : (one ≡ other) ⊎ FinalHeadThen request (λ named after. EndsInManyTrailers after) h.after
+        → (one ≡ other) ⊎ IsUndecidedResponse request input
+    undecided (inl e) = inl e
+    undecided (inr ends) = inr (record {
+      count = h.count;
+      few = h.few;
+      after = h.after;
+      skips = h.skips;
+      holds = ends;
+    })
+
+    by_order : (h.after ≡ k.after) ⊎ (IsInterim request h.after ⊎ IsInterim request k.after)
+        → (one ≡ other) ⊎ IsUndecidedResponse request input
+    by_order (inl same) =
+        undecided (one_stop request one other h.after h.holds
+        (subst (Stops request other) (sym same) k.holds) isnt neither)
+    by_order (inr (inl interim)) =
+        of_both one (stops_or_interim request one h.after h.holds interim) isnt
+    by_order (inr (inr interim)) =
+        of_both other (stops_or_interim request other k.after k.holds interim) neither
+
+-- a fault stops at a place, or there are too many interim responses
+stopped : (request : Request) (input : List ℕ) (e : ResponseFault) → ResponseFails request input e
+    → AfterInterim request input (Stops request e) ⊎ ((e ≡ fault.Bad) × HasManyInterim request input)
+stopped request input e (breaks_rule f) =
+    inl (record { count = f.count; few = f.few; after = f.after; skips = f.skips; holds = by_rule f.holds })
+stopped request input e (no_head f) =
+    inl (record { count = f.count; few = f.few; after = f.after; skips = f.skips; holds = by_head f.holds })
+stopped request input e (many_interim is many) = inr (is, many)
+stopped request input e (no_body f) =
+    inl (record { count = f.count; few = f.few; after = f.after; skips = f.skips; holds = by_body f.holds })
+
+stops_or_many : (request : Request) (input : List ℕ) (e : ResponseFault)
+    → AfterInterim request input (Stops request e) → HasManyInterim request input
+    → is_of_reading e ≡ true
+stops_or_many request input e h (end, skips) =
+    stops_or_interim request e h.after h.holds
+    (interim_earlier request h.count 17 input h.after end (omega (arith, h.few)) h.skips skips)
+
+pub one_response_fault : (request : Request) (input : List ℕ) (one other : ResponseFault)
+    → ResponseFails request input one → ResponseFails request input other
+    → is_of_reading one ≡ false → is_of_reading other ≡ false
+    → (one ≡ other) ⊎ IsUndecidedResponse request input
+one_response_fault request input one other h k isnt neither =
+    by_place (stopped request input one h) (stopped request input other k)
+  where
+    by_place : AfterInterim request input (Stops request one) ⊎ ((one ≡ fault.Bad) × HasManyInterim request input)
+        → AfterInterim request input (Stops request other) ⊎ ((other ≡ fault.Bad) × HasManyInterim request input)
+        → (one ≡ other) ⊎ IsUndecidedResponse request input
+    by_place (inl a) (inl b) = one_stop_of_two request input one other a b isnt neither
+    by_place (inl a) (inr (is, many)) = of_both one (stops_or_many request input one a many) isnt
+    by_place (inr (is, many)) (inl b) = of_both other (stops_or_many request input other b many) neither
+    by_place (inr (is, many)) (inr (same, more)) = inl (is ∙ sym same)

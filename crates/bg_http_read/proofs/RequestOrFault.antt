@@ -1,0 +1,100 @@
+-- Where a request is at the front, no fault of the input stands.
+use Rattle.std.proofs.Common.{◌≡◌, ℕ, true, List, [], length, take, drop, refl, ap, sym, ◌∙◌, arith, subst, Option, Ok, Err, inl, inr}
+use Rattle.std.proofs.lemmas.List.{append-nil}
+use Rattle.httparse.specs.Grammar as grammar
+use Rattle.httparse.proofs.GrammarLemmas.{request_unique}
+use Rattle.bg_http.specs.RequestRules.{request_framing}
+use Rattle.bg_http.specs.declared.request.Request.{Request}
+use Rattle.bg_http.specs.declared.request.RequestHead.{RequestHead}
+use Rattle.bg_http.specs.declared.request_rules.Framing.{Framing}
+use Rattle.bg_http.specs.declared.request_rules.Framing.TheVariants as framing
+use Rattle.bg_http.specs.declared.request_fault.RequestFault.{RequestFault}
+use Rattle.bg_http.specs.declared.request_fault.RequestFault.TheVariants as fault
+use Rattle.bg_http.specs.declared.response_fault.ResponseFault.{ResponseFault}
+use Rattle.bg_http.specs.declared.response_fault.ResponseFault.TheVariants as read
+use Rattle.bg_http_read.specs.BodyFaults.{Failure, malformed, large, cut}
+use Rattle.bg_http_read.specs.HeadFaults.{RequestHeadFails}
+use Rattle.bg_http_read.specs.Laws.{is_of_machine}
+use Rattle.bg_http_read.specs.RequestHeads.{request_parts, ReadsRequestHead}
+use Rattle.bg_http_read.specs.Requests.{ReadsRequest, ReadsRequestBody, FramedBodyFails, RequestBodyFails, RequestFails, as_request}
+use Rattle.bg_http_read.proofs.BodyOrFault.{text_in_front, body_or_fault, length_or_fault}
+
+-- two heads at one front are one
+pub one_request_head : (input : List ℕ) (one other : RequestHead) (a b : List ℕ)
+    → ReadsRequestHead input one a → ReadsRequestHead input other b → (one ≡ other) × (a ≡ b)
+one_request_head input one other a b h k =
+    let same = request_unique input h.tree k.tree a b h.reads k.reads in
+    (h.head_is ∙ ap request_parts same.0 ∙ sym k.head_is, same.1)
+
+head_in_front : (input : List ℕ) (head : RequestHead) (after : List ℕ)
+    → (h : ReadsRequestHead input head after)
+    → grammar.ReadsRequest (take 16384 input) h.tree
+    (drop (length (grammar.print_request h.tree)) (take 16384 input))
+head_in_front input head after h =
+    let text = grammar.print_request h.tree in
+    (h.reads.0, text_in_front 16384 input text after h.reads.1 h.size)
+
+pub head_or_fault : (input : List ℕ) (head : RequestHead) (after : List ℕ) (e : ResponseFault)
+    → ReadsRequestHead input head after → RequestHeadFails input e
+    → is_of_machine (as_request e) ≡ true
+head_or_fault input head after read.ReadFailed h f = refl
+head_or_fault input head after read.HeadTooLarge h (inl (tree, rest, reads, many)) =
+    let front = head_in_front input head after h in
+    let same = request_unique (take 16384 input) tree h.tree rest
+    (drop (length (grammar.print_request h.tree)) (take 16384 input)) reads front in
+    let count = ap (λ t. length t.fields) same.0 in
+    let few = h.count in
+    absurd (omega (arith, count, few, many))
+head_or_fault input head after read.HeadTooLarge h (inr (full, none, may)) =
+    absurd (none h.tree (drop (length (grammar.print_request h.tree)) (take 16384 input))
+    (head_in_front input head after h))
+head_or_fault input head after read.Bad h never =
+    let front = head_in_front input head after h in
+    absurd (never [] h.tree (drop (length (grammar.print_request h.tree)) (take 16384 input))
+    (front.0, append-nil (take 16384 input) ∙ front.1))
+head_or_fault input head after read.TooLarge h f = absurd f
+head_or_fault input head after read.Closed h (few, none, may) = absurd (none h.tree after h.reads)
+head_or_fault input head after read.OutOfMemory h f = refl
+
+framed_or_fault : (named : Framing) (failure : Failure) (input : List ℕ) (body : Option (List ℕ))
+    (rest : List ℕ) → ReadsRequestBody named input body rest → FramedBodyFails failure named input
+    → ⊥
+framed_or_fault framing.NoBody failure input body rest h f = f
+framed_or_fault framing.Chunks failure input body rest (bytes, is, reads, fits) f =
+    body_or_fault failure 1048576 input bytes rest reads fits f
+framed_or_fault (framing.Length size) failure input body rest (bytes, is, long, whole) f =
+    length_or_fault failure size input bytes rest long whole f
+
+request_body_or_fault : (named : Framing) (input : List ℕ) (body : Option (List ℕ)) (rest : List ℕ)
+    (e : RequestFault) → ReadsRequestBody named input body rest → RequestBodyFails named input e
+    → is_of_machine e ≡ true
+request_body_or_fault named input body rest fault.ReadFailed h f = refl
+request_body_or_fault named input body rest fault.WriteFailed h f = absurd f
+request_body_or_fault named input body rest fault.HeadTooLarge h f = absurd f
+request_body_or_fault named input body rest fault.Bad h f =
+    absurd (framed_or_fault named malformed input body rest h f)
+request_body_or_fault named input body rest fault.Closed h f =
+    absurd (framed_or_fault named cut input body rest h f)
+request_body_or_fault named input body rest fault.NotDone h f = absurd f
+request_body_or_fault named input body rest fault.TooLarge h f =
+    absurd (framed_or_fault named large input body rest h f)
+request_body_or_fault named input body rest fault.OutOfMemory h f = refl
+
+pub request_or_fault : (input rest : List ℕ) (request : Request) (e : RequestFault)
+    → ReadsRequest input request rest → RequestFails input e → is_of_machine e ≡ true
+request_or_fault input rest request e h (inl (inl broken)) =
+    let same = one_request_head input h.head broken.head h.after broken.after h.begins.reads broken.reads in
+    let both : Ok h.framing ≡ Err e =
+    sym h.begins.judged ∙ ap request_framing same.0 ∙ broken.judged in
+    cc
+request_or_fault input rest request e h (inl (inr (of, is, fails))) =
+    ap is_of_machine is ∙ head_or_fault input h.head h.after of h.begins.reads fails
+request_or_fault input rest request e h (inr (inl f)) =
+    let same = one_request_head input h.head f.head h.after f.after h.begins.reads f.begins.reads in
+    let both : Ok h.framing ≡ Ok f.framing =
+    sym h.begins.judged ∙ ap request_framing same.0 ∙ f.begins.judged in
+    let framings : h.framing ≡ f.framing = cc in
+    request_body_or_fault h.framing h.after request.body rest e h.body
+    (subst (λ n. RequestBodyFails n h.after e) (sym framings)
+    (subst (λ l. RequestBodyFails f.framing l e) (sym same.1) f.holds))
+request_or_fault input rest request e h (inr (inr f)) = ap is_of_machine f.0

@@ -1,0 +1,144 @@
+-- What the bytes so far tell of the head of a response.
+use Rattle.std.proofs.Common.{◌≡◌, ℕ, ◌<◌, ◌≤◌, List, [], ◌++◌, length, take, drop, map, ap, sym, ◌∙◌, arith, append_assoc, take-append-drop, take_all, min, subst, inl, inr}
+use Rattle.std.proofs.lemmas.List.{length-map, length-take, length-append, drop-append-le, take-append-le}
+use Rattle.httparse.specs.Grammar as grammar
+use Rattle.httparse.specs.Spans.{IsResponseWithin, IsResponseAt, IsResponseOf, ResponseExceeds, header_bytes, name_and_value, span_bytes}
+use Rattle.httparse.specs.declared.spans.HeaderSpan.{HeaderSpan}
+use Rattle.httparse.specs.declared.spans.ResponseSpans.{ResponseSpans}
+use Rattle.httparse.proofs.GrammarLemmas.{ReadsResponse-append}
+use Rattle.bg_http.specs.declared.response.ResponseHead.{ResponseHead}
+use Rattle.bg_http_read.specs.ResponseHeads.{ReadsResponseHead, ResponseHeadIsMalformed, ResponseHeadIsLarge, ResponseHeadIsCut}
+use Rattle.bg_http_read.specs.HeadFaults.{ResponseHeadFails, of_head}
+use Rattle.bg_http_read.specs.declared.head_fault.HeadFault.{HeadFault}
+use Rattle.bg_http_read.specs.declared.head_fault.HeadFault.TheVariants as head_fault
+use Rattle.bg_http_read.proofs.Fronts.{front_is, front_grows}
+use Rattle.bg_http_read.proofs.HeadLengths.{response_long}
+
+-- as many fields were found as the head has
+pub response_fields : (buf : List ℕ) (headers : List HeaderSpan) (r : ResponseSpans)
+    (h : grammar.ResponseHead) → IsResponseWithin buf headers r → IsResponseAt buf headers r h
+    → length h.fields ≡ r.headers
+response_fields buf headers r h within at =
+    let same = ap length at.fields in
+    let spans = length-map (take r.headers headers) (header_bytes buf) in
+    let fields = length-map h.fields name_and_value in
+    let front = length-take r.headers headers in
+    let fits : r.headers ≤ length headers = within.section.count_fits in
+    omega (arith, same, spans, fields, front)
+
+-- the parts that were copied are those of the head
+pub whole_response_head : (buf : List ℕ) (headers : List HeaderSpan) (r : ResponseSpans)
+    → IsResponseWithin buf headers r → (h : IsResponseOf buf headers r) → length buf ≤ 16384
+    → r.headers ≤ 64 → (reason : List ℕ) (fields : List (List ℕ × List ℕ))
+    → reason ≡ span_bytes buf r.reason → fields ≡ map (header_bytes buf) (take r.headers headers)
+    → ReadsResponseHead buf
+    (record { minor = r.version; code = r.code; reason = reason; fields = fields })
+    (drop r.len buf)
+whole_response_head buf headers r within h size few reason fields m f =
+    let count = response_fields buf headers r h.0 within h.1 in
+    let fits = within.section.len_fits in
+    let len = h.1.len in
+    let same_reason : reason ≡ grammar.reason_phrase h.0.reason = m ∙ h.1.reason in
+    let same_code : r.code ≡ grammar.status_code h.0 = h.1.code in
+    let same_minor : r.version ≡ h.0.minor = h.1.version in
+    let same_fields : fields ≡ map name_and_value h.0.fields = f ∙ h.1.fields in
+    record {
+      tree = h.0;
+      reads = h.1.reads;
+      size = omega (arith, fits, len, size);
+      count = omega (arith, count, few);
+      head_is = cc;
+    }
+
+-- a head stays one, whatever follows
+pub response_head_more : (buf more : List ℕ) (head : ResponseHead) (rest : List ℕ)
+    → ReadsResponseHead buf head rest → ReadsResponseHead (buf ++ more) head (rest ++ more)
+response_head_more buf more head rest h = record {
+  tree = h.tree;
+  reads = ReadsResponse-append buf h.tree rest more h.reads;
+  size = h.size;
+  count = h.count;
+  head_is = h.head_is;
+}
+
+-- a head of many fields is too large
+pub many_response_fields : (buf : List ℕ) (h : grammar.ResponseHead) (rest : List ℕ)
+    → grammar.ReadsResponse buf h rest → 64 < length h.fields → length buf ≤ 16384
+    → ResponseHeadIsLarge buf
+many_response_fields buf h rest reads many short =
+    let same = take_all 16384 buf short in
+    inl (h, rest, subst (λ l. grammar.ReadsResponse l h rest) (sym same) reads, many)
+
+-- few bytes that can become no head are none
+pub malformed_response_head : (buf : List ℕ) → length buf ≤ 16384 → grammar.NeverHasResponse buf
+    → ResponseHeadIsMalformed buf
+malformed_response_head buf short h =
+    subst grammar.NeverHasResponse (sym (take_all 16384 buf short)) h
+
+-- so few bytes have no head of so many fields
+pub no_crowded_response : (buf : List ℕ) (room : ℕ) → length buf ≤ 16384 → 5461 ≤ room
+    → ResponseExceeds room buf → ⊥
+no_crowded_response buf room short many (front, rest, whole, h, reads, above) =
+    let text = response_long h reads.0.fields in
+    let printed = ap length reads.1 in
+    let ends = length-append front (grammar.print_end grammar.lf) in
+    let all = length-append (grammar.print_response h) [] in
+    let front_fits = length-append front rest in
+    omega (arith, text, printed, ends, all, front_fits, ap length whole, short, many, above)
+
+-- where 16,384 bytes are the beginning of a head and hold none, it is too large
+pub full_response_head : (bytes : List ℕ) (m : ℕ) → m ≡ min (length bytes) 16384
+    → 16384 ≤ length bytes
+    → grammar.HasNoResponse (take m bytes) × grammar.MayBecomeResponse (take m bytes)
+    → ResponseHeadIsLarge bytes
+full_response_head bytes m e full h =
+    let same = front_is bytes m 16384 e in
+    inr (full, subst grammar.HasNoResponse same h.0, subst grammar.MayBecomeResponse same h.1)
+
+-- where there are fewer, it is cut
+pub open_response_head : (bytes : List ℕ) (m : ℕ) → m ≡ min (length bytes) 16384
+    → length bytes < 16384
+    → grammar.HasNoResponse (take m bytes) × grammar.MayBecomeResponse (take m bytes)
+    → ResponseHeadIsCut bytes
+open_response_head bytes m e few h =
+    let same : take m bytes ≡ bytes = take_all m bytes (omega (arith, e, few)) in
+    (few, subst grammar.HasNoResponse same h.0, subst grammar.MayBecomeResponse same h.1)
+
+-- a head that fails does so whatever follows
+pub response_head_fails_more : (buf more : List ℕ) (e : HeadFault) → ResponseHeadFails buf (of_head e)
+    → ResponseHeadFails (buf ++ more) (of_head e)
+response_head_fails_more buf more head_fault.Bad h =
+    let front = front_grows buf more 16384 in
+    subst grammar.NeverHasResponse (sym front.1) (λ later. rw append_assoc (h (front.0 ++ later)))
+response_head_fails_more buf more head_fault.TooLarge (inl (tree, rest, reads, many)) =
+    let front = front_grows buf more 16384 in
+    inl (
+      tree,
+      rest ++ front.0,
+      subst (λ l. grammar.ReadsResponse l tree (rest ++ front.0)) (sym front.1)
+          (ReadsResponse-append (take 16384 buf) tree rest front.0 reads),
+      many,
+    )
+response_head_fails_more buf more head_fault.TooLarge (inr (full, none, may)) =
+    let same = sym (take-append-le 16384 buf more full) in
+    inr (
+      omega (arith, full, length-append buf more),
+      subst grammar.HasNoResponse same none,
+      subst grammar.MayBecomeResponse same may,
+    )
+response_head_fails_more buf more head_fault.OutOfMemory h = tt
+
+-- a head of the first bytes is one of all
+pub front_response_head : (bytes : List ℕ) (m n : ℕ) (head : ResponseHead) → n ≤ length (take m bytes)
+    → ReadsResponseHead (take m bytes) head (drop n (take m bytes))
+    → ReadsResponseHead bytes head (drop n bytes)
+front_response_head bytes m n head fits h =
+    let more = response_head_more (take m bytes) (drop m bytes) head (drop n (take m bytes)) h in
+    let whole = subst (λ l. ReadsResponseHead l head (drop n (take m bytes) ++ drop m bytes))
+    (take-append-drop m bytes) more in
+    subst (ReadsResponseHead bytes head) (sym (dropped bytes m n fits)) whole
+  where
+    dropped : (xs : List ℕ) (m n : ℕ) → n ≤ length (take m xs)
+        → drop n xs ≡ drop n (take m xs) ++ drop m xs
+    dropped xs m n fits =
+        ap (drop n) (sym (take-append-drop m xs)) ∙ drop-append-le n (take m xs) (drop m xs) fits

@@ -1,0 +1,148 @@
+-- Where a response is at the front, no fault of the input stands.
+use Rattle.std.proofs.Common.{◌≡◌, ◌⊎◌, ℕ, ◌≤◌, true, List, [], length, take, drop, refl, ap, sym, ◌∙◌, arith, subst, Ok, Err, inl, inr}
+use Rattle.std.proofs.lemmas.List.{append-nil}
+use Rattle.httparse.specs.Grammar as grammar
+use Rattle.httparse.proofs.GrammarLemmas.{response_unique}
+use Rattle.bg_http.specs.ResponseRules.{response_framing}
+use Rattle.bg_http.specs.declared.request.Request.{Request}
+use Rattle.bg_http.specs.declared.response.Response.{Response}
+use Rattle.bg_http.specs.declared.response.ResponseHead.{ResponseHead}
+use Rattle.bg_http.specs.declared.response_rules.ResponseFraming.{ResponseFraming}
+use Rattle.bg_http.specs.declared.response_rules.ResponseFraming.TheVariants as framing
+use Rattle.bg_http.specs.declared.response_fault.ResponseFault.{ResponseFault}
+use Rattle.bg_http.specs.declared.response_fault.ResponseFault.TheVariants as wrong
+use Rattle.bg_http_read.specs.BodyFaults.{Failure, malformed, large, cut, EndFails}
+use Rattle.bg_http_read.specs.HeadFaults.{ResponseHeadFails}
+use Rattle.bg_http_read.specs.Laws.{is_of_reading}
+use Rattle.bg_http_read.specs.ResponseHeads.{ReadsResponseHead}
+use Rattle.bg_http_read.specs.Responses.{ReadsResponseBody, FramedResponseBodyFails, ResponseBodyFails, BreaksResponseRule, FinalHeadThen, ReadsResponse, ResponseFails, breaks_rule, no_head, many_interim, no_body}
+use Rattle.bg_http_read.proofs.BodyOrFault.{text_in_front, body_or_fault, length_or_fault}
+use Rattle.bg_http_read.proofs.InterimOrder.{IsInterim, one_response_head, in_order, interim_earlier, final_or_interim}
+
+head_in_front : (input : List ℕ) (head : ResponseHead) (after : List ℕ)
+    → (h : ReadsResponseHead input head after)
+    → grammar.ReadsResponse (take 16384 input) h.tree
+    (drop (length (grammar.print_response h.tree)) (take 16384 input))
+head_in_front input head after h =
+    let text = grammar.print_response h.tree in
+    (h.reads.0, text_in_front 16384 input text after h.reads.1 h.size)
+
+pub head_or_fault : (input : List ℕ) (head : ResponseHead) (after : List ℕ) (e : ResponseFault)
+    → ReadsResponseHead input head after → ResponseHeadFails input e → is_of_reading e ≡ true
+head_or_fault input head after wrong.ReadFailed h f = refl
+head_or_fault input head after wrong.HeadTooLarge h (inl (tree, rest, reads, many)) =
+    let front = head_in_front input head after h in
+    let same = response_unique (take 16384 input) tree h.tree rest
+    (drop (length (grammar.print_response h.tree)) (take 16384 input)) reads front in
+    let count = ap (λ t. length t.fields) same.0 in
+    let few = h.count in
+    absurd (omega (arith, count, few, many))
+head_or_fault input head after wrong.HeadTooLarge h (inr (full, none, may)) =
+    absurd (none h.tree (drop (length (grammar.print_response h.tree)) (take 16384 input))
+    (head_in_front input head after h))
+head_or_fault input head after wrong.Bad h never =
+    let front = head_in_front input head after h in
+    absurd (never [] h.tree (drop (length (grammar.print_response h.tree)) (take 16384 input))
+    (front.0, append-nil (take 16384 input) ∙ front.1))
+head_or_fault input head after wrong.TooLarge h f = absurd f
+head_or_fault input head after wrong.Closed h (few, none, may) = absurd (none h.tree after h.reads)
+head_or_fault input head after wrong.OutOfMemory h f = refl
+
+end_or_fault : (failure : Failure) (limit : ℕ) (input body : List ℕ) → body ≡ input
+    → length body ≤ limit → EndFails failure limit input → ⊥
+end_or_fault malformed limit input body is fits f = f
+end_or_fault large limit input body is fits f = omega (arith, f, fits, ap length is)
+end_or_fault cut limit input body is fits f = f
+
+framed_or_fault : (named : ResponseFraming) (failure : Failure) (input body rest : List ℕ)
+    → ReadsResponseBody named input body rest → FramedResponseBodyFails failure named input → ⊥
+framed_or_fault framing.Interim failure input body rest h f = f
+framed_or_fault framing.NoBody failure input body rest h f = f
+framed_or_fault framing.Chunks failure input body rest (reads, fits) f =
+    body_or_fault failure 4194304 input body rest reads fits f
+framed_or_fault (framing.Length size) failure input body rest (long, whole) f =
+    length_or_fault failure size input body rest long whole f
+framed_or_fault framing.ToTheEnd failure input body rest (ends, is, fits) f =
+    end_or_fault failure 4194304 input body is fits f
+
+response_body_or_fault : (named : ResponseFraming) (input body rest : List ℕ) (e : ResponseFault)
+    → ReadsResponseBody named input body rest → ResponseBodyFails named input e
+    → is_of_reading e ≡ true
+response_body_or_fault named input body rest wrong.ReadFailed h f = refl
+response_body_or_fault named input body rest wrong.HeadTooLarge h f = absurd f
+response_body_or_fault named input body rest wrong.Bad h f =
+    absurd (framed_or_fault named malformed input body rest h f)
+response_body_or_fault named input body rest wrong.TooLarge h f =
+    absurd (framed_or_fault named large input body rest h f)
+response_body_or_fault named input body rest wrong.Closed h f =
+    absurd (framed_or_fault named cut input body rest h f)
+response_body_or_fault named input body rest wrong.OutOfMemory h f = refl
+
+pub response_or_fault : (request : Request) (input : List ℕ) (response : Response)
+    (e : ResponseFault) → ReadsResponse request response input → ResponseFails request input e
+    → is_of_reading e ≡ true
+response_or_fault request input response e h fails = by_fault fails
+  where
+    a : List ℕ
+    a = h.after
+
+    head : ResponseHead
+    head = h.holds.0
+
+    named : ResponseFraming
+    named = h.holds.1
+
+    after : List ℕ
+    after = h.holds.2
+
+    not_interim : IsInterim request a → ⊥
+    not_interim = final_or_interim request a head named after h.holds.3.0 h.holds.3.1
+
+    breaks : (b : List ℕ) → BreaksResponseRule request e b
+        → (a ≡ b) ⊎ (IsInterim request a ⊎ IsInterim request b) → is_of_reading e ≡ true
+    breaks b (other, rest, reads, broken) (inl same) =
+        let heads = one_response_head a head other after rest h.holds.3.0.reads
+        (subst (λ l. ReadsResponseHead l other rest) (sym same) reads) in
+        let both : Ok named ≡ Err e =
+        sym h.holds.3.0.judged ∙ ap (response_framing request) heads.0 ∙ broken in
+        cc
+    breaks b found (inr (inl interim)) = absurd (not_interim interim)
+    breaks b (other, rest, reads, broken) (inr (inr (second, next, judged))) =
+        let heads = one_response_head b other second rest next reads judged.reads in
+        let both : Err e ≡ Ok framing.Interim =
+        sym broken ∙ ap (response_framing request) heads.0 ∙ judged.judged in
+        cc
+
+    lacks : (b : List ℕ) → ResponseHeadFails b e
+        → (a ≡ b) ⊎ (IsInterim request a ⊎ IsInterim request b) → is_of_reading e ≡ true
+    lacks b found (inl same) =
+        head_or_fault a head after e h.holds.3.0.reads
+        (subst (λ l. ResponseHeadFails l e) (sym same) found)
+    lacks b found (inr (inl interim)) = absurd (not_interim interim)
+    lacks b found (inr (inr (second, next, judged))) =
+        head_or_fault b second next e judged.reads found
+
+    body : (b : List ℕ) → FinalHeadThen request (λ framing after. ResponseBodyFails framing after e) b
+        → (a ≡ b) ⊎ (IsInterim request a ⊎ IsInterim request b) → is_of_reading e ≡ true
+    body b (other, second, rest, final, found) (inl same) =
+        let heads = one_response_head a head other after rest h.holds.3.0.reads
+        (subst (λ l. ReadsResponseHead l other rest) (sym same) final.0.reads) in
+        let both : Ok named ≡ Ok second =
+        sym h.holds.3.0.judged ∙ ap (response_framing request) heads.0 ∙ final.0.judged in
+        let framings : named ≡ second = cc in
+        response_body_or_fault named after response.body h.holds.4 e h.holds.5.body
+        (subst (λ n. ResponseBodyFails n after e) (sym framings)
+        (subst (λ l. ResponseBodyFails second l e) (sym heads.1) found))
+    body b found (inr (inl interim)) = absurd (not_interim interim)
+    body b (other, second, rest, final, found) (inr (inr interim)) =
+        absurd (final_or_interim request b other second rest final.0 final.1 interim)
+
+    by_fault : ResponseFails request input e → is_of_reading e ≡ true
+    by_fault (breaks_rule f) =
+        breaks f.after f.holds (in_order request h.count f.count input a f.after h.skips f.skips)
+    by_fault (no_head f) =
+        lacks f.after f.holds (in_order request h.count f.count input a f.after h.skips f.skips)
+    by_fault (many_interim is (end, skips)) =
+        absurd (not_interim (interim_earlier request h.count 17 input a end (omega (arith, h.few)) h.skips skips))
+    by_fault (no_body f) =
+        body f.after f.holds (in_order request h.count f.count input a f.after h.skips f.skips)

@@ -1,0 +1,11 @@
+pub mod Bodies
+pub mod BodiesRead
+pub mod BodyFaults
+pub mod Chunks
+pub mod HeadFaults
+pub mod Laws
+pub mod RequestHeads
+pub mod Requests
+pub mod ResponseHeads
+pub mod Responses
+pub mod Streams

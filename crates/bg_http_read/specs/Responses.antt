@@ -1,0 +1,142 @@
+-- A response that is read whole.
+use Rattle.std.specs.Prelude.{◌≡◌, Bool, true, false, IsFalse, ℕ, zero, suc, ◌≤◌, List, [], ◌++◌, length, Option, Some, None, Ok, Err, ⊤}
+use Rattle.std.specs.Fmt.{decimal}
+use Rattle.bg_http.specs.ResponseRules.{response_framing, length_told}
+use Rattle.bg_http.specs.declared.request.Request.{Request}
+use Rattle.bg_http.specs.declared.response.Response.{Response}
+use Rattle.bg_http.specs.declared.response.ResponseHead.{ResponseHead}
+use Rattle.bg_http.specs.declared.response_fault.ResponseFault.{ResponseFault}
+use Rattle.bg_http.specs.declared.response_fault.ResponseFault.TheVariants as fault
+use Rattle.bg_http.specs.declared.response_rules.ResponseFraming.{ResponseFraming}
+use Rattle.bg_http.specs.declared.response_rules.ResponseFraming.TheVariants as framing
+use Rattle.bg_http_read.specs.BodyFaults.{Failure, malformed, large, cut, ChunksFail, LengthFails, EndFails}
+use Rattle.bg_http_read.specs.Chunks.{ReadsChunks}
+use Rattle.bg_http_read.specs.HeadFaults.{ResponseHeadFails}
+use Rattle.bg_http_read.specs.ResponseHeads.{ReadsResponseHead}
+
+-- the most bytes that a response's body may have
+abbrev pub most_response_body : ℕ
+most_response_body = 4194304
+
+-- the input begins with the body that the framing names, and then comes the rest
+abbrev pub ReadsResponseBody : ResponseFraming → List ℕ → List ℕ → List ℕ → Type 0
+ReadsResponseBody framing.Interim input body rest = ⊥
+ReadsResponseBody framing.NoBody input body rest = (body ≡ []) × (input ≡ rest)
+ReadsResponseBody framing.Chunks input body rest =
+    ReadsChunks input body rest × (length body ≤ most_response_body)
+ReadsResponseBody (framing.Length size) input body rest =
+    (length body ≡ size) × (input ≡ body ++ rest)
+ReadsResponseBody framing.ToTheEnd input body rest =
+    (rest ≡ []) × (body ≡ input) × (length body ≤ most_response_body)
+
+-- how the body that the framing names fails
+abbrev pub FramedResponseBodyFails : Failure → ResponseFraming → List ℕ → Type 0
+FramedResponseBodyFails failure framing.Interim input = ⊥
+FramedResponseBodyFails failure framing.NoBody input = ⊥
+FramedResponseBodyFails failure framing.Chunks input =
+    ChunksFail failure most_response_body 0 input
+FramedResponseBodyFails failure (framing.Length size) input = LengthFails failure size input
+FramedResponseBodyFails failure framing.ToTheEnd input =
+    EndFails failure most_response_body input
+
+-- what a fault says of the input of a body
+abbrev pub ResponseBodyFails : ResponseFraming → List ℕ → ResponseFault → Type 0
+ResponseBodyFails named input fault.ReadFailed = ⊤
+ResponseBodyFails named input fault.HeadTooLarge = ⊥
+ResponseBodyFails named input fault.Bad = FramedResponseBodyFails malformed named input
+ResponseBodyFails named input fault.TooLarge = FramedResponseBodyFails large named input
+ResponseBodyFails named input fault.Closed = FramedResponseBodyFails cut named input
+ResponseBodyFails named input fault.OutOfMemory = ⊤
+
+-- the input begins with a head that is judged so
+pub record JudgedResponse
+    (request : Request) (input : List ℕ) (head : ResponseHead) (named : ResponseFraming)
+    (after : List ℕ) : Type 0 where
+  pub reads : ReadsResponseHead input head after
+  pub judged : response_framing request head ≡ Ok named
+
+-- the response is interim: another one comes after it
+abbrev pub names_another : ResponseFraming → Bool
+names_another framing.Interim = true
+names_another framing.NoBody = false
+names_another framing.Chunks = false
+names_another (framing.Length size) = false
+names_another framing.ToTheEnd = false
+
+-- the input begins with so many interim responses
+abbrev pub SkipsInterim : Request → ℕ → List ℕ → List ℕ → Type 0
+SkipsInterim request zero input after = input ≡ after
+SkipsInterim request (suc count) input after =
+    (before : List ℕ) × (head : ResponseHead) × SkipsInterim request count input before
+    × JudgedResponse request before head framing.Interim after
+
+-- after at most 16 interim responses, of what follows this holds
+pub record AfterInterim (request : Request) (input : List ℕ) (P : List ℕ → Type 0) : Type 0 where
+  pub count : ℕ
+  pub few : count ≤ 16
+  pub after : List ℕ
+  pub skips : SkipsInterim request count input after
+  pub holds : P after
+
+-- there are more interim responses than are taken
+abbrev pub HasManyInterim : Request → List ℕ → Type 0
+HasManyInterim request input = (after : List ℕ) × SkipsInterim request 17 input after
+
+-- the input is a head that isn't interim, and then the rest
+abbrev pub IsFinalHead
+    : Request → ResponseHead → ResponseFraming → List ℕ → List ℕ → Type 0
+IsFinalHead request head named rest input =
+    JudgedResponse request input head named rest × IsFalse (names_another named)
+
+-- the input is a head that breaks a rule, with this fault of the first one
+abbrev pub BreaksResponseRule : Request → ResponseFault → List ℕ → Type 0
+BreaksResponseRule request fault input =
+    (head : ResponseHead) × (after : List ℕ) × ReadsResponseHead input head after
+    × (response_framing request head ≡ Err fault)
+
+-- the input is a head that isn't interim, and of what comes after it this holds
+abbrev pub FinalHeadThen : Request → (ResponseFraming → List ℕ → Type 0) → List ℕ → Type 0
+FinalHeadThen request P input =
+    (head : ResponseHead) × (named : ResponseFraming) × (after : List ℕ)
+    × IsFinalHead request head named after input × P named after
+
+-- what a fault says of the input: after interim responses a head breaks a rule, with this fault of
+-- the first; or there is no head; or there is another interim response after 16; or the body fails.
+-- Of the faults of the machine nothing is said
+pub data ResponseFails (request : Request) (input : List ℕ) (named : ResponseFault) : Type 0 where
+  breaks_rule : AfterInterim request input (BreaksResponseRule request named)
+      → ResponseFails request input named
+  no_head : AfterInterim request input (λ before. ResponseHeadFails before named)
+      → ResponseFails request input named
+  many_interim : named ≡ fault.Bad → HasManyInterim request input
+      → ResponseFails request input named
+  no_body : AfterInterim request input
+      (FinalHeadThen request (λ framing after. ResponseBodyFails framing after named))
+      → ResponseFails request input named
+
+-- the digits of the length that goes on: that of the body, or where there is none the one that the
+-- head tells
+abbrev pub length_of_response : ResponseFraming → ResponseHead → List ℕ → Option (List ℕ)
+length_of_response framing.Interim head body = None
+length_of_response framing.NoBody head body = length_told head
+length_of_response framing.Chunks head body = Some (decimal (length body))
+length_of_response (framing.Length size) head body = Some (decimal (length body))
+length_of_response framing.ToTheEnd head body = Some (decimal (length body))
+
+-- the response has the parts of the head, and the body is there, and then comes the rest
+pub record IsResponse
+    (response : Response) (head : ResponseHead) (named : ResponseFraming) (after rest : List ℕ)
+    : Type 0 where
+  pub body : ReadsResponseBody named after response.body rest
+  pub code_is : response.code ≡ head.code
+  pub reason_is : response.reason ≡ head.reason
+  pub fields_are : response.fields ≡ head.fields
+  pub length_is : response.length ≡ length_of_response named head response.body
+
+-- the input begins with at most 16 interim responses and then the response
+abbrev pub ReadsResponse : Request → Response → List ℕ → Type 0
+ReadsResponse request response input =
+    AfterInterim request input
+    (λ before. (head : ResponseHead) × (named : ResponseFraming) × (after : List ℕ)
+    × IsFinalHead request head named after before
+    × (rest : List ℕ) × IsResponse response head named after rest)

@@ -1,0 +1,239 @@
+//! A body, which is fed the bytes as they come.
+ghost use Rattle.std.specs.Prelude.{◌≡◌, ◌<◌, [], IfOk, IfErr, OnErr};
+ghost use Rattle.bg_http_read.specs.Bodies.{KeepsLimit, Refuses, Takes, Unchanged};
+ghost use Rattle.bg_http_read.specs.Bodies.{can_end, is_whole};
+ghost use Rattle.bg_http_read.specs.declared.body.Stage.TheVariants as stage;
+
+use crate::body_fault::BodyFault;
+use crate::chunk_lines::find_line;
+use crate::trailers::find_trailers;
+use bg_http::Bytes;
+use std::alloc::{AllocError, Global};
+
+/// What comes next of a body.
+#[derive(Clone, Copy, PartialEq, Eq, Debug, Drop)]
+pub(crate) enum Stage {
+    /// So many bytes, and then nothing.
+    Length(usize),
+    /// The line of a chunk.
+    Line,
+    /// So many bytes of a chunk, CR LF, and the line of the next.
+    Data(usize),
+    /// Trailers.
+    Trailers,
+    /// All bytes up to the end of the input.
+    ToTheEnd,
+    /// Nothing.
+    Whole,
+}
+
+/// A body, which is fed the bytes as they come and takes those that are its own.
+#[derive(Drop)]
+pub(crate) struct Body {
+    limit: usize,
+    stage: Stage,
+    bytes: Vec<u8>,
+}
+
+impl Body {
+    /// A body of so many bytes, for which memory is taken at once.
+    pub(crate) fn of_length(alloc: Global, size: usize) -> Result<Body, AllocError>
+        ensures bytes { IfOk result (λ body. body.bytes.items ≡ []) }
+        ensures stage { IfOk result (λ body. body.stage ≡ stage.Length size) }
+        ensures limit { IfOk result (λ body. body.limit ≡ size) }
+    {
+        let bytes = Vec::with_capacity(alloc, size)?;
+        Ok(Body {
+            limit: size,
+            stage: Stage::Length(size),
+            bytes,
+        })
+    }
+
+    /// A body in chunks, of at most `limit` bytes.
+    pub(crate) fn of_chunks(alloc: Global, limit: usize) -> Body
+        ensures bytes { result.bytes.items ≡ [] }
+        ensures stage { result.stage ≡ stage.Line }
+        ensures limit { result.limit ≡ limit }
+    {
+        Body {
+            limit,
+            stage: Stage::Line,
+            bytes: Vec::new(alloc),
+        }
+    }
+
+    /// A body up to the end of the input, of at most `limit` bytes.
+    pub(crate) fn to_the_end(alloc: Global, limit: usize) -> Body
+        ensures bytes { result.bytes.items ≡ [] }
+        ensures stage { result.stage ≡ stage.ToTheEnd }
+        ensures limit { result.limit ≡ limit }
+    {
+        Body {
+            limit,
+            stage: Stage::ToTheEnd,
+            bytes: Vec::new(alloc),
+        }
+    }
+
+    /// The bytes so far, with their memory.
+    pub(crate) fn into_bytes(self) -> Bytes
+        ensures { result ≡ self.bytes.items }
+    {
+        Bytes::from_vec(self.bytes)
+    }
+
+    /// Whether nothing is missing.
+    pub(crate) fn is_whole(&self) -> bool
+        ensures { result ≡ is_whole self.now.stage }
+    {
+        match self.stage {
+            Stage::Length(left) => left == 0,
+            Stage::Whole => true,
+            Stage::Line | Stage::Data(_) | Stage::Trailers | Stage::ToTheEnd => false,
+        }
+    }
+
+    /// Whether the body may end where the input does.
+    pub(crate) fn can_end(&self) -> bool
+        ensures { result ≡ can_end self.now.stage }
+    {
+        match self.stage {
+            Stage::Length(left) => left == 0,
+            Stage::ToTheEnd | Stage::Whole => true,
+            Stage::Line | Stage::Data(_) | Stage::Trailers => false,
+        }
+    }
+
+    /// Takes bytes of the front, as many as it says; none where it needs more than these, or is
+    /// whole. Where memory is refused, nothing changes.
+    pub(crate) fn take(&mut self, bytes: &[u8]) -> Result<usize, BodyFault>
+        requires { KeepsLimit self.old }
+        ensures taken { IfOk result (λ count. Takes self.old self.new bytes.now count) }
+        ensures refused { IfErr result (λ fault. Refuses self.old bytes.now fault) }
+        ensures kept { OnErr result (Unchanged self.old self.new) }
+        ensures within { KeepsLimit self.new }
+    {
+        match self.stage {
+            Stage::Length(left) => self.take_length(bytes, left),
+            Stage::Line => self.take_line(bytes),
+            Stage::Data(0) => self.take_line_end(bytes),
+            Stage::Data(left) => self.take_data(bytes, left),
+            Stage::Trailers => self.take_trailers(bytes),
+            Stage::ToTheEnd => self.take_all(bytes),
+            Stage::Whole => Ok(0),
+        }
+    }
+
+    /// Takes what there is of a body whose length is known.
+    fn take_length(&mut self, bytes: &[u8], left: usize) -> Result<usize, BodyFault>
+        requires stage { self.old.stage ≡ stage.Length left }
+        requires within { KeepsLimit self.old }
+        ensures taken { IfOk result (λ count. Takes self.old self.new bytes.now count) }
+        ensures refused { IfErr result (λ fault. Refuses self.old bytes.now fault) }
+        ensures kept { OnErr result (Unchanged self.old self.new) }
+        ensures within { KeepsLimit self.new }
+    {
+        let count = bytes.len().min(left);
+        self.bytes.extend_from_slice(&bytes[..count])?;
+        self.stage = Stage::Length(left - count);
+        Ok(count)
+    }
+
+    /// Takes the line of a chunk, where it is whole.
+    fn take_line(&mut self, bytes: &[u8]) -> Result<usize, BodyFault>
+        requires stage { self.old.stage ≡ stage.Line }
+        requires within { KeepsLimit self.old }
+        ensures taken { IfOk result (λ count. Takes self.old self.new bytes.now count) }
+        ensures refused { IfErr result (λ fault. Refuses self.old bytes.now fault) }
+        ensures kept { OnErr result (Unchanged self.old self.new) }
+        ensures within { KeepsLimit self.new }
+    {
+        let found = match find_line(bytes) {
+            Ok(found) => found,
+            Err(_) => return Err(BodyFault::Bad),
+        };
+        let Some((count, size)) = found else {
+            return Ok(0);
+        };
+        if size > (self.limit - self.bytes.len()) as u64 {
+            return Err(BodyFault::TooLarge);
+        }
+        if size == 0 {
+            self.stage = Stage::Trailers;
+            return Ok(count);
+        }
+        self.stage = Stage::Data(size as usize);
+        Ok(count)
+    }
+
+    /// Takes what there is of a chunk's data.
+    fn take_data(&mut self, bytes: &[u8], left: usize) -> Result<usize, BodyFault>
+        requires stage { self.old.stage ≡ stage.Data left }
+        requires some { 0 < left }
+        requires within { KeepsLimit self.old }
+        ensures taken { IfOk result (λ count. Takes self.old self.new bytes.now count) }
+        ensures refused { IfErr result (λ fault. Refuses self.old bytes.now fault) }
+        ensures kept { OnErr result (Unchanged self.old self.new) }
+        ensures within { KeepsLimit self.new }
+    {
+        let count = bytes.len().min(left);
+        self.bytes.extend_from_slice(&bytes[..count])?;
+        self.stage = Stage::Data(left - count);
+        Ok(count)
+    }
+
+    /// Takes the CR LF after a chunk's data.
+    fn take_line_end(&mut self, bytes: &[u8]) -> Result<usize, BodyFault>
+        requires stage { self.old.stage ≡ stage.Data 0 }
+        requires within { KeepsLimit self.old }
+        ensures taken { IfOk result (λ count. Takes self.old self.new bytes.now count) }
+        ensures refused { IfErr result (λ fault. Refuses self.old bytes.now fault) }
+        ensures kept { OnErr result (Unchanged self.old self.new) }
+        ensures within { KeepsLimit self.new }
+    {
+        match bytes {
+            [] | [b'\r'] => Ok(0),
+            [b'\r', b'\n', ..] => {
+                self.stage = Stage::Line;
+                Ok(2)
+            }
+            _ => Err(BodyFault::Bad),
+        }
+    }
+
+    /// Takes the trailers, where they are whole.
+    fn take_trailers(&mut self, bytes: &[u8]) -> Result<usize, BodyFault>
+        requires stage { self.old.stage ≡ stage.Trailers }
+        requires within { KeepsLimit self.old }
+        ensures taken { IfOk result (λ count. Takes self.old self.new bytes.now count) }
+        ensures refused { IfErr result (λ fault. Refuses self.old bytes.now fault) }
+        ensures kept { OnErr result (Unchanged self.old self.new) }
+        ensures within { KeepsLimit self.new }
+    {
+        match find_trailers(bytes) {
+            Ok(Some(count)) => {
+                self.stage = Stage::Whole;
+                Ok(count)
+            }
+            Ok(None) => Ok(0),
+            Err(_) => Err(BodyFault::Bad),
+        }
+    }
+
+    /// Takes all bytes.
+    fn take_all(&mut self, bytes: &[u8]) -> Result<usize, BodyFault>
+        requires stage { self.old.stage ≡ stage.ToTheEnd }
+        requires within { KeepsLimit self.old }
+        ensures taken { IfOk result (λ count. Takes self.old self.new bytes.now count) }
+        ensures refused { IfErr result (λ fault. Refuses self.old bytes.now fault) }
+        ensures kept { OnErr result (Unchanged self.old self.new) }
+        ensures within { KeepsLimit self.new }
+    {
+        if bytes.len() > self.limit - self.bytes.len() {
+            return Err(BodyFault::TooLarge);
+        }
+        self.bytes.extend_from_slice(bytes)?;
+        Ok(bytes.len())
+    }
+}

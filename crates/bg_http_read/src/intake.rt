@@ -1,0 +1,140 @@
+//! Bytes that were read from a stream and not yet taken.
+ghost use Rattle.std.specs.Prelude.{◌≡◌, ◌<◌, ◌≤◌, [], IfOk, IfSome, IsFalse, OnOk, drop, length, take};
+ghost use Rattle.std.specs.Io.KnownBytes.{Consumes, IsAtEnd, Keeps};
+ghost use Rattle.bg_http_read.specs.Streams.{to_come, waiting};
+
+use bg_http::{Duplex, ResponseFault};
+use std::alloc::{AllocError, Global};
+use std::io::{ErrorKind, Read};
+
+/// After so many turns a loop over a stream gives up.
+pub(crate) const MOST_TURNS: u32 = 1 << 24;
+
+/// How many bytes are asked for at once.
+const PIECE: usize = 4096;
+
+/// Why no more bytes come.
+#[derive(Clone, Copy, PartialEq, Eq, Debug, Drop)]
+pub(crate) enum IntakeFault {
+    /// A read failed.
+    ReadFailed,
+    /// Memory was refused.
+    OutOfMemory,
+}
+
+impl From<AllocError> for IntakeFault {
+    ghost use Rattle.bg_http_read.specs.declared.intake.IntakeFault.TheVariants.{OutOfMemory};
+
+    ghost from_gives = { λ _ e. e ≡ OutOfMemory };
+
+    fn from(_: AllocError) -> IntakeFault {
+        IntakeFault::OutOfMemory
+    }
+}
+
+/// One read, tried again where it was interrupted; how many bytes it gave, none where it failed.
+fn read_piece<S: Duplex>(stream: &mut S, piece: &mut [u8]) -> Option<usize>
+    ensures fits { IfSome result (λ count. count ≤ length piece.new) }
+    ensures bytes { IfSome result (λ count.
+        Consumes (S.remaining stream.old) (S.remaining stream.new) (take count piece.new)) }
+    ensures end { IfSome result (λ count. count ≡ 0 → 0 < length piece.old
+        → IsAtEnd (S.remaining stream.new)) }
+    ensures kept { Keeps (S.contents stream.old) (S.contents stream.new) }
+{
+    for _ in 0..MOST_TURNS {
+        match stream.receive(piece) {
+            Ok(count) => return Some(count.min(piece.len())),
+            Err(error) => {
+                if error.kind() != ErrorKind::Interrupted {
+                    return None;
+                }
+            }
+        }
+    }
+    None
+}
+
+/// Bytes that were read from a stream and not yet taken.
+#[derive(Drop)]
+pub(crate) struct Intake {
+    bytes: Vec<u8>,
+    taken: usize,
+}
+
+impl Intake {
+    /// No bytes.
+    pub(crate) fn new(alloc: Global) -> Intake
+        ensures { waiting result ≡ [] }
+    {
+        Intake {
+            bytes: Vec::new(alloc),
+            taken: 0,
+        }
+    }
+
+    /// The bytes that wait.
+    pub(crate) fn get(&self) -> &[u8]
+        ensures { result.now ≡ waiting self.now }
+    {
+        match self.bytes.as_slice().get(self.taken..) {
+            Some(bytes) => bytes,
+            None => &[],
+        }
+    }
+
+    /// Drops the first of the bytes that wait.
+    pub(crate) fn skip(&mut self, count: usize)
+        requires { count ≤ length (waiting self.old) }
+        ensures { waiting self.new ≡ drop count (waiting self.old) }
+    {
+        self.taken += count;
+    }
+
+    /// Puts the bytes that wait to the front of the memory that holds them.
+    fn compact(&mut self)
+        ensures bytes { waiting self.new ≡ waiting self.old }
+        ensures front { self.new.taken ≡ 0 }
+    {
+        if self.taken >= self.bytes.len() {
+            self.bytes.clear();
+            self.taken = 0;
+            return;
+        }
+        let taken = self.taken;
+        let left = self.bytes.len() - taken;
+        self.bytes.rotate_left(taken);
+        self.bytes.truncate(left);
+        self.taken = 0;
+    }
+
+    /// Adds the next bytes of the stream, and tells whether there were any.
+    pub(crate) fn fill<S: Duplex>(&mut self, stream: &mut S) -> Result<bool, IntakeFault>
+        ensures to_come { OnOk result (Keeps (to_come self.old (S.remaining stream.old))
+            (to_come self.new (S.remaining stream.new))) }
+        ensures end { IfOk result (λ more. IsFalse more
+            → (waiting self.new ≡ waiting self.old) × IsAtEnd (S.remaining stream.new)) }
+        ensures kept { Keeps (S.contents stream.old) (S.contents stream.new) }
+    {
+        self.compact();
+        let held = self.bytes.len();
+        self.bytes.resize(held + PIECE, 0)?;
+        let Some(count) = read_piece(stream, &mut self.bytes[held..]) else {
+            return Err(IntakeFault::ReadFailed);
+        };
+        self.bytes.truncate(held + count);
+        Ok(count > 0)
+    }
+}
+
+impl From<IntakeFault> for ResponseFault {
+    ghost use Rattle.bg_http_read.specs.BodiesRead.{of_machine};
+
+    ghost from_gives = { λ fault e. e ≡ of_machine fault };
+
+    fn from(fault: IntakeFault) -> ResponseFault {
+        match fault {
+            IntakeFault::ReadFailed => ResponseFault::ReadFailed,
+            IntakeFault::OutOfMemory => ResponseFault::OutOfMemory,
+        }
+    }
+}

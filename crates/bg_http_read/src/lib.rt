@@ -1,0 +1,23 @@
+//! HTTP/1.1 messages are read whole (RFC 9110, RFC 9112): heads are found, judged by the rules of
+//! `bg_http`, and their bodies are read to the end that the rules give.
+#![tactic(auto)]
+
+mod body;
+mod body_fault;
+mod body_read;
+mod chunk_lines;
+mod head_fault;
+mod head_limits;
+mod intake;
+pub mod laws;
+mod one_way;
+mod request_head;
+mod request_head_read;
+mod request_read;
+mod response_head;
+mod response_head_read;
+mod response_read;
+mod trailers;
+
+pub use request_read::read_request;
+pub use response_read::read_response;
