@@ -27,9 +27,15 @@ pub enum Control {
     /// The moment is this, in seconds from the start.
     Tick(u64),
     /// A template is deployed: the revision of this name, or a new one, with these ports.
-    Deploy { name: Name, ports: Ports },
+    Deploy {
+        name: Name,
+        ports: Ports,
+    },
     /// A revision has this many endpoints.
-    Available { revision: u64, size: u32 },
+    Available {
+        revision: u64,
+        size: u32,
+    },
     /// An analysis ended.
     Verdict {
         analysis: Analysis,

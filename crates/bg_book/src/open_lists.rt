@@ -67,7 +67,6 @@ pub(crate) struct OpenLists {
 impl Model for OpenLists {
     ghost use Rattle.std.specs.Prelude.{List};
     ghost use Rattle.bg_book.specs.OpenLists.{OpenAt};
-
     ghost use Rattle.std.specs.Prelude.{◌≤◌, vec_capacity};
 
     ghost Value = { List OpenAt };

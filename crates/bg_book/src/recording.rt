@@ -88,7 +88,8 @@ impl Rollout {
         neutral(&self.core);
         // The check has found that the revision exists and wants as many.
         let _accepted = self.roster.set_available(revision, size);
-        self.history.push_reserved(Entry::Available { revision, size });
+        self.history
+            .push_reserved(Entry::Available { revision, size });
     }
 
     /// Records a command that sizes no revision, after which this is the core.
@@ -133,12 +134,7 @@ impl Rollout {
     }
 
     /// Records a deploy that isn't refused; refused only where memory is, and then nothing changes.
-    fn take_deploy(
-        &mut self,
-        alloc: Global,
-        name: &str,
-        ports: &[u16],
-    ) -> Result<(), AllocError>
+    fn take_deploy(&mut self, alloc: Global, name: &str, ports: &[u16]) -> Result<(), AllocError>
         requires fits { event_fault self.old.routing (control.Deploy name.now ports.now) ≡ None }
         requires short { length self.old.routing.past ≤ 1000000 }
         requires spare { 1 ≤ self.old.spare }

@@ -169,8 +169,17 @@ fn record_events<R: Print + Eprint>(rt: &R, desk: &mut Desk) -> Result<(), Stop>
 
 /// A deploy takes memory for its name and ports, in the history and for a new revision.
 fn deploy_revisions<R: AllocGlobal + Print + Eprint>(rt: &R, desk: &mut Desk) -> Result<(), Stop> {
-    let deploys = [make_deploy(rt, "v2")?, make_deploy(rt, "v3")?, make_deploy(rt, "v2")?];
-    change(rt, "Book::control of a deploy", &mut Events { desk }, &deploys)
+    let deploys = [
+        make_deploy(rt, "v2")?,
+        make_deploy(rt, "v3")?,
+        make_deploy(rt, "v2")?,
+    ];
+    change(
+        rt,
+        "Book::control of a deploy",
+        &mut Events { desk },
+        &deploys,
+    )
 }
 
 fn make_deploy<R: AllocGlobal + Print + Eprint>(rt: &R, name: &str) -> Result<Control, Stop> {

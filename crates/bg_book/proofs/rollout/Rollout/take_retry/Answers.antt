@@ -15,8 +15,8 @@ use Rattle.bg_book.proofs.rollout.Rollout.take_retry.Goals as goal
 grown_roster : (c : goal.After-push_reserved) → c.grow.new.roster
     ≡ record c.self.inside.roster {
       revisions = map (resized (newest_of c.self.inside.history.past)
-      (max c.self.inside.strategy.preview_replicas (desired c.self.inside.strategy (newest_of c.self.inside.history.past) c.self.inside.history.past)))
-      c.self.inside.roster.revisions;
+          (max c.self.inside.strategy.preview_replicas (desired c.self.inside.strategy (newest_of c.self.inside.history.past) c.self.inside.history.past)))
+          c.self.inside.roster.revisions;
     }
 grown_roster c =
     let b = (midway_of c.self.inside).routing in
