@@ -107,7 +107,8 @@ fn writes_taken(rt: &impl Abort, alloc: Global, command: Command, input: &str) -
 
 #[test]
 fn reads_nothing_after_quit(rt: HostRuntime) {
-    let input = "{\"spec\":{\"strategy\":{\"blueGreen\":{\"activeService\":\"web\"}}}}\n---\nopen v1 9001\nquit\nreport\n";
+    let input =
+        "{\"spec\":{\"strategy\":{\"blueGreen\":{\"activeService\":\"web\"}}}}\n---\nopen v1 9001\nquit\nreport\n";
     let mut reader = Slow::new(input.as_bytes(), 1000);
     let status = replay(rt.alloc(), 1, &mut reader, &mut Page::new());
     assert_eq!(rt; status, Ok(0));
