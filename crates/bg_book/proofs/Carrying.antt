@@ -122,6 +122,6 @@ recorded_by b now new e lists history old is is_new is_old entry less same_lists
     (record { routing = routing_after b e lists history old is_old entry same_lists; spare = less }))
 
 -- the same of the rollout as it was left
-pub recorded_left : (inside left : Inside) (now : Midway) (core : Standing) (history : Kept) (e : Entry) → inside ≡ left
+pub recorded_left : {N : Type 0} (inside left : Inside N) (now : Midway) (core : Standing) (history : Kept) (e : Entry) → inside ≡ left
     → Recorded e now (midway_of (record inside { core = core; history = history })) → Recorded e now (midway_of (record left { core = core; history = history }))
-recorded_left inside left now core history e is made = subst (λ (i : Inside). Recorded e now (midway_of (record i { core = core; history = history }))) is made
+recorded_left inside left now core history e is made = subst (λ (i : Inside _). Recorded e now (midway_of (record i { core = core; history = history }))) is made

@@ -7,7 +7,7 @@ use Rattle.bg_history.specs.Allowed.{selection}
 use Rattle.bg_history.specs.Requests.{Request, open_requests, held_by, entered, given, calls_of}
 use Rattle.bg_promotion.specs.Stands.{StandsFor}
 use Rattle.bg_book.specs.declared.calls.Ticket.{Ticket}
-use Rattle.bg_book.specs.declared.seat.Seat.{Seat}
+use Rattle.bg_ledger.specs.declared.holding.Holding.{Holding}
 use Rattle.bg_book.specs.declared.fault.EnterFault.TheVariants as fault
 use Rattle.bg_book.specs.OpenLists.{OpenAt, changed, lists_of}
 use Rattle.bg_book.specs.Refusals.{all_open, is_full_for_enter, enter_refusal, enter_refusal_at, IsTicket}
@@ -46,7 +46,7 @@ accepted_by b service r refusal selected =
       below m n h = grind (arith, nat_tests)
 
 -- the lists after it entered
-pub lists_entered : (b : Routing) (seat : Seat) (service : Service) (t : Ticket) (new : List OpenAt) → RoutingStands b → Ascends (existing b.past)
+pub lists_entered : (b : Routing) (seat : Holding) (service : Service) (t : Ticket) (new : List OpenAt) → RoutingStands b → Ascends (existing b.past)
     → new ≡ changed t.revision (λ requests. requests ++ record { seat = seat.index; number = t.number } ∷ []) b.lists
     → new ≡ lists_of (enter_entry seat.index service t ∷ b.past)
 lists_entered b seat service t new stand ascends made =
@@ -54,11 +54,11 @@ lists_entered b seat service t new stand ascends made =
     ∙ sym (lists-Enter b.past seat.index service t.number t.revision t.port ascends)
 
 -- one request more is open
-pub one_more : (b : Routing) (seat : Seat) (service : Service) (t : Ticket) → all_open (enter_entry seat.index service t ∷ b.past) ≡ all_open b.past + 1
+pub one_more : (b : Routing) (seat : Holding) (service : Service) (t : Ticket) → all_open (enter_entry seat.index service t ∷ b.past) ≡ all_open b.past + 1
 one_more b seat service t = length-append (open_requests b.past) (record { seat = seat.index; number = t.number; revision = t.revision; port = t.port } ∷ [])
 
 -- the routing after a request entered
-routing_entered : (b : Routing) (service : Service) (t : Ticket) (seat : Seat) → RoutingStands b → enter_refusal b service ≡ None → IsTicket b service t
+routing_entered : (b : Routing) (service : Service) (t : Ticket) (seat : Holding) → RoutingStands b → enter_refusal b service ≡ None → IsTicket b service t
     → slice_get b.seats seat.index ≡ Some seat → seat.number ≡ 0
     → RoutingStands (with_past b (enter_entry seat.index service t ∷ b.past) (slice_set b.seats seat.index (seat_in seat t)))
 routing_entered b service t seat stand refusal ticket known zero_number =
@@ -73,7 +73,7 @@ routing_entered b service t seat stand refusal ticket known zero_number =
           (record { within = mine.within; out = none; selected = ticket.revision_is; endpoint = ok.endpoint; next = ticket.number_is; port_is = ticket.port_is });
       lists = refl;
       seats = seats_one_changed b.opening b.closed past _ b.seats i _ stand.seats mine.within
-          (ap (λ (v : Seat). record { index = i; calls = v.calls + 1; number = t.number; revision = t.revision; port = t.port }) (sym mine.is)
+          (ap (λ (v : Holding). record { index = i; calls = v.calls + 1; number = t.number; revision = t.revision; port = t.port }) (sym mine.is)
           ∙ ap (λ (n : ℕ). record { index = i; calls = n + 1; number = t.number; revision = t.revision; port = t.port }) (seated_calls (held_by i past))
           ∙ sym (seat-Enter_same b.closed past i service t.number t.revision t.port none))
           (λ j other. seat-Enter_other b.closed past i j service t.number t.revision t.port (eq_sym i j ∙ other));
@@ -87,7 +87,7 @@ routing_entered b service t seat stand refusal ticket known zero_number =
       seated_calls (Some q) = refl
 
 -- what runs then
-pub stands_entered : (b : Routing) (k : RunningState) (service : Service) (t : Ticket) (seat : Seat) → Stands b k → StandsFor b.strategy k.core (enter_entry seat.index service t ∷ b.past)
+pub stands_entered : (b : Routing) (k : RunningState) (service : Service) (t : Ticket) (seat : Holding) → Stands b k → StandsFor b.strategy k.core (enter_entry seat.index service t ∷ b.past)
     → enter_refusal b service ≡ None → IsTicket b service t → slice_get b.seats seat.index ≡ Some seat → seat.number ≡ 0
     → Stands (with_past b (enter_entry seat.index service t ∷ b.past) (slice_set b.seats seat.index (seat_in seat t))) (record k { given = t.number; open_requests = k.open_requests + 1 })
 stands_entered b k service t seat stand core refusal ticket known zero_number = record {

@@ -30,7 +30,7 @@ pub no_fault : {F : Type 0} (x : Option F) (r : Result (Unit {0}) F) (t : Unit {
 no_fault None r t e h = refl
 no_fault (Some f) r t e h = absurd (cc)
 
-neither : {F : Type 0} (x y : Option F) → option_or x y ≡ None → (x ≡ None) × (y ≡ None)
+pub neither : {F : Type 0} (x y : Option F) → option_or x y ≡ None → (x ≡ None) × (y ≡ None)
 neither None y h = (refl, h)
 neither (Some f) y h = absurd (cc)
 

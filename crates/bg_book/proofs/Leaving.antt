@@ -1,5 +1,5 @@
 -- What stands after a request left.
-use Rattle.std.proofs.Common.{◌≡◌, ◌≢◌, ℕ, ◌+◌, ◌-◌, ◌≤◌, Bool, true, false, cond, not, ◌==◌, ◌&&◌, ◌||◌, nat_le, List, [], ◌∷◌, length, filter, find, slice_get, slice_set, Option, Some, None, refl, sym, ap, ◌∙◌, arith}
+use Rattle.std.proofs.Common.{◌≡◌, ◌≢◌, ℕ, ◌+◌, ◌-◌, ◌<◌, ◌≤◌, Bool, true, false, cond, not, ◌==◌, ◌&&◌, ◌||◌, nat_le, List, [], ◌∷◌, length, filter, find, slice_get, slice_set, Option, Some, None, refl, sym, ap, ◌∙◌, arith}
 use Rattle.std.specs.List.{list_all}
 use Rattle.std.proofs.lemmas.Option.{same_Some}
 use Rattle.bg_history.specs.declared.entry.Entry.TheVariants.{Leave}
@@ -8,9 +8,10 @@ use Rattle.bg_history.specs.Deadlines.{exists_in}
 use Rattle.bg_history.specs.Requests.{Request, open_requests, held_by, calls_of, given}
 use Rattle.bg_promotion.specs.Stands.{StandsFor}
 use Rattle.bg_pasts.specs.Reachable.{stands_scaled}
-use Rattle.bg_book.specs.declared.seat.Seat.{Seat}
+use Rattle.bg_ledger.specs.declared.holding.Holding.{Holding}
+use Rattle.bg_ledger.specs.Holdings.{vacated}
 use Rattle.bg_book.specs.OpenLists.{OpenAt, changed, lists_of}
-use Rattle.bg_book.specs.Changes.{seat_out, with_past}
+use Rattle.bg_book.specs.Changes.{with_past}
 use Rattle.bg_book.specs.Refusals.{all_open}
 use Rattle.bg_book.specs.Routing.{Routing}
 use Rattle.bg_book.specs.PastState.{seated, seat_of}
@@ -21,14 +22,17 @@ use Rattle.bg_book.proofs.Requests.{and_parts, and_both, all_weaker, found_passe
 use Rattle.bg_book.proofs.Seating.{in_holds, seated_of}
 use Rattle.bg_book.proofs.Seats.{seats_one_changed, seat-Leave_same, seat-Leave_other}
 
+pub is_held : (n : ℕ) → 0 < n → n ≢ 0
+is_held n h e = absurd (omega (arith, h, e))
+
 -- a seat that is in holds an open request, at a revision that exists
-pub one_open : (b : Routing) (seat : Seat) → RoutingStands b → slice_get b.seats seat.index ≡ Some seat → seat.number ≢ 0 → 1 ≤ all_open b.past
+pub one_open : (b : Routing) (seat : Holding) → RoutingStands b → slice_get b.seats seat.index ≡ Some seat → seat.number ≢ 0 → 1 ≤ all_open b.past
 one_open b seat stand known some =
     let holds = in_holds b seat stand known some in
     let less = one_less seat.index (open_requests b.past) holds.0 stand.requests.differ holds.1.held in
     omega (arith, less)
 
-pub held_exists : (b : Routing) (seat : Seat) → RoutingStands b → list_all (λ q. stands_scaled b.strategy q.revision b.past) (open_requests b.past) ≡ true
+pub held_exists : (b : Routing) (seat : Holding) → RoutingStands b → list_all (λ q. stands_scaled b.strategy q.revision b.past) (open_requests b.past) ≡ true
     → slice_get b.seats seat.index ≡ Some seat → seat.number ≢ 0 → exists_in seat.revision b.past ≡ true
 held_exists b seat stand scaled known some =
     let holds = in_holds b seat stand known some in
@@ -37,7 +41,7 @@ held_exists b seat stand scaled known some =
     (and_parts (exists_in seat.revision b.past) _ (ap (λ (r : ℕ). stands_scaled b.strategy r b.past) (sym holds.1.revision) ∙ here)).0
 
 -- the lists after it left
-pub lists_left : (b : Routing) (seat : Seat) (new : List OpenAt) → RoutingStands b → Ascends (existing b.past) → slice_get b.seats seat.index ≡ Some seat → seat.number ≢ 0
+pub lists_left : (b : Routing) (seat : Holding) (new : List OpenAt) → RoutingStands b → Ascends (existing b.past) → slice_get b.seats seat.index ≡ Some seat → seat.number ≢ 0
     → new ≡ changed seat.revision (λ requests. filter (λ q. not (q.seat == seat.index)) requests) b.lists
     → new ≡ lists_of (Leave seat.index seat.number seat.revision ∷ b.past)
 lists_left b seat new stand ascends known some made =
@@ -78,14 +82,14 @@ only_there number r (q ∷ qs) x seat differ held is_number is_revision = go (q.
       let far_off : are_apart q x ≡ true = found_passes (λ p. p.seat == seat) (are_apart q) qs x h differ.0 in
       and_both _ _ (or_left _ (q.revision == r) (not_number q x number is_number far_off)) (rest h)
 
-pub alone : (b : Routing) (seat : Seat) → RoutingStands b → slice_get b.seats seat.index ≡ Some seat → seat.number ≢ 0
+pub alone : (b : Routing) (seat : Holding) → RoutingStands b → slice_get b.seats seat.index ≡ Some seat → seat.number ≢ 0
     → list_all (λ q. not (q.number == seat.number) || (q.revision == seat.revision)) (open_requests b.past) ≡ true
 alone b seat stand known some =
     let holds = in_holds b seat stand known some in
     only_there seat.number seat.revision (open_requests b.past) holds.0 seat.index stand.requests.differ holds.1.held holds.1.number holds.1.revision
 
 -- one request less is open
-pub one_left : (b : Routing) (seat : Seat) → RoutingStands b → slice_get b.seats seat.index ≡ Some seat → seat.number ≢ 0
+pub one_left : (b : Routing) (seat : Holding) → RoutingStands b → slice_get b.seats seat.index ≡ Some seat → seat.number ≢ 0
     → all_open (Leave seat.index seat.number seat.revision ∷ b.past) + 1 ≡ all_open b.past
 one_left b seat stand known some =
     let holds = in_holds b seat stand known some in
@@ -94,8 +98,8 @@ one_left b seat stand known some =
     ∙ one_less seat.index (open_requests b.past) holds.0 stand.requests.differ holds.1.held
 
 -- the routing after a request left
-routing_left : (b : Routing) (seat : Seat) → RoutingStands b → slice_get b.seats seat.index ≡ Some seat → seat.number ≢ 0
-    → RoutingStands (with_past b (Leave seat.index seat.number seat.revision ∷ b.past) (slice_set b.seats seat.index (seat_out seat)))
+routing_left : (b : Routing) (seat : Holding) → RoutingStands b → slice_get b.seats seat.index ≡ Some seat → seat.number ≢ 0
+    → RoutingStands (with_past b (Leave seat.index seat.number seat.revision ∷ b.past) (slice_set b.seats seat.index (vacated seat)))
 routing_left b seat stand known some =
     let past = b.past in
     let mine = seated_of b seat stand known in
@@ -108,7 +112,7 @@ routing_left b seat stand known some =
           (ap (λ (n : ℕ). nat_le 1 n && nat_le n (given b.closed past)) (sym holds.1.number) ∙ holds.1.is_given);
       lists = refl;
       seats = seats_one_changed b.opening b.closed past _ b.seats i _ stand.seats mine.within
-          (ap (λ (v : Seat). record { index = i; calls = v.calls + 1; number = 0; revision = 0; port = 0 }) (sym mine.is)
+          (ap (λ (v : Holding). record { index = i; calls = v.calls + 1; number = 0; revision = 0; port = 0 }) (sym mine.is)
           ∙ ap (λ (n : ℕ). record { index = i; calls = n + 1; number = 0; revision = 0; port = 0 }) (seated_calls (held_by i past))
           ∙ sym (seat-Leave_same b.closed past i seat.revision x stand.requests.differ held)
           ∙ ap (λ (n : ℕ). seat_of b.closed i (Leave i n seat.revision ∷ past)) holds.1.number)
@@ -123,9 +127,9 @@ routing_left b seat stand known some =
       seated_calls (Some q) = refl
 
 -- what runs then
-pub stands_left : (b : Routing) (k : RunningState) (seat : Seat) → Stands b k → StandsFor b.strategy k.core (Leave seat.index seat.number seat.revision ∷ b.past)
+pub stands_left : (b : Routing) (k : RunningState) (seat : Holding) → Stands b k → StandsFor b.strategy k.core (Leave seat.index seat.number seat.revision ∷ b.past)
     → slice_get b.seats seat.index ≡ Some seat → seat.number ≢ 0
-    → Stands (with_past b (Leave seat.index seat.number seat.revision ∷ b.past) (slice_set b.seats seat.index (seat_out seat))) (record k { open_requests = k.open_requests - 1 })
+    → Stands (with_past b (Leave seat.index seat.number seat.revision ∷ b.past) (slice_set b.seats seat.index (vacated seat))) (record k { open_requests = k.open_requests - 1 })
 stands_left b k seat stand core known some = record {
   routing = routing_left b seat stand.routing known some;
   core = core;

@@ -5,6 +5,7 @@ pub mod Seats
 pub mod Seating
 pub mod Carrying
 pub mod Events
+pub mod Allowing
 pub mod Commands
 pub mod Deploys
 pub mod Outcomes
@@ -17,6 +18,10 @@ pub mod Reaching
 pub mod ByRule
 pub mod Headlines
 pub mod Openings
-pub mod FirstSeats
 pub mod Running
 pub mod SeatsOut
+pub mod Placed
+pub mod MetSeats
+pub mod Shares
+pub mod Order
+pub mod Gathered

@@ -1,5 +1,5 @@
 -- What stands in a book that was just opened.
-use Rattle.std.proofs.Common.{◌≡◌, ℕ, suc, ◌+◌, ◌*◌, ◌<◌, ◌≤◌, Bool, true, false, not, cond, is_none, ◌==◌, ◌&&◌, ◌||◌, nat_lt, nat_le, List, [], ◌∷◌, length, slice_get, replicate, sum, Option, Some, None, Result, Ok, Err, refl, sym, ap, ◌∙◌, arith}
+use Rattle.std.proofs.Common.{◌≡◌, ℕ, ◌+◌, ◌*◌, ◌<◌, ◌≤◌, Bool, true, false, not, cond, is_none, ◌==◌, ◌&&◌, ◌||◌, nat_lt, nat_le, List, [], ◌∷◌, length, replicate, sum, Option, Some, None, Result, Ok, Err, refl, sym, ap, ◌∙◌, arith}
 use Rattle.std.specs.Prelude.{IfErr}
 use Rattle.std.specs.Option.{option_or, option_map}
 use Rattle.bg_history.specs.declared.entry.Outcome.TheVariants.{ScaledDown, Removed}
@@ -8,16 +8,16 @@ use Rattle.bg_history.specs.Sizes.{is_scaled}
 use Rattle.bg_history.specs.Deadlines.{exists_in, is_spare, is_old, is_first, may_scale_down, may_remove}
 use Rattle.bg_history.specs.Steps.{is_settled}
 use Rattle.std.proofs.Common.{inr}
+use Rattle.std.proofs.lemmas.Bool.Decides.{nat_tests}
 use Rattle.std.proofs.lemmas.List.{get_or-replicate, length-replicate}
 use Rattle.std.proofs.lemmas.List.Folds.{sum_by-replicate}
-use Rattle.std.proofs.lemmas.Option.{same_Some}
 use Rattle.bg_strategy.specs.declared.strategy.Strategy.{Strategy}
 use Rattle.bg_strategy.specs.Label.{is_label}
 use Rattle.bg_revisions.specs.PortLists.{are_ports}
 use Rattle.bg_promotion.specs.Standing.{Standing}
 use Rattle.bg_promotion.specs.Stands.{StandsFor}
 use Rattle.bg_book.specs.declared.limits.Limits.{Limits}
-use Rattle.bg_book.specs.declared.seat.Seat.{Seat}
+use Rattle.bg_ledger.specs.declared.holding.Holding.{Holding}
 use Rattle.bg_book.specs.declared.fault.OpenFault as opening
 use Rattle.bg_book.specs.declared.fault.OpenFault.TheVariants as fault
 use Rattle.bg_book.specs.Refusals.{is_above_usual, open_refusal, usual_limits, AnswersBy}
@@ -42,6 +42,10 @@ pub record Fits (s : Strategy) (name ports : List ℕ) (seats : ℕ) (limits : L
   pub seats_fit : (nat_le 1 seats && nat_le seats 8) ≡ true
   pub entries_fit : limits.entries ≤ usual_limits.entries
   pub numbers_fit : limits.numbers ≤ usual_limits.numbers
+
+-- it has 1 to 8 seats
+pub in_range : (n : ℕ) → (nat_le 1 n && nat_le n 8) ≡ true → (1 ≤ n) × (n ≤ 8)
+in_range n h = (grind (arith, nat_tests), grind (arith, nat_tests))
 
 pub fits : (s : Strategy) (name ports : List ℕ) (seats : ℕ) (limits : Limits) → open_refusal s name ports seats limits ≡ None → Fits s name ports seats limits
 fits s name ports seats limits h =
@@ -69,7 +73,7 @@ new_seat : (n i : ℕ) → i < n → seat_of (replicate n 0) i [] ≡ record { i
 new_seat n i h = ap (λ (c : ℕ). record { index = i; calls = 0 + 2 * c; number = 0; revision = 0; port = 0 }) (get_or-replicate n i 0 0 h)
 
 -- what a rollout that was just opened keeps
-pub stands-opened : (s : Strategy) (name ports : List ℕ) (count : ℕ) (limits : Limits) (seats : List Seat) (core : Standing) → Fits s name ports count limits
+pub stands-opened : (s : Strategy) (name ports : List ℕ) (count : ℕ) (limits : Limits) (seats : List Holding) (core : Standing) → Fits s name ports count limits
     → StandsFor s core [] → NewSeats count seats
     → Stands (opened s name ports count limits seats) (record {
       core = core;
@@ -117,26 +121,12 @@ settled-opened s =
     ap (λ b. is_none (option_or (option_map ScaledDown (cond b (Some 1) None)) (option_map Removed (cond (may_remove s 1 []) (Some 1) None)))) due
     ∙ ap (λ b. is_none (option_map Removed (cond b (Some 1) None))) removed
 
-pub at_rest-opened : (s : Strategy) (name ports : List ℕ) (count : ℕ) (limits : Limits) (seats : List Seat)
-    → AtRest (record { routing = opened s name ports count limits seats; spare = 0 })
-at_rest-opened s name ports count limits seats = record { settled = settled-opened s; spare = omega arith; room = omega arith }
+pub at_rest-opened : {n : ℕ} (s : Strategy) (name ports : List ℕ) (count : ℕ) (limits : Limits) (seats : List Holding) → n ≡ count
+    → AtRest n (record { routing = opened s name ports count limits seats; spare = 0 })
+at_rest-opened s name ports count limits seats same = record { all_seats = sym same; settled = settled-opened s; spare = omega arith; room = omega arith }
 
 -- an answer of which want of memory is the only fault
 pub answers_by_memory : {A : Type 0} (refusal : Option opening.OpenFault) (r : Result A opening.OpenFault) → refusal ≡ None → IfErr r (λ e. e ≡ fault.OutOfMemory)
     → AnswersBy refusal fault.OutOfMemory r
 answers_by_memory refusal (Ok a) h e = h
 answers_by_memory refusal (Err x) h e = inr (h, e)
-
-same_lists_of : {X : Type 0} (xs ys : List X) → length xs ≡ length ys → ((i : ℕ) → i < length xs → slice_get xs i ≡ slice_get ys i) → xs ≡ ys
-same_lists_of [] [] l h = refl
-same_lists_of [] (y ∷ ys) l h = absurd (omega (arith, l))
-same_lists_of (x ∷ xs) [] l h = absurd (omega (arith, l))
-same_lists_of {X = X} (x ∷ xs) (y ∷ ys) l h =
-    let head : x ≡ y = same_Some x y (h 0 (omega arith)) in
-    let rest : xs ≡ ys = same_lists_of xs ys (omega (arith, l)) (λ i k. h (suc i) (omega (arith, k))) in
-    ap (λ (z : X). z ∷ xs) head ∙ ap (λ (zs : List X). y ∷ zs) rest
-
--- two lists of as many new seats are the same
-pub new_seats_same : (n : ℕ) (xs ys : List Seat) → NewSeats n xs → NewSeats n ys → xs ≡ ys
-new_seats_same n xs ys a b =
-    same_lists_of xs ys (a.count_is ∙ sym b.count_is) (λ i h. let few : i < n = omega (arith, h, a.count_is) in a.each i few ∙ sym (b.each i few))

@@ -8,7 +8,7 @@ use Rattle.bg_strategy.specs.declared.strategy.Strategy.{Strategy}
 use Rattle.std.specs.Option.{option_or}
 use Rattle.bg_history.specs.Promotion.{first_promotion}
 use Rattle.bg_history.specs.Requests.{open_requests}
-use Rattle.bg_book.specs.declared.seat.Seat.{Seat}
+use Rattle.bg_ledger.specs.declared.holding.Holding.{Holding}
 use Rattle.bg_book.specs.declared.calls.Control.{Control}
 use Rattle.bg_book.specs.declared.calls.Control.TheVariants.{Tick, Deploy, Available, Verdict, Promote, PromoteFull, Abort, Retry}
 use Rattle.bg_book.specs.Refusals.{all_open, event_of}
@@ -64,7 +64,7 @@ follow_few falls s past (x ∷ earlier) follow =
     omega (arith, before, less)
 
 -- an event, and the outcomes after it
-pub stepped_by : (b made new : Routing) (e : Entry) (seats : List Seat) (n : ℕ) → made ≡ with_past b (e ∷ b.past) seats → Reached made new n → is_settled new.strategy new.past ≡ true → Stepped b.strategy e b.past new.past n
+pub stepped_by : (b made new : Routing) (e : Entry) (seats : List Holding) (n : ℕ) → made ≡ with_past b (e ∷ b.past) seats → Reached made new n → is_settled new.strategy new.past ≡ true → Stepped b.strategy e b.past new.past n
 stepped_by b made new e seats n event reached settled =
     let from : Reached (with_past b (e ∷ b.past) seats) new n = subst (λ (m : Routing). Reached m new n) event reached in
     let past : new.past ≡ with_outcomes from.outcomes (e ∷ b.past) = ap (λ (m : Routing). m.past) from.now_is in

@@ -10,7 +10,7 @@ use Rattle.bg_history.specs.declared.entry.Entry.{Entry}
 use Rattle.bg_history.specs.declared.entry.Entry.TheVariants.{Enter, Leave}
 use Rattle.bg_history.specs.Kept.{Opening}
 use Rattle.bg_history.specs.Requests.{Request, open_requests, held_by, calls_in, calls_of}
-use Rattle.bg_book.specs.declared.seat.Seat.{Seat}
+use Rattle.bg_ledger.specs.declared.holding.Holding.{Holding}
 use Rattle.bg_book.specs.PastState.{seated, seat_of, SeatsStand}
 use Rattle.bg_book.specs.Invariant.{Differ}
 use Rattle.bg_book.proofs.Requests.{by_seat, finds_none_at, finds_same_at, eq_refl, eq_sym, eq_from}
@@ -27,7 +27,7 @@ get-set_other (x ∷ xs) (suc i) zero v h = refl
 get-set_other (x ∷ xs) (suc i) (suc j) v h = get-set_other xs i j v (λ e. h (ap suc e))
 
 -- where seat i alone changes, and its new record is what the new past says
-pub seats_one_changed : (o : Opening) (closed : List ℕ) (past new : List Entry) (seats : List Seat) (i : ℕ) (v : Seat)
+pub seats_one_changed : (o : Opening) (closed : List ℕ) (past new : List Entry) (seats : List Holding) (i : ℕ) (v : Holding)
     → SeatsStand o closed past seats → i < o.seats → v ≡ seat_of closed i new
     → ((j : ℕ) → (j == i) ≡ false → seat_of closed j new ≡ seat_of closed j past)
     → SeatsStand o closed new (slice_set seats i v)
@@ -110,9 +110,9 @@ seat-Leave_same closed past seat r x d held =
     ∙ ap (seated seat (calls_of closed seat past + 1)) (held-Leave_same past seat r x d held)
 
 -- what the record of a seat says of the request that it holds
-pub holds_none : (i calls : ℕ) (h : Option Request) (v : Seat) → seated i calls h ≡ v → v.number ≡ 0 → (x : Request) → h ≡ Some x → x.number ≡ 0
+pub holds_none : (i calls : ℕ) (h : Option Request) (v : Holding) → seated i calls h ≡ v → v.number ≡ 0 → (x : Request) → h ≡ Some x → x.number ≡ 0
 holds_none i calls None v e z x s = absurd (cc)
-holds_none i calls (Some q) v e z x s = sym (ap (λ (p : Option Request). number_in p) s) ∙ ap (λ (w : Seat). w.number) e ∙ z where
+holds_none i calls (Some q) v e z x s = sym (ap (λ (p : Option Request). number_in p) s) ∙ ap (λ (w : Holding). w.number) e ∙ z where
   number_in : Option Request → ℕ
   number_in None = 0
   number_in (Some p) = p.number

@@ -4,19 +4,19 @@ use Rattle.std.proofs.lemmas.Bool.Decides.{nat_tests}
 use Rattle.std.proofs.lemmas.Option.{slice_get_within, same_Some}
 use Rattle.bg_book.specs.declared.calls.Reply.{Reply}
 use Rattle.bg_book.specs.declared.calls.Reply.TheVariants.{Entered, EnterRefused, Left, Done, ControlRefused, NoSuchSeat, SeatBusy, SeatIdle}
-use Rattle.bg_book.specs.declared.seat.Seat.{Seat}
-use Rattle.bg_book.specs.Changes.{seat_out}
+use Rattle.bg_ledger.specs.declared.holding.Holding.{Holding}
+use Rattle.bg_ledger.specs.Holdings.{vacated}
 use Rattle.bg_book.specs.Routing.{Routing}
 use Rattle.bg_book.specs.Runs.{LeaveAt, LeaveStep}
 use Rattle.bg_book.proofs.Requests.{eq_from}
 use Rattle.bg_book.proofs.Seats.{get-set_same, get-set_other}
 
 -- no seat before this place holds a request
-abbrev pub OutBefore : ℕ → List Seat → Type 0
-OutBefore place seats = (i : ℕ) (seat : Seat) → slice_get seats i ≡ Some seat → i < place → seat.number ≡ 0
+abbrev pub OutBefore : ℕ → List Holding → Type 0
+OutBefore place seats = (i : ℕ) (seat : Holding) → slice_get seats i ≡ Some seat → i < place → seat.number ≡ 0
 
 -- the seat at this place is out, and the others stay as they were
-one_more : (seats new : List Seat) (place : ℕ) → OutBefore place seats → ((seat : Seat) → slice_get new place ≡ Some seat → seat.number ≡ 0)
+one_more : (seats new : List Holding) (place : ℕ) → OutBefore place seats → ((seat : Holding) → slice_get new place ≡ Some seat → seat.number ≡ 0)
     → ((i : ℕ) → i ≢ place → slice_get new i ≡ slice_get seats i) → OutBefore (place + 1) new
 one_more seats new place before here others i seat get within = go (i == place) refl where
   go : (t : Bool) → (i == place) ≡ t → seat.number ≡ 0
@@ -25,8 +25,8 @@ one_more seats new place before here others i seat get within = go (i == place) 
       let other : i ≢ place = grind (arith, nat_tests) in
       before i seat (sym (others i other) ∙ get) (omega (arith, within, other))
 
-seat_left : (b : Routing) (seats : List Seat) (place : ℕ) (seat : Seat) (reply : Reply) (new : Routing) (new_seats : List Seat)
-    → LeaveStep b seats place seat reply new new_seats → new_seats ≡ slice_set seats place (seat_out seat)
+seat_left : (b : Routing) (seats : List Holding) (place : ℕ) (seat : Holding) (reply : Reply) (new : Routing) (new_seats : List Holding)
+    → LeaveStep b seats place seat reply new new_seats → new_seats ≡ slice_set seats place (vacated seat)
 seat_left b seats place seat (Left l) new new_seats step = step.1.1
 seat_left b seats place seat (Entered t) new new_seats step = absurd step
 seat_left b seats place seat (EnterRefused e) new new_seats step = absurd step
@@ -36,27 +36,27 @@ seat_left b seats place seat NoSuchSeat new new_seats step = absurd step
 seat_left b seats place seat SeatBusy new new_seats step = absurd step
 seat_left b seats place seat SeatIdle new new_seats step = absurd step
 
-out_at : (b : Routing) (seats : List Seat) (place : ℕ) (found : Option Seat) (reply : Reply) (new : Routing) (new_seats : List Seat)
+out_at : (b : Routing) (seats : List Holding) (place : ℕ) (found : Option Holding) (reply : Reply) (new : Routing) (new_seats : List Holding)
     → slice_get seats place ≡ found → LeaveAt b seats place found reply new new_seats → OutBefore place seats → OutBefore (place + 1) new_seats
 out_at b seats place None reply new new_seats is step before =
     let same : new_seats ≡ seats = step.1.1 in
-    one_more seats new_seats place before (λ seat get. absurd (no_seat seat (sym is ∙ ap (λ (l : List Seat). slice_get l place) (sym same) ∙ get))) (λ i other. ap (λ (l : List Seat). slice_get l i) same)
+    one_more seats new_seats place before (λ seat get. absurd (no_seat seat (sym is ∙ ap (λ (l : List Holding). slice_get l place) (sym same) ∙ get))) (λ i other. ap (λ (l : List Holding). slice_get l i) same)
   where
-    no_seat : (seat : Seat) → None ≡ Some seat → ⊥
+    no_seat : (seat : Holding) → None ≡ Some seat → ⊥
     no_seat seat h = absurd (cc)
 out_at b seats place (Some old) reply new new_seats is (inl step) before =
     let same : new_seats ≡ seats = step.1.1.1 in
     one_more seats new_seats place before
-    (λ seat get. ap (λ (s : Seat). s.number) (same_Some seat old (sym get ∙ ap (λ (l : List Seat). slice_get l place) same ∙ is)) ∙ step.0)
-    (λ i other. ap (λ (l : List Seat). slice_get l i) same)
+    (λ seat get. ap (λ (s : Holding). s.number) (same_Some seat old (sym get ∙ ap (λ (l : List Holding). slice_get l place) same ∙ is)) ∙ step.0)
+    (λ i other. ap (λ (l : List Holding). slice_get l i) same)
 out_at b seats place (Some old) reply new new_seats is (inr step) before =
-    let changed : new_seats ≡ slice_set seats place (seat_out old) = seat_left b seats place old reply new new_seats step.1 in
+    let changed : new_seats ≡ slice_set seats place (vacated old) = seat_left b seats place old reply new new_seats step.1 in
     one_more seats new_seats place before
-    (λ seat get. ap (λ (s : Seat). s.number) (same_Some seat (seat_out old)
-    (sym get ∙ ap (λ (l : List Seat). slice_get l place) changed ∙ get-set_same seats place (seat_out old) (slice_get_within seats place old is))))
-    (λ i other. ap (λ (l : List Seat). slice_get l i) changed ∙ get-set_other seats place i (seat_out old) other)
+    (λ seat get. ap (λ (s : Holding). s.number) (same_Some seat (vacated old)
+    (sym get ∙ ap (λ (l : List Holding). slice_get l place) changed ∙ get-set_same seats place (vacated old) (slice_get_within seats place old is))))
+    (λ i other. ap (λ (l : List Holding). slice_get l i) changed ∙ get-set_other seats place i (vacated old) other)
 
 -- the seats after the one at this place was left
-pub out_after : (b : Routing) (seats : List Seat) (place : ℕ) (reply : Reply) (new : Routing) (new_seats : List Seat)
+pub out_after : (b : Routing) (seats : List Holding) (place : ℕ) (reply : Reply) (new : Routing) (new_seats : List Holding)
     → LeaveAt b seats place (slice_get seats place) reply new new_seats → OutBefore place seats → OutBefore (place + 1) new_seats
 out_after b seats place reply new new_seats step before = out_at b seats place (slice_get seats place) reply new new_seats refl step before

@@ -1,5 +1,5 @@
 -- What a call makes of a book.
-use Rattle.std.specs.Prelude.{◌≡◌, ℕ, ◌+◌, List, ◌<◌, [], length, slice_get, Some, replicate}
+use Rattle.std.specs.Prelude.{◌≡◌, ℕ, List, ◌<◌, [], length, slice_get, Some, replicate}
 use Rattle.bg_book.specs.declared.limits.Limits.{Limits}
 use Rattle.bg_strategy.specs.declared.strategy.Strategy.{Strategy}
 use Rattle.bg_revisions.specs.declared.revision.Service.{Service}
@@ -8,7 +8,8 @@ use Rattle.bg_history.specs.declared.entry.Entry.TheVariants.{Enter}
 use Rattle.bg_history.specs.declared.entry.Outcome.{Outcome}
 use Rattle.bg_history.specs.Steps.{Step}
 use Rattle.bg_book.specs.declared.calls.Ticket.{Ticket}
-use Rattle.bg_book.specs.declared.seat.Seat.{Seat}
+use Rattle.bg_ledger.specs.declared.holding.Holding.{Holding}
+use Rattle.bg_ledger.specs.Holdings.{fresh, occupied}
 use Rattle.bg_book.specs.OpenLists.{lists_of}
 use Rattle.bg_book.specs.Routing.{Routing}
 
@@ -20,18 +21,12 @@ pub record Stepped (s : Strategy) (e : Entry) (past new : List Entry) (n : ℕ) 
   pub count_is : length outcomes ≡ n
 
 -- as many seats, in order of index, each without a call
-pub record NewSeats (count : ℕ) (seats : List Seat) : Type 0 where
+pub record NewSeats (count : ℕ) (seats : List Holding) : Type 0 where
   pub count_is : length seats ≡ count
-  pub each : (i : ℕ) → i < count → slice_get seats i ≡ Some (record {
-    index = i;
-    calls = 0;
-    number = 0;
-    revision = 0;
-    port = 0;
-  })
+  pub each : (i : ℕ) → i < count → slice_get seats i ≡ Some (fresh i)
 
 -- a book that was just opened
-abbrev pub opened : Strategy → List ℕ → List ℕ → ℕ → Limits → List Seat → Routing
+abbrev pub opened : Strategy → List ℕ → List ℕ → ℕ → Limits → List Holding → Routing
 opened s name ports count limits seats = record {
   strategy = s;
   limits = limits;
@@ -44,20 +39,12 @@ opened s name ports count limits seats = record {
 
 -- the book with another past: its lists are those that this asks for, and these are the records of
 -- its seats
-abbrev pub with_past : Routing → List Entry → List Seat → Routing
+abbrev pub with_past : Routing → List Entry → List Holding → Routing
 with_past b past seats = record b { past = past; lists = lists_of past; seats = seats }
 
--- a seat after a request with this ticket entered, and after its request left: one call more
-abbrev pub seat_in : Seat → Ticket → Seat
-seat_in seat t = record seat {
-  calls = seat.calls + 1;
-  number = t.number;
-  revision = t.revision;
-  port = t.port;
-}
-
-abbrev pub seat_out : Seat → Seat
-seat_out seat = record seat { calls = seat.calls + 1; number = 0; revision = 0; port = 0 }
+-- a seat after a request with this ticket entered
+abbrev pub seat_in : Holding → Ticket → Holding
+seat_in seat t = occupied seat t.number t.revision t.port
 
 -- the entry of a request that enters at a seat
 abbrev pub enter_entry : ℕ → Service → Ticket → Entry

@@ -1,5 +1,5 @@
 -- What holds of a book between its calls.
-use Rattle.std.specs.Prelude.{◌≡◌, ℕ, Bool, false, ◌==◌, ◌&&◌, ◌||◌, IsTrue, List, [], ◌∷◌, length, map}
+use Rattle.std.specs.Prelude.{◌≡◌, ℕ, Bool, false, ◌==◌, ◌&&◌, ◌||◌, if◌then◌else◌, nat_lt, IsTrue, List, [], ◌∷◌, length, map, sum_by}
 use Rattle.bg_strategy.specs.declared.strategy.Strategy.{Strategy}
 use Rattle.bg_history.specs.declared.entry.Entry.{Entry}
 use Rattle.bg_history.specs.declared.entry.Entry.TheVariants.{Deploy, Outcome}
@@ -11,6 +11,7 @@ use Rattle.bg_history.specs.Promotion.{may_switch}
 use Rattle.bg_history.specs.Requests.{open_at}
 use Rattle.bg_history.specs.Steps.{IsLegal, is_settled}
 use Rattle.bg_pasts.specs.Reachable.{stands_scaled}
+use Rattle.bg_ledger.specs.declared.holding.Holding.{Holding}
 use Rattle.bg_book.specs.OpenLists.{list_of, lists_of}
 use Rattle.bg_book.specs.Routing.{Routing}
 use Rattle.bg_book.specs.PastState.{SeatsStand}
@@ -37,6 +38,10 @@ abbrev pub is_reached_by_rule : Strategy → List Entry → Bool
 is_reached_by_rule s [] = active_of [] == 1
 is_reached_by_rule s (e ∷ before) = moves_by_rule s e before && is_reached_by_rule s before
 
+-- a seat's share of the open requests at r: 1 where it has one of them in hand, else 0
+abbrev pub share : ℕ → Holding → ℕ
+share r seat = if nat_lt 0 seat.number && (seat.revision == r) then 1 else 0
+
 -- the headline
 pub record Headline (b : Routing) : Type 0 where
   pub legal : IsLegal b.strategy b.opening b.closed b.past
@@ -47,5 +52,6 @@ pub record Headline (b : Routing) : Type 0 where
   pub lists : b.lists ≡ lists_of b.past
   pub listed : (r : ℕ) → map (λ q. q.number) (list_of r b.lists) ≡ open_at r b.past
   pub counted : (r : ℕ) → length (list_of r b.lists) ≡ length (open_at r b.past)
+  pub shares : (r : ℕ) → sum_by (share r) b.seats ≡ length (open_at r b.past)
   pub seats : SeatsStand b.opening b.closed b.past b.seats
   pub unscaled : (r : ℕ) → is_scaled b.strategy r b.past ≡ false → open_at r b.past ≡ []

@@ -25,7 +25,7 @@ pub record Midway : Type 0 where
   pub spare : ℕ
 
 -- what contracts see of its fields
-abbrev pub midway_of : Inside → Midway
+abbrev pub midway_of : {N : Type 0} → Inside N → Midway
 midway_of r = record {
   routing = record {
     strategy = r.strategy;
@@ -34,7 +34,7 @@ midway_of r = record {
     closed = r.history.closed;
     past = r.history.past;
     lists = r.lists;
-    seats = r.seats.items;
+    seats = r.records.items;
   };
   spare = r.history.spare;
 }
@@ -79,7 +79,7 @@ pub record RunningState : Type 0 where
   pub given : ℕ
   pub open_requests : ℕ
 
-abbrev pub running_of : Inside → RunningState
+abbrev pub running_of : {N : Type 0} → Inside N → RunningState
 running_of r = record {
   core = r.core;
   roster = r.roster;
@@ -101,9 +101,10 @@ pub record Stands (b : Routing) (k : RunningState) : Type 0 where
   pub given : k.given ≡ given b.closed b.past
   pub open_is : k.open_requests ≡ all_open b.past
 
--- what holds between calls: nothing allowed is left undone, and each open request has three places
--- reserved, within the limit
-pub record AtRest (r : Midway) : Type 0 where
+-- what holds between calls: the book has so many seats, nothing allowed is left undone, and each
+-- open request has three places reserved, within the limit
+pub record AtRest (seats : ℕ) (r : Midway) : Type 0 where
+  pub all_seats : r.routing.opening.seats ≡ seats
   pub settled : IsTrue (is_settled r.routing.strategy r.routing.past)
   pub spare : 3 * all_open r.routing.past ≤ r.spare
   pub room : length r.routing.past + 3 * all_open r.routing.past ≤ r.routing.limits.entries

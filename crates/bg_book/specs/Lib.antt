@@ -6,6 +6,8 @@ pub mod Refusals
 pub mod Changes
 pub mod Headline
 pub mod Invariant
+pub mod Meeting
+pub mod Gathering
 pub mod Settling
 pub mod Recording
 pub mod Runs

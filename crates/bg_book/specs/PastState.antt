@@ -5,15 +5,16 @@ use Rattle.bg_history.specs.declared.entry.Entry.{Entry}
 use Rattle.bg_history.specs.Kept.{Opening}
 use Rattle.bg_history.specs.Requests.{Request, held_by, calls_of, open_at}
 use Rattle.bg_history.specs.Deadlines.{is_due, is_empty}
-use Rattle.bg_book.specs.declared.seat.Seat.{Seat}
+use Rattle.bg_ledger.specs.declared.holding.Holding.{Holding}
+use Rattle.bg_ledger.specs.Holdings.{fresh}
 
 -- r is due and holds an open request
 abbrev pub is_draining : Strategy → ℕ → List Entry → Bool
 is_draining s r past = is_due s r past && not (is_empty (open_at r past))
 
 -- a seat with these calls and this request in hand
-abbrev pub seated : ℕ → ℕ → Option Request → Seat
-seated seat calls None = record { index = seat; calls = calls; number = 0; revision = 0; port = 0 }
+abbrev pub seated : ℕ → ℕ → Option Request → Holding
+seated seat calls None = record (fresh seat) { calls = calls }
 seated seat calls (Some q) = record {
   index = seat;
   calls = calls;
@@ -23,11 +24,11 @@ seated seat calls (Some q) = record {
 }
 
 -- what a seat has: the calls that it was answered, and the request in hand
-abbrev pub seat_of : List ℕ → ℕ → List Entry → Seat
+abbrev pub seat_of : List ℕ → ℕ → List Entry → Holding
 seat_of closed seat past = seated seat (calls_of closed seat past) (held_by seat past)
 
 -- the record of each seat, in order of index, is what the past says
 pub record SeatsStand (o : Opening) (closed : List ℕ) (past : List Entry)
-    (seats : List Seat) : Type 0 where
+    (seats : List Holding) : Type 0 where
   pub count : length seats ≡ o.seats
   pub each : (i : ℕ) → i < o.seats → slice_get seats i ≡ Some (seat_of closed i past)

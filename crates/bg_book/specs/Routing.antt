@@ -4,7 +4,7 @@ use Rattle.bg_strategy.specs.declared.strategy.Strategy.{Strategy}
 use Rattle.bg_history.specs.declared.entry.Entry.{Entry}
 use Rattle.bg_history.specs.Kept.{Opening}
 use Rattle.bg_book.specs.declared.limits.Limits.{Limits}
-use Rattle.bg_book.specs.declared.seat.Seat.{Seat}
+use Rattle.bg_ledger.specs.declared.holding.Holding.{Holding}
 use Rattle.bg_book.specs.OpenLists.{OpenAt}
 
 -- the settings, the history (opening, closed requests of each seat, entries newest first), the list
@@ -16,4 +16,4 @@ pub record Routing : Type 0 where
   pub closed : List ℕ
   pub past : List Entry
   pub lists : List OpenAt
-  pub seats : List Seat
+  pub seats : List Holding

@@ -9,35 +9,26 @@ use Rattle.bg_book.specs.declared.calls.Reply.{Reply}
 use Rattle.bg_book.specs.declared.calls.Reply.TheVariants.{Entered, EnterRefused, Left, Done, ControlRefused, NoSuchSeat, SeatBusy, SeatIdle}
 use Rattle.bg_book.specs.declared.fault.EnterFault.TheVariants as enter_fault
 use Rattle.bg_book.specs.declared.control_fault.ControlFault.TheVariants as control_fault
-use Rattle.bg_book.specs.declared.seat.Seat.{Seat}
+use Rattle.bg_ledger.specs.declared.holding.Holding.{Holding}
+use Rattle.bg_ledger.specs.Holdings.{vacated}
 use Rattle.bg_book.specs.Refusals.{enter_refusal, control_refusal, event_of, IsRefusedBy, IsTicket}
-use Rattle.bg_book.specs.Changes.{Stepped, with_past, enter_entry, seat_in, seat_out}
+use Rattle.bg_book.specs.Changes.{Stepped, with_past, enter_entry, seat_in}
 use Rattle.bg_book.specs.Routing.{Routing}
 
--- each seat of the slice is the book's record of its index
-abbrev pub AreKnown : Routing → List Seat → Type 0
-AreKnown b seats =
-    (i : ℕ) (seat : Seat) → slice_get seats i ≡ Some seat → slice_get b.seats seat.index ≡ Some seat
-
--- no two seats of the slice have one index
-abbrev pub AreApart : List Seat → Type 0
-AreApart seats =
-    (i j : ℕ) (p q : Seat) → slice_get seats i ≡ Some p → slice_get seats j ≡ Some q
-    → p.index ≡ q.index → i ≡ j
-
 -- nothing changed
-abbrev pub Unchanged : Routing → List Seat → Routing → List Seat → Type 0
+abbrev pub Unchanged : Routing → List Holding → Routing → List Holding → Type 0
 Unchanged b seats new new_seats = (new ≡ b) × (new_seats ≡ seats)
 
 -- a seat of the slice, and the book's record of it, are the new one
-abbrev pub SeatChanged : Routing → List Seat → ℕ → Seat → Seat → Routing → List Seat → Type 0
+abbrev pub SeatChanged : Routing → List Holding → ℕ → Holding → Holding → Routing → List Holding
+    → Type 0
 SeatChanged b seats place old seat new new_seats =
     (new ≡ with_past b new.past (slice_set b.seats old.index seat))
     × (new_seats ≡ slice_set seats place seat)
 
 -- what a request is answered that wants to enter at a seat that is out
-abbrev pub EnterStep : Routing → List Seat → ℕ → Seat → Service → Reply → Routing → List Seat
-    → Type 0
+abbrev pub EnterStep : Routing → List Holding → ℕ → Holding → Service → Reply → Routing
+    → List Holding → Type 0
 EnterStep b seats place seat service (Entered t) new new_seats =
     (enter_refusal b service ≡ None) × IsTicket b service t
     × SeatChanged b seats place seat (seat_in seat t) new new_seats
@@ -48,16 +39,17 @@ EnterStep b seats place seat service (EnterRefused e) new new_seats =
 EnterStep b seats place seat service _ new new_seats = ⊥
 
 -- what the leaving of the request of a seat that is in is answered
-abbrev pub LeaveStep : Routing → List Seat → ℕ → Seat → Reply → Routing → List Seat → Type 0
+abbrev pub LeaveStep : Routing → List Holding → ℕ → Holding → Reply → Routing → List Holding
+    → Type 0
 LeaveStep b seats place seat (Left l) new new_seats =
     (l ≡ record { number = seat.number; revision = seat.revision })
-    × SeatChanged b seats place seat (seat_out seat) new new_seats
+    × SeatChanged b seats place seat (vacated seat) new new_seats
     × ((n : ℕ) × Stepped b.strategy (entry.Leave seat.index seat.number seat.revision)
     b.past new.past n × (n ≤ 2))
 LeaveStep b seats place seat _ new new_seats = ⊥
 
 -- what an event is answered
-abbrev pub ControlStep : Routing → List Seat → Control → Reply → Routing → List Seat → Type 0
+abbrev pub ControlStep : Routing → List Holding → Control → Reply → Routing → List Holding → Type 0
 ControlStep b seats c (Done n) new new_seats =
     (control_refusal b c ≡ None) × (n ≤ 140) × (new ≡ with_past b new.past b.seats)
     × (new_seats ≡ seats)
@@ -67,12 +59,12 @@ ControlStep b seats c (ControlRefused e) new new_seats =
 ControlStep b seats c _ new new_seats = ⊥
 
 -- the reply refuses the call by its seat, and nothing changed
-abbrev pub SeatRefused : Reply → Reply → Routing → List Seat → Routing → List Seat → Type 0
+abbrev pub SeatRefused : Reply → Reply → Routing → List Holding → Routing → List Holding → Type 0
 SeatRefused why reply b seats new new_seats = (reply ≡ why) × Unchanged b seats new new_seats
 
 -- Entering: there has to be a seat at that place, and it has to be out.
-abbrev pub EnterAt : Routing → List Seat → ℕ → Option Seat → Service → Reply → Routing → List Seat
-    → Type 0
+abbrev pub EnterAt : Routing → List Holding → ℕ → Option Holding → Service → Reply → Routing
+    → List Holding → Type 0
 EnterAt b seats place None service reply new new_seats =
     SeatRefused NoSuchSeat reply b seats new new_seats
 EnterAt b seats place (Some seat) service reply new new_seats =
@@ -80,14 +72,15 @@ EnterAt b seats place (Some seat) service reply new new_seats =
     ⊎ ((seat.number ≡ 0) × EnterStep b seats place seat service reply new new_seats)
 
 -- Leaving: there has to be a seat at that place, and it has to be in.
-abbrev pub LeaveAt : Routing → List Seat → ℕ → Option Seat → Reply → Routing → List Seat → Type 0
+abbrev pub LeaveAt : Routing → List Holding → ℕ → Option Holding → Reply → Routing → List Holding
+    → Type 0
 LeaveAt b seats place None reply new new_seats = SeatRefused NoSuchSeat reply b seats new new_seats
 LeaveAt b seats place (Some seat) reply new new_seats =
     ((seat.number ≡ 0) × SeatRefused SeatIdle reply b seats new new_seats)
     ⊎ ((seat.number ≢ 0) × LeaveStep b seats place seat reply new new_seats)
 
 -- what one call is answered, and what it makes of the book and the seats
-abbrev pub CallStep : Routing → List Seat → Call → Reply → Routing → List Seat → Type 0
+abbrev pub CallStep : Routing → List Holding → Call → Reply → Routing → List Holding → Type 0
 CallStep b seats (call.Enter place service) reply new new_seats =
     EnterAt b seats place (slice_get seats place) service reply new new_seats
 CallStep b seats (call.Leave place) reply new new_seats =
@@ -96,12 +89,12 @@ CallStep b seats (call.Control c) reply new new_seats = ControlStep b seats c re
 
 -- The calls are answered one after the other, each at the book and the seats that the ones before
 -- have left.
-abbrev pub Runs : Routing → List Seat → List Call → List Reply → Routing → List Seat → Type 0
+abbrev pub Runs : Routing → List Holding → List Call → List Reply → Routing → List Holding → Type 0
 Runs b seats [] [] new new_seats = Unchanged b seats new new_seats
 Runs b seats [] (reply ∷ replies) new new_seats = ⊥
 Runs b seats (c ∷ calls) [] new new_seats = ⊥
 Runs b seats (c ∷ calls) (reply ∷ replies) new new_seats =
-    (next : Routing) × ((next_seats : List Seat)
+    (next : Routing) × ((next_seats : List Holding)
     × (CallStep b seats c reply next next_seats × Runs next next_seats calls replies new new_seats))
 
 -- a leave at each of so many places, in order
@@ -110,10 +103,10 @@ leaves_at zero = []
 leaves_at (suc place) = leaves_at place ++ call.Leave place ∷ []
 
 -- each place was left, one after the other
-abbrev pub LeavesAll : Routing → List Seat → ℕ → Routing → List Seat → Type 0
+abbrev pub LeavesAll : Routing → List Holding → ℕ → Routing → List Holding → Type 0
 LeavesAll b seats count new new_seats =
     (replies : List Reply) × Runs b seats (leaves_at count) replies new new_seats
 
 -- no seat holds a request
-abbrev pub AreOut : List Seat → Type 0
-AreOut seats = (i : ℕ) (seat : Seat) → slice_get seats i ≡ Some seat → seat.number ≡ 0
+abbrev pub AreOut : List Holding → Type 0
+AreOut seats = (i : ℕ) (seat : Holding) → slice_get seats i ≡ Some seat → seat.number ≡ 0

@@ -1,20 +1,22 @@
 //! The book.
 
 use crate::rollout::Rollout;
+use bg_ledger::Names;
 use std::alloc::Global;
 use std::marker::Model;
 
 /// The routing book of one rollout.
 ///
 /// Contracts see its settings, its history, the list of open requests of each revision, and its record of each
-/// seat. What holds of them between calls is [`crate::laws::headline`].
+/// seat as what the seat has. What holds of them between calls is [`crate::laws::headline`]. `N` names the ledgers
+/// that tie the records to the seats, so a book is opened and used inside a function over `N`.
 #[derive(Drop)]
-pub struct Book {
+pub struct Book<N: Names> {
     pub(crate) alloc: Global,
-    pub(crate) rollout: Rollout,
+    pub(crate) rollout: Rollout<N>,
 }
 
-impl Model for Book {
+impl<N: Names> Model for Book<N> {
     ghost use Rattle.bg_book.specs.Routing.{Routing};
 
     ghost Value = { Routing };
@@ -23,5 +25,5 @@ impl Model for Book {
 
     ghost view = { λ b. b.rollout.routing };
 
-    ghost invariant = { λ b. AtRest b.rollout };
+    ghost invariant = { λ b. AtRest N.seats b.rollout };
 }

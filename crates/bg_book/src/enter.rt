@@ -2,6 +2,7 @@
 ghost use Rattle.std.specs.Prelude.{◌≡◌, ◌≤◌, ◌+◌, ◌*◌, ◌∷◌, length, IfOk, OnOk, OnErr, Some, slice_get, slice_set, MatchResult, None};
 ghost use Rattle.bg_book.specs.Refusals.{all_open, enter_refusal, AnswersBy, IsTicket};
 ghost use Rattle.bg_book.specs.Changes.{Stepped, with_past, enter_entry, seat_in};
+ghost use Rattle.bg_book.specs.Meeting.{Meets};
 ghost use Rattle.bg_history.specs.Allowed.{selection};
 ghost use Rattle.bg_book.specs.declared.fault.EnterFault.TheVariants.{OutOfMemory, NoPreview};
 
@@ -11,9 +12,9 @@ use crate::fault::EnterFault;
 use crate::limits::PLACES_OF_A_REQUEST;
 use crate::open_lists::OpenRequest;
 use crate::rollout::Rollout;
-use crate::seat::Seat;
 use bg_history::Entry;
 use bg_history::laws::existing_ascends;
+use bg_ledger::{Names, Seat};
 use bg_listing::laws::finds;
 use bg_pasts::laws::reachable;
 use bg_promotion::laws::neutral;
@@ -21,7 +22,7 @@ use bg_revisions::Service;
 use bg_settling::laws::entering_settles;
 use std::alloc::AllocError;
 
-impl Book {
+impl<N: Names> Book<N> {
     /// Lets a request enter at a service: it gets the next number, from 1, the revision that the service selects,
     /// and one of that revision's available ports in turn.
     ///
@@ -29,7 +30,27 @@ impl Book {
     /// none is set, `NoEndpoints` where the revision has none available, `NumbersSpent` where all numbers are
     /// given, `HistoryFull` where the history has no room for it and for the leaving of each open request,
     /// `OutOfMemory`.
-    pub fn enter(&mut self, seat: &mut Seat, service: Service) -> Result<Ticket, EnterFault>
+    ///
+    /// The book's record of the seat is the seat as it came in, whatever was called in between.
+    pub fn enter(&mut self, seat: &mut Seat<N>, service: Service) -> Result<Ticket, EnterFault>
+        requires out { seat.old.number ≡ 0 }
+        ensures met { Meets self.old seat.old }
+        ensures refusal { AnswersBy (enter_refusal self.old service) OutOfMemory result }
+        ensures ticket { IfOk result (IsTicket self.old service) }
+        ensures seat { IfOk result (λ t. seat.new ≡ seat_in seat.old t) }
+        ensures step { IfOk result (λ t. Stepped self.old.strategy
+            (enter_entry seat.old.index service t) self.old.past self.new.past 0) }
+        ensures book { IfOk result (λ t. self.new ≡ with_past self.old
+            self.new.past (slice_set self.old.seats seat.old.index seat.new)) }
+        ensures unchanged { OnErr result (self.new ≡ self.old) }
+        ensures seat_unchanged { OnErr result (seat.new ≡ seat.old) }
+    {
+        self.meet(seat);
+        self.enter_met(seat, service)
+    }
+
+    /// Lets a request enter at a seat that is the book's record of it.
+    fn enter_met(&mut self, seat: &mut Seat<N>, service: Service) -> Result<Ticket, EnterFault>
         requires known { slice_get self.old.seats seat.old.index ≡ Some seat.old }
         requires out { seat.old.number ≡ 0 }
         ensures refusal { AnswersBy (enter_refusal self.old service) OutOfMemory result }
@@ -52,9 +73,14 @@ impl Book {
     }
 }
 
-impl Rollout {
+impl<N: Names> Rollout<N> {
     /// Lets a request enter that isn't refused; refused only where memory is.
-    fn admit(&mut self, seat: &mut Seat, service: Service, ticket: Ticket) -> Result<(), AllocError>
+    fn admit(
+        &mut self,
+        seat: &mut Seat<N>,
+        service: Service,
+        ticket: Ticket,
+    ) -> Result<(), AllocError>
         requires known { slice_get self.old.routing.seats seat.old.index ≡ Some seat.old }
         requires out { seat.old.number ≡ 0 }
         requires accepted { enter_refusal self.old.routing service ≡ None }
@@ -82,8 +108,7 @@ impl Rollout {
         )?;
         self.given = ticket.number;
         self.open += 1;
-        self.seats[index as usize].take(ticket);
-        seat.take(ticket);
+        self.records[index as usize].enter(seat, ticket.number, ticket.revision, ticket.port);
         self.history.push_reserved(Entry::Enter {
             seat: index,
             service,

@@ -69,6 +69,16 @@ impl EnterFault {
     }
 }
 
+/// Why the seats of a book are not gathered, in the order in which the faults are looked for.
+#[derive(Clone, Copy, PartialEq, Eq, Debug, Drop, Error)]
+pub enum GatherFault {
+    #[error("these are not exactly the seats of the book, in order of index")]
+    WrongSeats,
+    /// The seat of this index has a request in hand, and none before it has.
+    #[error("seat {0} has a request in hand")]
+    StillIn(u32),
+}
+
 /// Why a list of calls wasn't begun.
 #[derive(Clone, Copy, PartialEq, Eq, Debug, Drop, Error)]
 pub enum RunFault {

@@ -7,6 +7,7 @@ use crate::calls::Control;
 use crate::control_fault::ControlFault;
 use crate::limits::MOST_ENTRIES;
 use crate::rollout::Rollout;
+use bg_ledger::Names;
 use bg_listing::laws::{finds, names};
 use bg_pasts::laws::reachable;
 use bg_revisions::MOST_REVISIONS;
@@ -14,7 +15,7 @@ use bg_revisions::MOST_REVISIONS;
 /// The greatest moment, in seconds from the start.
 const LAST_MOMENT: u64 = 1 << 53;
 
-impl Rollout {
+impl<N: Names> Rollout<N> {
     /// Finds the first fault of an event but want of memory.
     pub(crate) fn check(&self, control: &Control) -> Result<(), ControlFault>
         requires { length self.now.routing.past + 3 * all_open self.now.routing.past ≤ 1000000 }

@@ -1,10 +1,10 @@
 //! How a book is opened.
-ghost use Rattle.std.specs.Prelude.{◌≡◌, ◌<◌, ℕ, true, List, [], ◌∷◌, length, IfOk, IfErr, slice_get, None};
-ghost use Rattle.bg_book.specs.declared.seat.Seat.{Seat};
+ghost use Rattle.std.specs.Prelude.{◌≡◌, ◌≤◌, true, [], ◌∷◌, IfOk, IfErr, None, vec_capacity};
+ghost use Rattle.bg_ledger.specs.Blanks.{AreAllFor};
 ghost use Rattle.bg_revisions.specs.Rosters.{has_form};
 ghost use Rattle.bg_book.specs.Refusals.{open_refusal, AnswersBy};
 ghost use Rattle.bg_book.specs.Changes.{opened, NewSeats};
-ghost use Rattle.bg_book.specs.Runs.{AreKnown, AreApart};
+ghost use Rattle.bg_book.specs.Gathering.{are_all};
 ghost use Rattle.bg_book.specs.declared.fault.OpenFault.TheVariants.{OutOfMemory};
 
 use crate::book::Book;
@@ -12,18 +12,19 @@ use crate::fault::OpenFault;
 use crate::limits::{Limits, MOST_SEATS};
 use crate::open_lists::OpenLists;
 use crate::rollout::Rollout;
-use crate::seat::Seat;
 use bg_history::History;
+use bg_ledger::{Blanks, Names, Seat, SeatRecord, pair};
 use bg_promotion::Core;
 use bg_revisions::{Roster, has_ports_form};
 use bg_scaledown::Deadlines;
 use bg_strategy::{Strategy, is_dns_label};
-use std::alloc::{AllocError, Global};
+use std::alloc::Global;
 
-impl Book {
+impl<N: Names> Book<N> {
     /// Opens a book whose revision 1 has this name and these ports, wants its full size and has no endpoint
     /// available; all services select it. Gives the book, which keeps a copy of the strategy, and its seats in
-    /// order of index, each without a call.
+    /// order of index, each without a call. `N` says how many seats there are and names their ledgers, for which the
+    /// blanks are; a refusal gives the blanks up.
     ///
     /// Refused, in this order: `BadName` where the name is no DNS label, `BadPorts` where there aren't exactly
     /// `replicas` distinct ports from 1, `BadSeats` where there aren't 1 to 8 seats, `BadLimits` where a limit is
@@ -35,19 +36,21 @@ impl Book {
         ports: &[u16],
         seats: u32,
         limits: Limits,
-    ) -> Result<(Book, Vec<Seat>), OpenFault>
+        blanks: Blanks,
+    ) -> Result<(Book<N>, Vec<Seat<N>>), OpenFault>
+        requires blanks { AreAllFor N.Names blanks }
+        requires seats { 1 ≤ seats → seats ≤ 8 → N.seats ≡ seats }
         ensures refusal { AnswersBy
             (open_refusal strategy.now name.now ports.now seats limits) OutOfMemory result }
         ensures book { IfOk result
             (λ r. r.0 ≡ opened strategy.now name.now ports.now seats limits r.1.items) }
         ensures seats { IfOk result (λ r. NewSeats seats r.1.items) }
-        ensures known { IfOk result (λ r. AreKnown r.0 r.1.items) }
-        ensures apart { IfOk result (λ r. AreApart r.1.items) }
+        ensures all { IfOk result (λ r. are_all N.seats r.1.items ≡ true) }
     {
         if let Some(fault) = opening_fault(strategy, name, ports, seats, limits) {
             return Err(fault);
         }
-        Book::build(alloc, strategy, name, ports, seats, limits)
+        Book::build(alloc, strategy, name, ports, seats, limits, blanks)
     }
 
     /// The book of an opening without a fault, and its seats; refused only where memory is.
@@ -58,24 +61,27 @@ impl Book {
         ports: &[u16],
         seats: u32,
         limits: Limits,
-    ) -> Result<(Book, Vec<Seat>), OpenFault>
-        requires { open_refusal strategy.now name.now ports.now seats limits ≡ None }
+        blanks: Blanks,
+    ) -> Result<(Book<N>, Vec<Seat<N>>), OpenFault>
+        requires fits { open_refusal strategy.now name.now ports.now seats limits ≡ None }
+        requires blanks { AreAllFor N.Names blanks }
+        requires seats { 1 ≤ seats → seats ≤ 8 → N.seats ≡ seats }
         ensures book { IfOk result
             (λ r. r.0 ≡ opened strategy.now name.now ports.now seats limits r.1.items) }
         ensures seats { IfOk result (λ r. NewSeats seats r.1.items) }
-        ensures known { IfOk result (λ r. AreKnown r.0 r.1.items) }
-        ensures apart { IfOk result (λ r. AreApart r.1.items) }
+        ensures all { IfOk result (λ r. are_all N.seats r.1.items ≡ true) }
         ensures err { IfErr result (λ e. e ≡ OutOfMemory) }
     {
         let strategy = strategy.clone()?;
-        let rollout = Rollout::open(alloc, strategy, name, ports, seats, limits)?;
-        let handed_out = new_seats(alloc, seats)?;
+        let (rollout, handed_out) = Rollout::open(
+            alloc, strategy, name, ports, seats, limits, blanks,
+        )?;
         Ok((Book { alloc, rollout }, handed_out))
     }
 }
 
-impl Rollout {
-    /// The rollout of an opening without a fault; refused only where memory is.
+impl<N: Names> Rollout<N> {
+    /// The rollout of an opening without a fault, and its seats; refused only where memory is.
     fn open(
         alloc: Global,
         strategy: Strategy,
@@ -83,13 +89,16 @@ impl Rollout {
         ports: &[u16],
         seats: u32,
         limits: Limits,
-    ) -> Result<Rollout, OpenFault>
-        requires { open_refusal strategy name.now ports.now seats limits ≡ None }
-        ensures ok { IfOk result (λ r. (records : List Seat) × NewSeats seats records
-            × (r ≡ record {
-              routing = opened strategy name.now ports.now seats limits records;
-              spare = 0;
-            })) }
+        blanks: Blanks,
+    ) -> Result<(Rollout<N>, Vec<Seat<N>>), OpenFault>
+        requires fits { open_refusal strategy name.now ports.now seats limits ≡ None }
+        requires blanks { AreAllFor N.Names blanks }
+        requires seats { N.seats ≡ seats }
+        ensures rollout { IfOk result (λ r. r.0 ≡ record {
+          routing = opened strategy name.now ports.now seats limits r.1.items;
+          spare = 0;
+        }) }
+        ensures seats { IfOk result (λ r. NewSeats seats r.1.items) }
         ensures err { IfErr result (λ e. e ≡ OutOfMemory) }
     {
         let core = Core::new(&strategy);
@@ -97,20 +106,24 @@ impl Rollout {
         let history = History::new(alloc, seats, name, ports)?;
         let roster = first_roster(alloc, strategy.replicas, name, ports)?;
         let lists = OpenLists::new(alloc)?;
-        let records = new_seats(alloc, seats)?;
-        Ok(Rollout {
+        let mut records = Vec::with_capacity(alloc, seats as usize)?;
+        let mut handed_out = Vec::with_capacity(alloc, seats as usize)?;
+        // A seat can't be dropped, so they are paired once all memory is taken.
+        pair_all::<N>(seats, blanks, &mut records, &mut handed_out);
+        let rollout = Rollout {
             strategy,
             limits,
             core,
             roster,
             deadlines,
             lists,
-            seats: records,
+            records,
             history,
             moment: 0,
             given: 0,
             open: 0,
-        })
+        };
+        Ok((rollout, handed_out))
     }
 }
 
@@ -168,13 +181,24 @@ fn first_roster(
     }
 }
 
-/// As many seats, in order of index, each without a call.
-fn new_seats(alloc: Global, count: u32) -> Result<Vec<Seat>, AllocError>
-    ensures { IfOk result (λ v. NewSeats count v.items) }
+/// Pairs as many seats with their records, in order of index. Takes no memory.
+fn pair_all<N: Names>(
+    count: u32,
+    blanks: Blanks,
+    records: &mut Vec<SeatRecord<N>>,
+    seats: &mut Vec<Seat<N>>,
+)
+    requires blanks { AreAllFor N.Names blanks }
+    requires count { N.seats ≡ count }
+    requires empty { (records.old.items ≡ []) × (seats.old.items ≡ []) }
+    requires room { (count ≤ vec_capacity records.old) × (count ≤ vec_capacity seats.old) }
+    ensures seats { NewSeats count seats.new.items }
+    ensures records { records.new.items ≡ seats.new.items }
 {
-    let mut seats = Vec::new(alloc);
+    let mut blanks = blanks;
     for index in 0..count {
-        seats.push(Seat::new(index))?;
+        let (record, seat) = pair::<N>(index, blanks.take(index));
+        records.push_reserved(record);
+        seats.push_reserved(seat);
     }
-    Ok(seats)
 }

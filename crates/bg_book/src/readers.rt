@@ -13,13 +13,14 @@ ghost use Rattle.bg_book.specs.PastState.{is_draining as is_draining_in};
 use crate::book::Book;
 use crate::rollout::Rollout;
 use bg_history::History;
+use bg_ledger::Names;
 use bg_listing::laws::finds;
 use bg_pasts::laws::reachable;
 use bg_promotion::Phase;
 use bg_revisions::{Revision, Selectors};
 use bg_strategy::Strategy;
 
-impl Book {
+impl<N: Names> Book<N> {
     /// The moment, in seconds from the start.
     pub fn moment(&self) -> u64
         ensures { result ≡ moment_of self.now.past }
@@ -94,7 +95,7 @@ impl Book {
     }
 }
 
-impl Rollout {
+impl<N: Names> Rollout<N> {
     fn moment(&self) -> u64
         ensures { result ≡ moment_of self.now.routing.past }
     {

@@ -14,6 +14,7 @@ use crate::calls::Control;
 use crate::rollout::Rollout;
 use bg_history::Entry;
 use bg_history::laws::existing_ascends;
+use bg_ledger::Names;
 use bg_listing::laws::{appends, finds, keeps, names, reports, resizes};
 use bg_pasts::laws::reachable;
 use bg_promotion::Core;
@@ -22,7 +23,7 @@ use bg_revisions::{Name, Ports, Roster};
 use bg_scaledown::laws::{few_marks, few_marks_for_two};
 use std::alloc::{AllocError, Global};
 
-impl Rollout {
+impl<N: Names> Rollout<N> {
     /// Records an event that isn't refused; refused only where memory is, and then nothing changes.
     pub(crate) fn take_in(&mut self, alloc: Global, control: &Control) -> Result<(), AllocError>
         requires fits { event_fault self.old.routing control.now ≡ None }

@@ -5,8 +5,8 @@ ghost use Rattle.bg_book.specs.Invariant.{RoutingStands};
 
 use crate::limits::{Limits, PLACES_OF_A_REQUEST};
 use crate::open_lists::OpenLists;
-use crate::seat::Seat;
 use bg_history::History;
+use bg_ledger::{Names, SeatRecord};
 use bg_promotion::Core;
 use bg_revisions::Roster;
 use bg_scaledown::Deadlines;
@@ -17,14 +17,15 @@ use std::marker::Model;
 /// A rollout in the middle of a call: what runs is what its history says, but outcomes may still be
 /// to come. Contracts see the book's routing, and the places that are reserved in the history.
 #[derive(Drop)]
-pub(crate) struct Rollout {
+pub(crate) struct Rollout<N: Names> {
     pub(crate) strategy: Strategy,
     pub(crate) limits: Limits,
     pub(crate) core: Core,
     pub(crate) roster: Roster,
     pub(crate) deadlines: Deadlines,
     pub(crate) lists: OpenLists,
-    pub(crate) seats: Vec<Seat>,
+    /// The book's record of each seat, in order of index.
+    pub(crate) records: Vec<SeatRecord<N>>,
     pub(crate) history: History,
     /// The moment.
     pub(crate) moment: u64,
@@ -34,7 +35,7 @@ pub(crate) struct Rollout {
     pub(crate) open: u64,
 }
 
-impl Model for Rollout {
+impl<N: Names> Model for Rollout<N> {
     ghost use Rattle.bg_book.specs.Invariant.{Midway};
 
     ghost Value = { Midway };
@@ -46,7 +47,7 @@ impl Model for Rollout {
     ghost invariant = { λ r. Stands (midway_of r).routing (running_of r) };
 }
 
-impl Rollout {
+impl<N: Names> Rollout<N> {
     /// Reserves places in the history, `count` at least; refused only where memory is, and then
     /// nothing changes.
     pub(crate) fn reserve(&mut self, count: u64) -> Result<(), AllocError>

@@ -12,6 +12,7 @@ ghost use Rattle.bg_history.specs.declared.entry.Outcome.{Outcome};
 
 use crate::rollout::Rollout;
 use bg_history::{Entry, Outcome};
+use bg_ledger::Names;
 use bg_listing::laws::{finds, keeps, removes, resizes};
 use bg_pasts::laws::reachable;
 use bg_promotion::laws::neutral;
@@ -19,7 +20,7 @@ use bg_revisions::{Revision, Selectors};
 use bg_scaledown::laws::few_marks;
 use bg_settling::laws::{oldest_is_removed, work_falls, work_is_bounded};
 
-impl Rollout {
+impl<N: Names> Rollout<N> {
     /// Records each outcome that is allowed, again and again the first one, until none is, and
     /// answers how many there were.
     pub(crate) fn settle(&mut self) -> u64

@@ -16,10 +16,10 @@ occupied before number revision port =
 abbrev pub vacated : Holding → Holding
 vacated before = record before { calls = before.calls + 1; number = 0; revision = 0; port = 0 }
 
--- what holds of every seat: a seat that is in has room for one more call, and one that is out has
--- nothing in hand
-pub record IsInBounds (seat : Holding) : Type 0 where
-  pub index : seat.index < 8
+-- what holds of every seat of a book of so many: a seat that is in has room for one more call, and
+-- one that is out has nothing in hand
+pub record IsInBounds (seats : ℕ) (seat : Holding) : Type 0 where
+  pub index : seat.index < seats
   pub port : seat.port < 2 ^ 16
   pub room : 0 < seat.number → seat.calls ≤ 2 ^ 60
   pub no_revision : seat.number ≡ 0 → seat.revision ≡ 0

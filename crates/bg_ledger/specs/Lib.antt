@@ -1,3 +1,4 @@
 pub mod Blanks
 pub mod Holdings
+pub mod Picks
 pub mod Sides

@@ -8,8 +8,8 @@
 //! take no bytes, and what is called on them does nothing when it runs.
 //!
 //! A ledger's name is a type. A book is therefore opened and used inside a function over `N: Names`,
-//! which is called with `Brand` for `N` and with new `Blanks`. The caller's proof picks the names;
-//! `names_of` stands in bg_tests (`proofs/Picks.antt`):
+//! which is called with `Brand` for `N` and with new `Blanks`. The caller's proof picks the names by
+//! `names_of` (`specs/Picks.antt`):
 //!
 //! ```text
 //! abbrev pub ghosts-work_four_seats : goal.ghosts-work_four_seats

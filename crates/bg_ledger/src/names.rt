@@ -7,7 +7,7 @@ use std::sync::ledger::Ledger;
 
 /// The names of the 32 ledgers of a book's seats, four for each index from 0 to 7, and the number of
 /// seats. A function over `Names` is called with `Brand`, and the caller's proof picks the members.
-pub trait Names: Send + Sync {
+pub trait Names {
     /// How many seats there are.
     ghost seats: { ℕ };
 

@@ -24,10 +24,10 @@ impl<N: Names> Model for SeatRecord<N> {
     ghost view = { λ own. record_holding own.side };
 }
 
-/// The record and the seat of an index, 0 to 7, of the blanks of that index: out, and with no call
-/// answered. Takes no memory.
+/// The record and the seat of an index below the number of seats, of the blanks of that index: out,
+/// and with no call answered. Takes no memory.
 pub fn pair<N: Names>(index: u32, blanks: SeatBlanks) -> (SeatRecord<N>, Seat<N>)
-    requires index { index < 8 }
+    requires index { index < N.seats }
     requires blanks { AreFor N.Names index blanks }
     ensures seat { result.1 ≡ fresh index }
     ensures own { result.0 ≡ result.1 }

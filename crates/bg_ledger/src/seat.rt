@@ -1,5 +1,5 @@
 //! A worker's side.
-ghost use Rattle.std.specs.Prelude.{◌≡◌, ◌<◌, ◌↔◌, IsTrue};
+ghost use Rattle.std.specs.Prelude.{◌≡◌, ◌<◌, nat_lt};
 ghost use Rattle.bg_ledger.specs.Holdings.{IsInBounds};
 ghost use Rattle.bg_ledger.specs.declared.holding.Holding.{Holding};
 ghost use Rattle.bg_ledger.specs.Sides.{seat_holding};
@@ -21,13 +21,13 @@ impl<N: Names> Model for Seat<N> {
 
     ghost view = { λ seat. seat_holding seat.side };
 
-    ghost invariant = { λ seat. IsInBounds (seat_holding seat.side) };
+    ghost invariant = { λ seat. IsInBounds N.seats (seat_holding seat.side) };
 }
 
 impl<N: Names> Seat<N> {
     /// Whether the seat has a request in hand.
     pub fn is_in(&self) -> bool
-        ensures { IsTrue result ↔ (0 < self.now.number) }
+        ensures { result ≡ nat_lt 0 self.now.number }
     {
         self.number() > 0
     }
@@ -62,10 +62,10 @@ impl<N: Names> Seat<N> {
         self.holding().calls
     }
 
-    /// The seat's index among the seats of its book, 0 to 7.
+    /// The seat's index among the seats of its book, from 0.
     pub fn index(&self) -> u32
         ensures index { result ≡ self.now.index }
-        ensures below { result < 8 }
+        ensures below { result < N.seats }
     {
         self.holding().index
     }
@@ -73,7 +73,7 @@ impl<N: Names> Seat<N> {
     /// All of it at once.
     pub(crate) fn holding(&self) -> Holding
         ensures all { result ≡ self.now }
-        ensures bounds { IsInBounds self.now }
+        ensures bounds { IsInBounds N.seats self.now }
     {
         read::<N>(&self.side)
     }

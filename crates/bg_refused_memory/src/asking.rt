@@ -83,12 +83,14 @@ pub fn made_again<R: Print, T: Drop>(
     Ok(value)
 }
 
-fn say_made<R: Print>(rt: &R, name: &str) -> Result<(), Stop> {
+/// Says that the call of this name is made.
+pub fn say_made<R: Print>(rt: &R, name: &str) -> Result<(), Stop> {
     println!(rt; "made {name}")?;
     Ok(())
 }
 
-fn say_refused<R: Eprint>(rt: &R, name: &str) -> Result<(), Stop> {
+/// Says that the call of this name was refused.
+pub fn say_refused<R: Eprint>(rt: &R, name: &str) -> Result<(), Stop> {
     eprintln!(rt; "refused {name}")?;
     Ok(())
 }

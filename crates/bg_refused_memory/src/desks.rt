@@ -1,16 +1,21 @@
 //! The calls of `bg_book` that are made at a seat, and events. A book takes memory rarely, so each call is made often
 //! enough to meet a growth.
-ghost use Rattle.std.specs.Prelude.{◌≡◌};
+ghost use Rattle.std.specs.Prelude.{◌≡◌, true};
+ghost use Rattle.bg_book.specs.Gathering.{are_all};
+ghost use Rattle.bg_ledger.specs.Blanks.{AreAllFor};
 
-use crate::asking::{Subject, change, made, made_again, show};
+use crate::asking::{Subject, change, made, made_again, say_made, say_refused, show};
 use crate::state::State;
 use crate::stop::Stop;
 use crate::strategies::base_strategy;
-use bg_book::{Book, Control, Limits, Seat};
+use bg_book::laws::lent;
+use bg_book::{Book, Call, Control, Limits};
+use bg_ledger::{Blanks, Names, Seat};
 use bg_revisions::{Name, Ports, Service};
 use bg_strategy::Strategy;
 use std::alloc::Global;
 use std::fmt;
+use std::marker::Brand;
 
 /// A request enters at each of eight seats.
 const EIGHT_REQUESTS: [DeskCall; 8] = [
@@ -36,55 +41,59 @@ pub fn available() -> Control {
 #[derive(Clone, Copy, Drop)]
 pub enum DeskCall {
     /// A request enters at the seat of this place.
-    Enter(usize),
+    Enter(u32),
     /// A request enters at the seat of this place, and leaves again.
-    EnterAndLeave(usize),
+    EnterAndLeave(u32),
 }
 
-/// A book and the seats that it was opened with.
-#[derive(Drop)]
-pub struct Desk {
-    book: Book,
-    seats: Vec<Seat>,
-    ghost known: { book.seats ≡ seats.items },
+/// A book and its eight seats. It can't be dropped: it ends in [`Desk::close`].
+pub struct Desk<N: Names> {
+    book: Book<N>,
+    seats: Vec<Seat<N>>,
+    ghost all: { are_all 8 seats.items ≡ true },
 }
 
-impl Desk {
+impl<N: Names> Desk<N> {
     /// Opens a book of eight seats.
-    pub fn open(alloc: Global, strategy: &Strategy) -> Result<Desk, Stop> {
+    pub fn open(alloc: Global, strategy: &Strategy, blanks: Blanks) -> Result<Desk<N>, Stop>
+        requires blanks { AreAllFor N.Names blanks }
+        requires seats { N.seats ≡ 8 }
+    {
         let ports = [9001, 9002];
-        let (book, seats) = Book::open(alloc, strategy, "v1", &ports, 8, Limits::usual())?;
+        let usual = Limits::usual();
+        let (book, seats) = Book::open(alloc, strategy, "v1", &ports, 8, usual, blanks)?;
         Ok(Desk { book, seats })
     }
 
+    /// Lets each seat leave that is in, and ends the book.
+    pub fn close(self)
+        requires { N.seats ≡ 8 }
+    {
+        let Desk { book, seats } = self;
+        let _history = book.close(seats);
+    }
+
     /// Lets a request enter at the seat of this place, which holds none.
-    pub fn enter(&mut self, place: usize) -> Result<(), Stop> {
-        if place >= self.seats.len() {
-            return Err(Stop::OtherFault);
-        }
-        let seat = &mut self.seats[place];
-        if seat.index() as usize != place || seat.is_in() {
-            return Err(Stop::OtherFault);
-        }
-        let _ticket = self.book.enter(seat, Service::Active)?;
-        Ok(())
+    pub fn enter(&mut self, place: u32) -> Result<(), Stop> {
+        self.call(&Call::Enter {
+            seat: place,
+            service: Service::Active,
+        })
     }
 
     /// Lets the request of the seat of this place leave.
-    pub fn leave(&mut self, place: usize) -> Result<(), Stop> {
-        if place >= self.seats.len() {
-            return Err(Stop::OtherFault);
-        }
-        let seat = &mut self.seats[place];
-        if seat.index() as usize != place || !seat.is_in() {
-            return Err(Stop::OtherFault);
-        }
-        let _left = self.book.leave(seat);
-        Ok(())
+    pub fn leave(&mut self, place: u32) -> Result<(), Stop> {
+        self.call(&Call::Leave { seat: place })
+    }
+
+    /// Makes a call.
+    fn call(&mut self, call: &Call) -> Result<(), Stop> {
+        lent();
+        Stop::unless_done(&self.book.call(self.seats.as_mut_slice(), call))
     }
 
     /// Lets a request enter at the seat of this place, and leave again.
-    pub fn enter_and_leave(&mut self, place: usize) -> Result<(), Stop> {
+    pub fn enter_and_leave(&mut self, place: u32) -> Result<(), Stop> {
         self.enter(place)?;
         self.leave(place)
     }
@@ -96,7 +105,7 @@ impl Desk {
     }
 }
 
-impl fmt::Display for Desk {
+impl<N: Names> fmt::Display for Desk<N> {
     fn fmt<W: fmt::Write>(&self, f: &mut fmt::Formatter<W>) -> fmt::Result {
         let state = State {
             book: &self.book,
@@ -106,7 +115,7 @@ impl fmt::Display for Desk {
     }
 }
 
-impl Subject for Desk {
+impl<N: Names> Subject for Desk<N> {
     type Call = DeskCall;
 
     fn make(&mut self, call: &DeskCall) -> Result<(), Stop> {
@@ -119,17 +128,17 @@ impl Subject for Desk {
 
 /// A desk at which events are recorded.
 #[derive(Drop)]
-struct Events<'a> {
-    desk: &'a mut Desk,
+struct Events<'a, N: Names> {
+    desk: &'a mut Desk<N>,
 }
 
-impl fmt::Display for Events<'_> {
+impl<N: Names> fmt::Display for Events<'_, N> {
     fn fmt<W: fmt::Write>(&self, f: &mut fmt::Formatter<W>) -> fmt::Result {
         write!(f, "{}", self.desk)
     }
 }
 
-impl Subject for Events<'_> {
+impl<N: Names> Subject for Events<'_, N> {
     type Call = Control;
 
     fn make(&mut self, event: &Control) -> Result<(), Stop> {
@@ -138,20 +147,37 @@ impl Subject for Events<'_> {
 }
 
 pub fn make_calls<R: AllocGlobal + Print + Eprint>(rt: &R) -> Result<(), Stop> {
-    let mut desk = make_desk(rt)?;
-    make_calls_at(rt, &mut desk)
-}
-
-fn make_desk<R: AllocGlobal + Print + Eprint>(rt: &R) -> Result<Desk, Stop> {
-    let alloc = rt.alloc();
     let strategy = base_strategy(rt)?;
-    match made(rt, "Book::open", Desk::open(alloc, &strategy))? {
-        Some(desk) => Ok(desk),
-        None => made_again(rt, "Book::open", Desk::open(alloc, &strategy)),
+    match work::<Brand, R>(rt, &strategy, Blanks::new()) {
+        Ok(end) => end,
+        Err(Stop::OutOfMemory) => {
+            say_refused(rt, "Book::open")?;
+            work::<Brand, R>(rt, &strategy, Blanks::new())?
+        }
+        Err(stop) => Err(stop),
     }
 }
 
-fn make_calls_at<R: AllocGlobal + Print + Eprint>(rt: &R, desk: &mut Desk) -> Result<(), Stop> {
+/// Opens a desk, makes its calls, and closes it. The outer error is that of the opening.
+fn work<N: Names, R: AllocGlobal + Print + Eprint>(
+    rt: &R,
+    strategy: &Strategy,
+    blanks: Blanks,
+) -> Result<Result<(), Stop>, Stop>
+    requires blanks { AreAllFor N.Names blanks }
+    requires seats { N.seats ≡ 8 }
+{
+    let mut desk = Desk::<N>::open(rt.alloc(), strategy, blanks)?;
+    let end = make_calls_at(rt, &mut desk);
+    desk.close();
+    Ok(end)
+}
+
+fn make_calls_at<N: Names, R: AllocGlobal + Print + Eprint>(
+    rt: &R,
+    desk: &mut Desk<N>,
+) -> Result<(), Stop> {
+    say_made(rt, "Book::open")?;
     record_events(rt, desk)?;
     deploy_revisions(rt, desk)?;
     fill_seats(rt, desk)?;
@@ -162,13 +188,16 @@ fn make_calls_at<R: AllocGlobal + Print + Eprint>(rt: &R, desk: &mut Desk) -> Re
 }
 
 /// An event takes the room that its outcomes may need.
-fn record_events<R: Print + Eprint>(rt: &R, desk: &mut Desk) -> Result<(), Stop> {
+fn record_events<N: Names, R: Print + Eprint>(rt: &R, desk: &mut Desk<N>) -> Result<(), Stop> {
     let events = [available(), Control::Tick(1), Control::Tick(2)];
     change(rt, "Book::control", &mut Events { desk }, &events)
 }
 
 /// A deploy takes memory for its name and ports, in the history and for a new revision.
-fn deploy_revisions<R: AllocGlobal + Print + Eprint>(rt: &R, desk: &mut Desk) -> Result<(), Stop> {
+fn deploy_revisions<N: Names, R: AllocGlobal + Print + Eprint>(
+    rt: &R,
+    desk: &mut Desk<N>,
+) -> Result<(), Stop> {
     let deploys = [
         make_deploy(rt, "v2")?,
         make_deploy(rt, "v3")?,
@@ -198,11 +227,11 @@ fn new_deploy(alloc: Global, name: &str) -> Result<Control, Stop> {
 }
 
 /// Eight requests at once take a longer list.
-fn fill_seats<R: Print + Eprint>(rt: &R, desk: &mut Desk) -> Result<(), Stop> {
+fn fill_seats<N: Names, R: Print + Eprint>(rt: &R, desk: &mut Desk<N>) -> Result<(), Stop> {
     change(rt, "Book::enter with a longer list", desk, &EIGHT_REQUESTS)
 }
 
-fn empty_seats(desk: &mut Desk) -> Result<(), Stop> {
+fn empty_seats<N: Names>(desk: &mut Desk<N>) -> Result<(), Stop> {
     for place in 0..8 {
         desk.leave(place)?;
     }
@@ -210,7 +239,7 @@ fn empty_seats(desk: &mut Desk) -> Result<(), Stop> {
 }
 
 /// Of hundreds of requests one takes a longer history.
-fn enter_often<R: Print + Eprint>(rt: &R, desk: &mut Desk) -> Result<(), Stop> {
+fn enter_often<N: Names, R: Print + Eprint>(rt: &R, desk: &mut Desk<N>) -> Result<(), Stop> {
     let calls = [DeskCall::EnterAndLeave(0); 200];
     change(rt, "Book::enter with a longer history", desk, &calls)
 }

@@ -1,16 +1,21 @@
 //! The calls of `bg_book` that name their seats.
-ghost use Rattle.bg_book.specs.Runs.{AreKnown, AreApart};
+ghost use Rattle.std.specs.Prelude.{◌≡◌, true};
+ghost use Rattle.bg_book.specs.Gathering.{are_all};
+ghost use Rattle.bg_ledger.specs.Blanks.{AreAllFor};
 
-use crate::asking::{Subject, change, made, made_again, show};
+use crate::asking::{Subject, change, say_made, say_refused, show};
 use crate::desks::available;
 use crate::state::State;
 use crate::stop::Stop;
 use crate::strategies::base_strategy;
-use bg_book::{Book, Call, ControlFault, EnterFault, Limits, Reply, Seat};
+use bg_book::laws::lent;
+use bg_book::{Book, Call, Limits};
+use bg_ledger::{Blanks, Names, Seat};
 use bg_revisions::Service;
 use bg_strategy::Strategy;
 use std::alloc::Global;
 use std::fmt;
+use std::marker::Brand;
 
 /// A request enters at seat 0.
 fn enter() -> Call {
@@ -34,41 +39,48 @@ pub enum RoomCall {
     Run([Call; 3]),
 }
 
-/// A book and the seats at which its calls are made.
-#[derive(Drop)]
-pub struct Room {
-    book: Book,
-    seats: Vec<Seat>,
-    ghost known: { AreKnown book seats.items },
-    ghost apart: { AreApart seats.items },
+/// A book and its two seats. It can't be dropped: it ends in [`Room::close`].
+pub struct Room<N: Names> {
+    book: Book<N>,
+    seats: Vec<Seat<N>>,
+    ghost all: { are_all 2 seats.items ≡ true },
 }
 
-impl Room {
+impl<N: Names> Room<N> {
     /// Opens a book of two seats.
-    pub fn open(alloc: Global, strategy: &Strategy) -> Result<Room, Stop> {
+    pub fn open(alloc: Global, strategy: &Strategy, blanks: Blanks) -> Result<Room<N>, Stop>
+        requires blanks { AreAllFor N.Names blanks }
+        requires seats { N.seats ≡ 2 }
+    {
         let ports = [9001, 9002];
-        let (book, seats) = Book::open(alloc, strategy, "v1", &ports, 2, Limits::usual())?;
+        let usual = Limits::usual();
+        let (book, seats) = Book::open(alloc, strategy, "v1", &ports, 2, usual, blanks)?;
         Ok(Room { book, seats })
+    }
+
+    /// Lets each seat leave that is in, and ends the book.
+    pub fn close(self)
+        requires { N.seats ≡ 2 }
+    {
+        let Room { book, seats } = self;
+        let _history = book.close(seats);
     }
 
     /// Makes a call.
     pub fn call(&mut self, call: &Call) -> Result<(), Stop> {
-        match self.book.call(&mut self.seats, call) {
-            Reply::Entered(_) | Reply::Left(_) | Reply::Done(_) => Ok(()),
-            Reply::EnterRefused(EnterFault::OutOfMemory)
-            | Reply::ControlRefused(ControlFault::OutOfMemory) => Err(Stop::OutOfMemory),
-            _ => Err(Stop::OtherFault),
-        }
+        lent();
+        Stop::unless_done(&self.book.call(self.seats.as_mut_slice(), call))
     }
 
     /// Makes calls.
     pub fn run(&mut self, calls: &[Call]) -> Result<(), Stop> {
-        let _replies = self.book.run(&mut self.seats, calls)?;
+        lent();
+        let _replies = self.book.run(self.seats.as_mut_slice(), calls)?;
         Ok(())
     }
 }
 
-impl fmt::Display for Room {
+impl<N: Names> fmt::Display for Room<N> {
     fn fmt<W: fmt::Write>(&self, f: &mut fmt::Formatter<W>) -> fmt::Result {
         let book = &self.book;
         let seats = self.seats.as_slice();
@@ -76,7 +88,7 @@ impl fmt::Display for Room {
     }
 }
 
-impl Subject for Room {
+impl<N: Names> Subject for Room<N> {
     type Call = RoomCall;
 
     fn make(&mut self, call: &RoomCall) -> Result<(), Stop> {
@@ -88,22 +100,36 @@ impl Subject for Room {
 }
 
 pub fn make_calls<R: AllocGlobal + Print + Eprint>(rt: &R) -> Result<(), Stop> {
-    let mut room = make_room(rt)?;
-    make_calls_in(rt, &mut room)
+    let strategy = base_strategy(rt)?;
+    match work::<Brand, R>(rt, &strategy, Blanks::new()) {
+        Ok(end) => end,
+        Err(Stop::OutOfMemory) => {
+            say_refused(rt, "Book::open")?;
+            work::<Brand, R>(rt, &strategy, Blanks::new())?
+        }
+        Err(stop) => Err(stop),
+    }
 }
 
-fn make_room<R: AllocGlobal + Print + Eprint>(rt: &R) -> Result<Room, Stop> {
-    let alloc = rt.alloc();
-    let strategy = base_strategy(rt)?;
-    match made(rt, "Book::open", Room::open(alloc, &strategy))? {
-        Some(room) => Ok(room),
-        None => made_again(rt, "Book::open", Room::open(alloc, &strategy)),
-    }
+/// Opens a room, makes its calls, and closes it. The outer error is that of the opening.
+fn work<N: Names, R: AllocGlobal + Print + Eprint>(
+    rt: &R,
+    strategy: &Strategy,
+    blanks: Blanks,
+) -> Result<Result<(), Stop>, Stop>
+    requires blanks { AreAllFor N.Names blanks }
+    requires seats { N.seats ≡ 2 }
+{
+    let mut room = Room::<N>::open(rt.alloc(), strategy, blanks)?;
+    let end = make_calls_in(rt, &mut room);
+    room.close();
+    Ok(end)
 }
 
 /// The first event and the first request take memory. After these the book has room, and a list of calls takes memory
 /// for its replies alone.
-fn make_calls_in<R: Print + Eprint>(rt: &R, room: &mut Room) -> Result<(), Stop> {
+fn make_calls_in<N: Names, R: Print + Eprint>(rt: &R, room: &mut Room<N>) -> Result<(), Stop> {
+    say_made(rt, "Book::open")?;
     let event = RoomCall::Alone(Call::Control(available()));
     let request = RoomCall::Alone(enter());
     let calls = RoomCall::Run([leave(), enter(), leave()]);

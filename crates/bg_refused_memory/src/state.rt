@@ -1,16 +1,17 @@
 //! What a book and its seats answer of themselves.
 
-use bg_book::{Book, Seat};
+use bg_book::Book;
+use bg_ledger::{Names, Seat};
 use std::fmt;
 
 /// A book and its seats, displayed as all that they answer. Of the history it is the length and the newest entry.
 #[derive(Drop)]
-pub struct State<'a> {
-    pub book: &'a Book,
-    pub seats: &'a [Seat],
+pub struct State<'a, N: Names> {
+    pub book: &'a Book<N>,
+    pub seats: &'a [Seat<N>],
 }
 
-impl fmt::Display for State<'_> {
+impl<N: Names> fmt::Display for State<'_, N> {
     fn fmt<W: fmt::Write>(&self, f: &mut fmt::Formatter<W>) -> fmt::Result {
         let book = self.book;
         writeln!(f, "moment {} phase {:?}", book.moment(), book.phase())?;
@@ -26,9 +27,9 @@ impl fmt::Display for State<'_> {
 
 /// The revisions of a book.
 #[derive(Drop)]
-struct Revisions<'a>(&'a Book);
+struct Revisions<'a, N: Names>(&'a Book<N>);
 
-impl fmt::Display for Revisions<'_> {
+impl<N: Names> fmt::Display for Revisions<'_, N> {
     fn fmt<W: fmt::Write>(&self, f: &mut fmt::Formatter<W>) -> fmt::Result {
         let book = self.0;
         writeln!(f, "count {}", book.count())?;
@@ -51,9 +52,9 @@ impl fmt::Display for Revisions<'_> {
 
 /// The length of a book's history, and its newest entry.
 #[derive(Drop)]
-struct LastEntry<'a>(&'a Book);
+struct LastEntry<'a, N: Names>(&'a Book<N>);
 
-impl fmt::Display for LastEntry<'_> {
+impl<N: Names> fmt::Display for LastEntry<'_, N> {
     fn fmt<W: fmt::Write>(&self, f: &mut fmt::Formatter<W>) -> fmt::Result {
         let history = self.0.history();
         let len = history.len();
@@ -63,9 +64,9 @@ impl fmt::Display for LastEntry<'_> {
 
 /// What a seat answers.
 #[derive(Drop)]
-struct SeatLine<'a>(&'a Seat);
+struct SeatLine<'a, N: Names>(&'a Seat<N>);
 
-impl fmt::Display for SeatLine<'_> {
+impl<N: Names> fmt::Display for SeatLine<'_, N> {
     fn fmt<W: fmt::Write>(&self, f: &mut fmt::Formatter<W>) -> fmt::Result {
         let seat = self.0;
         write!(

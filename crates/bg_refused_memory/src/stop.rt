@@ -1,6 +1,6 @@
 //! Why a call has no answer.
 
-use bg_book::{ControlFault, EnterFault, OpenFault, RunFault};
+use bg_book::{ControlFault, EnterFault, OpenFault, Reply, RunFault};
 use bg_revisions::RevisionFault;
 use bg_strategy::StrategyFault;
 use std::alloc::AllocError;
@@ -19,6 +19,18 @@ pub enum Stop {
     StateTooLong,
     #[error("the output could not be written")]
     WriteFailed,
+}
+
+impl Stop {
+    /// Why a call of a book that was replied to so was not done, if it was not.
+    pub fn unless_done(reply: &Reply) -> Result<(), Stop> {
+        match reply {
+            Reply::Entered(_) | Reply::Left(_) | Reply::Done(_) => Ok(()),
+            Reply::EnterRefused(fault) => Err(Stop::from(*fault)),
+            Reply::ControlRefused(fault) => Err(Stop::from(*fault)),
+            Reply::NoSuchSeat | Reply::SeatBusy | Reply::SeatIdle => Err(Stop::OtherFault),
+        }
+    }
 }
 
 impl From<AllocError> for Stop {

@@ -4,13 +4,14 @@ ghost use Rattle.std.specs.Io.KnownBytes.{Appends};
 ghost use Rattle.bg_report.specs.Reports.{deadline_text, draining_text, report_text, revision_lines as revision_lines_of, selectors_text, sizes_text, standing_text, traffic_text};
 
 use bg_book::Book;
+use bg_ledger::Names;
 use bg_revisions::{Revision, Selectors};
 use std::io::Write;
 use std::{fmt, io};
 
 /// Writes the report: the moment, the phase, the selected revisions, a line for each revision in
 /// order of number, and `end`. Where a write fails, a part of it may be written.
-pub fn report<W: Write>(book: &Book, writer: &mut W) -> io::Result<()>
+pub fn report<N: Names, W: Write>(book: &Book<N>, writer: &mut W) -> io::Result<()>
     ensures { OnOk result (Appends (W.contents writer.old) (W.contents writer.new)
         (report_text book.now)) }
 {
@@ -20,7 +21,7 @@ pub fn report<W: Write>(book: &Book, writer: &mut W) -> io::Result<()>
 }
 
 /// Writes the line of each revision, in order of number.
-fn revision_lines<W: Write>(book: &Book, writer: &mut W) -> io::Result<()>
+fn revision_lines<N: Names, W: Write>(book: &Book<N>, writer: &mut W) -> io::Result<()>
     ensures { OnOk result (Appends (W.contents writer.old) (W.contents writer.new)
         (revision_lines_of book.now)) }
 {
@@ -36,9 +37,9 @@ fn revision_lines<W: Write>(book: &Book, writer: &mut W) -> io::Result<()>
 
 /// Where the rollout stands.
 #[derive(Drop)]
-struct StandingLines<'a>(&'a Book);
+struct StandingLines<'a, N: Names>(&'a Book<N>);
 
-impl fmt::Display for StandingLines<'_> {
+impl<N: Names> fmt::Display for StandingLines<'_, N> {
     ghost output = { λ lines. Some (standing_text lines.0.now) };
 
     fn fmt<W: fmt::Write>(&self, f: &mut fmt::Formatter<W>) -> fmt::Result {
@@ -83,12 +84,12 @@ impl fmt::Display for RevisionSizes<'_> {
 
 /// The requests of a revision, and when it may be scaled down.
 #[derive(Drop)]
-struct RevisionTraffic<'a> {
-    book: &'a Book,
+struct RevisionTraffic<'a, N: Names> {
+    book: &'a Book<N>,
     number: u64,
 }
 
-impl fmt::Display for RevisionTraffic<'_> {
+impl<N: Names> fmt::Display for RevisionTraffic<'_, N> {
     ghost output = { λ traffic. Some (traffic_text traffic.book.now traffic.number) };
 
     fn fmt<W: fmt::Write>(&self, f: &mut fmt::Formatter<W>) -> fmt::Result {

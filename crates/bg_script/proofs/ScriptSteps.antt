@@ -10,7 +10,7 @@ use Rattle.bg_operator.specs.Reading.{Known}
 use Rattle.bg_script.specs.declared.answer.Answer.TheVariants.{Opened}
 use Rattle.bg_operator.specs.ScriptLines.{NextIs}
 use Rattle.bg_script.specs.Scripts.{Stage, Written, Said, Ran, Answered, is_fault_written, has_fault, text_of}
-use Rattle.bg_script.specs.Serving.{StepRead, Served, Wrote}
+use Rattle.bg_script.specs.Serving.{RanOpened, StepRead, Served}
 
 -- What was written since first, with answers still to be written for the bytes ys, is answers to the
 -- bytes xs.
@@ -39,14 +39,23 @@ goes_on start stage next first now new faulted fault read xs ys zs p line s = λ
     or_assoc faulted (is_fault_written s.written) (has_fault later) ∙ ap (λ t. (faulted || t) || has_fault later) (sym s.wrote.fault_is) in
     subst (λ (t : Bool). Ran start first last t xs) same all
 
--- the book is opened, which is no fault
-pub goes_open : (start stage next : Stage) (first now new : Option (List ℕ)) (faulted fault : Bool) (read : Result Command LineFault) (xs ys zs : List ℕ)
-    → Goes start first now stage faulted xs ys → NextIs (Some read) ys zs → StepRead stage read (Said Opened) next → Wrote (Said Opened) now new fault
-    → Goes start first new next faulted xs zs
-goes_open start stage next first now new faulted fault read xs ys zs p line step w =
-    let same : (faulted || fault) ≡ faulted = ap (λ t. faulted || t) w.fault_is ∙ or_false faulted in
-    subst (λ (t : Bool). Goes start first new next t xs zs) same
-    (goes_on start stage next first now new faulted fault read xs ys zs p line (record { written = Said Opened; step = step; wrote = w }))
+-- a run that goes on from here
+pub goes_through : (start stage : Stage) (first now last : Option (List ℕ)) (faulted later : Bool) (xs ys : List ℕ)
+    → Goes start first now stage faulted xs ys → Ran stage now last later ys → Ran start first last (faulted || later) xs
+goes_through start stage first now last faulted later xs ys p r =
+    subst (λ (t : Bool). Ran start first last (faulted || t) xs) (sym r.fault_is) (p last r.all r.answers r.appended)
+
+-- a book is opened, which is no fault, and all later lines are answered
+pub goes_opened : (start stage next : Stage) (first now last : Option (List ℕ)) (faulted later : Bool) (read : Result Command LineFault) (xs ys zs : List ℕ)
+    → Goes start first now stage faulted xs ys → NextIs (Some read) ys zs → StepRead stage read (Said Opened) next → RanOpened next now last later zs
+    → Ran start first last (faulted || later) xs
+goes_opened start stage next first now last faulted later read xs ys zs p line step r =
+    let served : Served stage read now r.begun next false =
+    record { written = Said Opened; step = step; wrote = record { appended = r.said; fault_is = refl } } in
+    let same : ((faulted || false) || later) ≡ (faulted || later) = ap (λ t. t || later) (or_false faulted) in
+    subst (λ (t : Bool). Ran start first last t xs) same
+    (goes_through start next first r.begun last (faulted || false) later xs zs
+    (goes_on start stage next first now r.begun faulted false read xs ys zs p line served) r.ran)
 
 -- the script ends here
 pub goes_to_end : (start stage : Stage) (first now : Option (List ℕ)) (faulted : Bool) (xs ys zs : List ℕ)
@@ -57,12 +66,6 @@ goes_to_end start stage first now faulted xs ys zs p ends =
       | inr quits ↦ subst (λ (l : List (List ℕ)). Answered stage l []) (sym quits.1) quits.2
     ] in
     subst (λ (t : Bool). Ran start first now t xs) (or_false faulted) (p now [] none (Appends-nil now))
-
--- a run that goes on from here
-pub goes_through : (start stage : Stage) (first now last : Option (List ℕ)) (faulted later : Bool) (xs ys : List ℕ)
-    → Goes start first now stage faulted xs ys → Ran stage now last later ys → Ran start first last (faulted || later) xs
-goes_through start stage first now last faulted later xs ys p r =
-    subst (λ (t : Bool). Ran start first last (faulted || t) xs) (sym r.fault_is) (p last r.all r.answers r.appended)
 
 pub Known-some : (P Q : List ℕ → List ℕ → Type 0) (S : List ℕ → Type 0) (first old new : Option (List ℕ)) → ((xs ys zs : List ℕ) → P xs ys → Q ys zs → S xs) → Known first old P → Known old new Q → IfSome first S
 Known-some P Q S None old new f k l = tt

@@ -3,10 +3,10 @@ use Rattle.std.specs.Prelude.{◌≡◌, ℕ, Bool, false, ◌||◌, List, [], �
 use Rattle.std.specs.List.{flat_map}
 use Rattle.std.specs.Io.KnownBytes.{Appends}
 use Rattle.bg_strategy.specs.declared.strategy.Strategy.{Strategy}
+use Rattle.bg_ledger.specs.declared.holding.Holding.{Holding}
 use Rattle.bg_book.specs.declared.calls.Call.{Call}
 use Rattle.bg_book.specs.declared.calls.Call.TheVariants as call
 use Rattle.bg_book.specs.declared.fault.OpenFault.TheVariants as open_fault
-use Rattle.bg_book.specs.declared.seat.Seat.{Seat}
 use Rattle.bg_book.specs.Refusals.{open_refusal, usual_limits, IsRefusedBy}
 use Rattle.bg_book.specs.Changes.{opened, NewSeats}
 use Rattle.bg_book.specs.Routing.{Routing}
@@ -29,7 +29,7 @@ use Rattle.bg_script.specs.Findings.{finding_text, IsFinding, status_of}
 -- is open with these seats
 pub data Stage : Type 0 where
   Closed : (strategy : Strategy) (seats : ℕ) → Stage
-  Running : (book : Routing) (seats : List Seat) → Stage
+  Running : (book : Routing) (seats : List Holding) → Stage
 
 -- what is written for a line: an answer, or the report of a book
 pub data Written : Type 0 where
@@ -71,13 +71,13 @@ ClosedStep s count (Ok Report) written next = Stays (Closed s count) NotOpen wri
 ClosedStep s count (Ok Quit) written next = ⊥
 
 -- what a call is answered, by the rules of the book
-abbrev pub CallMade : Routing → List Seat → Call → Written → Stage → Type 0
+abbrev pub CallMade : Routing → List Holding → Call → Written → Stage → Type 0
 CallMade book seats made (Said (Made reply)) (Running new new_seats) =
     CallStep book seats made reply new new_seats
 CallMade book seats made _ _ = ⊥
 
 -- what a line that was read so is answered while a book is open: only a call changes it
-abbrev pub RunningStep : Routing → List Seat → Result Command LineFault → Written → Stage → Type 0
+abbrev pub RunningStep : Routing → List Holding → Result Command LineFault → Written → Stage → Type 0
 RunningStep book seats (Err fault) written next =
     Stays (Running book seats) (Unread fault) written next
 RunningStep book seats (Ok (Open name ports)) written next =

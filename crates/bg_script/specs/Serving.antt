@@ -1,10 +1,19 @@
 -- How one line is answered, as the parts of a replay state it.
 use Rattle.std.specs.Prelude.{◌≡◌, ◌≢◌, ℕ, Bool, List, Option, Result, Ok}
 use Rattle.std.specs.Io.KnownBytes.{Appends}
+use Rattle.bg_ledger.specs.declared.holding.Holding.{Holding}
+use Rattle.bg_book.specs.Routing.{Routing}
 use Rattle.bg_operator.specs.declared.command.Command.{Command}
 use Rattle.bg_operator.specs.declared.command.Command.TheVariants.{Quit}
 use Rattle.bg_operator.specs.declared.line_fault.LineFault.{LineFault}
-use Rattle.bg_script.specs.Scripts.{Stage, ReadStep, Written, is_fault_written, written_text}
+use Rattle.bg_script.specs.declared.answer.Answer.TheVariants.{Opened}
+use Rattle.bg_script.specs.AnswerTexts.{answer_text}
+use Rattle.bg_script.specs.Scripts.{Stage, ReadStep, Ran, Written, is_fault_written, written_text}
+
+-- a book that is open, and its seats
+pub record OpenState : Type 0 where
+  pub book : Routing
+  pub seats : List Holding
 
 -- what a line that was read so is answered, where it isn't `quit`
 abbrev pub StepRead : Stage → Result Command LineFault → Written → Stage → Type 0
@@ -21,3 +30,11 @@ pub record Served (stage : Stage) (read : Result Command LineFault) (first last 
   pub written : Written
   pub step : StepRead stage read written next
   pub wrote : Wrote written first last faulted
+
+-- from first to last it was said that a book is open, and then the lines of the bytes were answered
+-- where the script stood so
+pub record RanOpened (start : Stage) (first last : Option (List ℕ)) (faulted : Bool) (bytes : List ℕ)
+    : Type 0 where
+  pub begun : Option (List ℕ)
+  pub said : Appends first begun (answer_text Opened)
+  pub ran : Ran start begun last faulted bytes

@@ -1,15 +1,19 @@
 //! `replay`: the answers to a script.
-ghost use Rattle.std.specs.Prelude.{IfOk, IfSome};
-ghost use Rattle.bg_script.specs.Scripts.{Ran, Refuses, Replays, Closed, Running};
+ghost use Rattle.std.specs.Prelude.{◌≡◌, ◌≤◌, IfOk, IfErr, IfSome, OnErr};
+ghost use Rattle.bg_ledger.specs.Blanks.{AreAllFor};
+ghost use Rattle.bg_script.specs.declared.answer.Answer.TheVariants.{Opened};
+ghost use Rattle.bg_script.specs.Scripts.{Ran, Refuses, Replays, Stage, Said, Closed, Running};
+ghost use Rattle.bg_script.specs.Serving.{RanOpened, StepRead};
 
 use crate::answer::Answer;
 use crate::finding::{Finding, finding_in, write_finding};
-use crate::open_book::{OpenBook, say};
+use crate::open_book::{OpenBook, Terms, say};
 use crate::run_end::RunEnd;
-use bg_operator::{ScriptLines, part_before_script};
-use bg_strategy::Strategy;
+use bg_ledger::{Blanks, Names};
+use bg_operator::{Command, LineFault, ScriptLines, part_before_script};
 use std::alloc::Global;
 use std::io::{BufRead, BufReader, Read, Write};
+use std::marker::Brand;
 
 /// After so many lines a script is given up.
 const MOST_LINES: u32 = 1 << 24;
@@ -39,15 +43,13 @@ pub fn replay<R: Read, W: Write>(
     let Finding::Means(strategy) = &finding else {
         return refuse(&finding, writer);
     };
-    let mut lines = ScriptLines::new(alloc);
-    let faulted = run(
+    let terms = Terms {
         alloc,
         strategy,
-        u32::from(seats),
-        &mut lines,
-        &mut input,
-        writer,
-    )?;
+        seats: u32::from(seats),
+    };
+    let mut lines = ScriptLines::new(alloc);
+    let faulted = run(&terms, &mut lines, &mut input, writer)?;
     Ok(u8::from(faulted))
 }
 
@@ -63,25 +65,23 @@ fn refuse<W: Write>(finding: &Finding, writer: &mut W) -> Result<u8, RunEnd>
 
 /// Answers each line up to the end or `quit`. Returns whether a fault was among the answers.
 fn run<B: BufRead, W: Write>(
-    alloc: Global,
-    strategy: &Strategy,
-    seats: u32,
+    terms: &Terms,
     lines: &mut ScriptLines,
     reader: &mut B,
     writer: &mut W,
 ) -> Result<bool, RunEnd>
     ensures { IfOk result (λ faulted. IfSome (B.remaining reader.old)
-        (Ran (Closed strategy.now seats) (W.contents writer.old) (W.contents writer.new) faulted)) }
+        (Ran (Closed terms.now.strategy.now terms.now.seats) (W.contents writer.old)
+        (W.contents writer.new) faulted)) }
 {
     let mut faulted = false;
     for _ in 0..MOST_LINES {
         let Some(read) = lines.next(reader)? else {
             return Ok(faulted);
         };
-        match OpenBook::begin(alloc, strategy, seats, &read) {
-            Ok(opened) => {
-                say(Answer::Opened, writer)?;
-                let later = run_open(opened, lines, reader, writer)?;
+        match run_open::<Brand, B, W>(terms, Blanks::new(), &read, lines, reader, writer) {
+            Ok(end) => {
+                let later = end?;
                 return Ok(faulted | later);
             }
             Err(answer) => {
@@ -93,31 +93,57 @@ fn run<B: BufRead, W: Write>(
     Err(RunEnd::ReadFailed)
 }
 
-/// Answers each line after the opening, and lets all requests leave at the end.
-fn run_open<B: BufRead, W: Write>(
-    mut opened: OpenBook,
+/// Where the line opens a book, answers all later lines by it, and closes it however they end. Else
+/// gives the line's answer, and neither reads nor writes.
+fn run_open<N: Names, B: BufRead, W: Write>(
+    terms: &Terms,
+    blanks: Blanks,
+    read: &Result<Command, LineFault>,
+    lines: &mut ScriptLines,
+    reader: &mut B,
+    writer: &mut W,
+) -> Result<Result<bool, RunEnd>, Answer>
+    requires blanks { AreAllFor N.Names blanks }
+    requires seats { 1 ≤ terms.now.seats → terms.now.seats ≤ 8 → N.seats ≡ terms.now.seats }
+    ensures ok { IfOk result (λ end. IfOk end (λ faulted. (start : Stage)
+        × StepRead (Closed terms.now.strategy.now terms.now.seats) read.now (Said Opened) start
+        × IfSome (B.remaining reader.old)
+        (RanOpened start (W.contents writer.old) (W.contents writer.new) faulted))) }
+    ensures err { IfErr result
+        (λ answer. StepRead (Closed terms.now.strategy.now terms.now.seats) read.now
+        (Said answer) (Closed terms.now.strategy.now terms.now.seats)) }
+    ensures unchanged { OnErr result ((reader.new ≡ reader.old) × (writer.new ≡ writer.old)) }
+{
+    let mut opened = OpenBook::<N>::begin(terms, read, blanks)?;
+    let end = answer_opened(&mut opened, lines, reader, writer);
+    let _history = opened.close();
+    Ok(end)
+}
+
+/// Says that the book is open, and answers each later line by it.
+fn answer_opened<N: Names, B: BufRead, W: Write>(
+    opened: &mut OpenBook<N>,
     lines: &mut ScriptLines,
     reader: &mut B,
     writer: &mut W,
 ) -> Result<bool, RunEnd>
     ensures { IfOk result (λ faulted. IfSome (B.remaining reader.old)
-        (Ran (Running opened.book opened.seats.items) (W.contents writer.old)
+        (RanOpened (Running opened.old.book opened.old.seats) (W.contents writer.old)
         (W.contents writer.new) faulted)) }
 {
-    let end = answer_lines(&mut opened, lines, reader, writer);
-    opened.leave_all();
-    end
+    say(Answer::Opened, writer)?;
+    answer_lines(opened, lines, reader, writer)
 }
 
 /// Answers each line by the open book, up to the end or `quit`.
-fn answer_lines<B: BufRead, W: Write>(
-    opened: &mut OpenBook,
+fn answer_lines<N: Names, B: BufRead, W: Write>(
+    opened: &mut OpenBook<N>,
     lines: &mut ScriptLines,
     reader: &mut B,
     writer: &mut W,
 ) -> Result<bool, RunEnd>
     ensures { IfOk result (λ faulted. IfSome (B.remaining reader.old)
-        (Ran (Running opened.old.book opened.old.seats.items) (W.contents writer.old)
+        (Ran (Running opened.old.book opened.old.seats) (W.contents writer.old)
         (W.contents writer.new) faulted)) }
 {
     let mut faulted = false;

@@ -1,4 +1,4 @@
 //! The routing book.
 
 mod runs;
-mod samples;
+pub(crate) mod samples;

@@ -5,6 +5,8 @@
 #[cfg(test)]
 mod book;
 #[cfg(test)]
+mod desk;
+#[cfg(test)]
 mod history;
 #[cfg(test)]
 mod http;

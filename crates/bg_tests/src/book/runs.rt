@@ -1,32 +1,49 @@
 //! A list of calls.
-ghost use Rattle.bg_book.specs.Runs.{AreKnown, AreApart};
+ghost use Rattle.std.specs.Prelude.{◌≡◌, [], IfOk};
+ghost use Rattle.bg_history.specs.Requests.{open_requests};
+ghost use Rattle.bg_ledger.specs.Blanks.{AreAllFor};
 
 use super::samples::strategy;
-use bg_book::{Book, Call, Control, Left, Limits, Reply, Seat, Ticket};
+use bg_book::laws::lent;
+use bg_book::{Book, Call, Control, Left, Limits, Reply, Ticket};
+use bg_history::History;
+use bg_ledger::{Blanks, Names};
 use bg_revisions::Service;
 use std::alloc::Global;
+use std::marker::Brand;
 use std::test::Fail;
 
-/// A book and the seats at which calls are made.
-#[derive(Drop)]
-struct Room {
-    book: Book,
-    seats: Vec<Seat>,
-    ghost known: { AreKnown book seats.items },
-    ghost apart: { AreApart seats.items },
+/// Opens a book of four seats, makes the calls, and gathers. Answers the replies and the history.
+fn answer_all(alloc: Global, calls: &[Call]) -> Result<(Vec<Reply>, History), Fail>
+    ensures { IfOk result (λ r. open_requests r.1.past ≡ []) }
+{
+    run_calls::<Brand>(alloc, calls, Blanks::new())
 }
 
-impl Room {
-    fn open(alloc: Global) -> Result<Room, Fail> {
-        let strategy = strategy(alloc)?;
-        let usual = Limits::usual();
-        let (book, seats) = Book::open(alloc, &strategy, "v1", &[9001, 9002], 4, usual)?;
-        Ok(Room { book, seats })
-    }
-
-    fn run(&mut self, calls: &[Call]) -> Result<Vec<Reply>, Fail> {
-        Ok(self.book.run(&mut self.seats, calls)?)
-    }
+fn run_calls<N: Names>(
+    alloc: Global,
+    calls: &[Call],
+    blanks: Blanks,
+) -> Result<(Vec<Reply>, History), Fail>
+    requires blanks { AreAllFor N.Names blanks }
+    requires seats { N.seats ≡ 4 }
+    ensures { IfOk result (λ r. open_requests r.1.past ≡ []) }
+{
+    let strategy = strategy(alloc)?;
+    let usual = Limits::usual();
+    let (mut book, mut seats) = Book::<N>::open(
+        alloc,
+        &strategy,
+        "v1",
+        &[9001, 9002],
+        4,
+        usual,
+        blanks,
+    )?;
+    lent();
+    let answered = book.run(seats.as_mut_slice(), calls);
+    let history = book.close(seats);
+    Ok((answered?, history))
 }
 
 /// A request enters at seat 0.
@@ -43,8 +60,8 @@ fn answers_a_list_of_calls(rt: HostRuntime) -> Result<(), Fail> {
         revision: 1,
         size: 2,
     });
-    let mut room = Room::open(rt.alloc())?;
-    let replies = room.run(&[available, enter(), enter(), Call::Leave { seat: 0 }])?;
+    let calls = [available, enter(), enter(), Call::Leave { seat: 0 }];
+    let (replies, history) = answer_all(rt.alloc(), &calls)?;
     let entered = Reply::Entered(Ticket {
         number: 1,
         revision: 1,
@@ -56,5 +73,6 @@ fn answers_a_list_of_calls(rt: HostRuntime) -> Result<(), Fail> {
     });
     let want = [Reply::Done(0), entered, Reply::SeatBusy, left];
     assert_eq!(rt; replies.as_slice(), want.as_slice());
+    assert_eq!(rt; history.len(), 3);
     Ok(())
 }

@@ -3,7 +3,7 @@ use bg_strategy::{Strategy, StrategyFault, read};
 use std::alloc::Global;
 
 /// Two replicas, and no preview service.
-pub(super) fn strategy(alloc: Global) -> Result<Strategy, StrategyFault> {
+pub(crate) fn strategy(alloc: Global) -> Result<Strategy, StrategyFault> {
     read(
         alloc,
         br#"{"spec": {"replicas": 2, "strategy": {"blueGreen": {"activeService": "web"}}}}"#,

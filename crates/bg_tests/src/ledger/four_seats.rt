@@ -70,7 +70,7 @@ fn work<N: Names, R: Wait>(rt: &R, records: &Mutex<Records<N>>, seat: &mut Seat<
 }
 
 /// Works two seats in each of two threads.
-fn work_in_two_threads<N: Names, R: Threads + Wait + Sync>(
+fn work_in_two_threads<N: Names + Send + Sync, R: Threads + Wait + Sync>(
     rt: &R,
     records: &Mutex<Records<N>>,
     seats: &mut Seats<N>,
@@ -109,7 +109,7 @@ fn work_in_two_threads<N: Names, R: Threads + Wait + Sync>(
 }
 
 /// Pairs four seats, works them and reunites them. Answers the calls of each.
-fn work_four_seats<N: Names, R: Threads + Wait + Sync>(
+fn work_four_seats<N: Names + Send + Sync, R: Threads + Wait + Sync>(
     rt: &R,
     blanks: Blanks,
     few: u32,

@@ -4,6 +4,6 @@ use Rattle.bg_book.proofs.Headlines.{headline_of}
 use Rattle.bg_book.proofs.laws.headline.Goals as goal
 
 pub returns : goal.returns
-returns c =
+returns g c =
     let b = c.book.inside.rollout.routing in
     subst Headline c.book.view_is (headline_of b c.stands.ensures (c.reachable.ensures b.strategy b.opening b.past c.stands.ensures.legal.allowed) c.book.invariant.settled)

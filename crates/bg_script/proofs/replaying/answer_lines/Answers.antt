@@ -6,9 +6,9 @@ use Rattle.bg_script.proofs.replaying.answer_lines.Goals as goal
 
 pub loop-preserved : goal.loop-preserved
 loop-preserved g c =
-    let start = Running c.args.opened.now.book c.args.opened.now.seats.items in
-    let stage = Running c.loop.opened.book c.loop.opened.seats.items in
-    let next = Running c.serve.new.self.book c.serve.new.self.seats.items in
+    let start = Running c.args.opened.now.book c.args.opened.now.seats in
+    let stage = Running c.loop.opened.book c.loop.opened.seats in
+    let next = Running c.serve.new.self.book c.serve.new.self.seats in
     let first = g.W.Write.contents c.args.writer.now in
     let now = g.W.Write.contents c.loop.writer in
     let new = g.W.Write.contents c.serve.new.writer in
@@ -21,8 +21,8 @@ loop-preserved g c =
 
 pub returns-in_default : goal.returns-in_default
 returns-in_default g c =
-    let start = Running c.args.opened.now.book c.args.opened.now.seats.items in
-    let stage = Running c.loop.opened.book c.loop.opened.seats.items in
+    let start = Running c.args.opened.now.book c.args.opened.now.seats in
+    let stage = Running c.loop.opened.book c.loop.opened.seats in
     let first = g.W.Write.contents c.args.writer.now in
     let now = g.W.Write.contents c.loop.writer in
     let faulted = c.loop.faulted in

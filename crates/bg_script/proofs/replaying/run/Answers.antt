@@ -1,12 +1,15 @@
-use Rattle.std.proofs.Common.{◌||◌}
+use Rattle.std.proofs.Common.{◌||◌, ℕ, Bool, List, Some, IfOk, IfSome, sym, subst}
+use Rattle.bg_operator.specs.Reading.{Known}
 use Rattle.bg_operator.specs.ScriptLines.{NextIs}
-use Rattle.bg_script.specs.Scripts.{Ran, Closed, Running, Said}
-use Rattle.bg_script.proofs.ScriptSteps.{Goes, goes_on, goes_open, goes_to_end, goes_through, Known-both, Known-some, Known-then}
+use Rattle.bg_script.specs.declared.answer.Answer.TheVariants.{Opened}
+use Rattle.bg_script.specs.Scripts.{Stage, Ran, Closed, Said}
+use Rattle.bg_script.specs.Serving.{RanOpened, StepRead, Wrote}
+use Rattle.bg_script.proofs.ScriptSteps.{Goes, goes_on, goes_opened, goes_to_end, Known-both, Known-some, Known-then}
 use Rattle.bg_script.proofs.replaying.run.Goals as goal
 
 pub returns-in_default : goal.returns-in_default
 returns-in_default g c =
-    let start = Closed c.args.strategy.now c.args.seats in
+    let start = Closed c.args.terms.now.strategy.now c.args.terms.now.seats in
     let first = g.W.Write.contents c.args.writer.now in
     let now = g.W.Write.contents c.loop.writer in
     let faulted = c.loop.faulted in
@@ -16,32 +19,37 @@ returns-in_default g c =
 
 pub returns-in-Ok : goal.returns-in-Ok
 returns-in-Ok g c =
-    let start = Closed c.args.strategy.now c.args.seats in
-    let next = Running c.in-Ok.opened.book c.in-Ok.opened.seats.items in
+    let start = Closed c.args.terms.now.strategy.now c.args.terms.now.seats in
     let first = g.W.Write.contents c.args.writer.now in
     let now = g.W.Write.contents c.loop.writer in
-    let mid = g.W.Write.contents c.say.new.writer in
     let last = g.W.Write.contents c.run_open.new.writer in
     let faulted = c.loop.faulted in
     let later = c.in_ok-later-in-Ok.later in
-    Known-then (Goes start first mid next faulted) (Ran next mid last later) (Ran start first last (faulted || later)) _ _
-    (λ xs ys p r. goes_through start next first mid last faulted later xs ys p r)
-    (Known-both (Goes start first now start faulted) (NextIs c.in_ok-read.field-0) (Goes start first mid next faulted) _ _ _
-    (λ xs ys zs p q.
-    goes_open start start next first now mid faulted c.in_ok-say-in-Ok.field-0 c.in-Some.read xs ys zs p (rw c.in-Some.is at q) c.in-Ok.ensures.ok c.in_ok-say-in-Ok.ensures)
-    c.loop.invariant c.in_ok-read.ensures)
-    c.in_ok-later-in-Ok.ensures
+    let Told = λ (t : Bool). (next : Stage) × StepRead start c.in-Some.read (Said Opened) next × IfSome (g.B.Read.remaining c.next.new.reader) (RanOpened next now last t) in
+    let told : Told later = subst (λ e. IfOk e Told) c.in_ok-later-in-Ok.was c.in-Ok.ensures.ok in
+    let next = told.0 in
+    let line = Known-both (Goes start first now start faulted) (NextIs c.in_ok-read.field-0) (λ xs zs. (ys : List ℕ) × Goes start first now start faulted xs ys × NextIs (Some c.in-Some.read) ys zs) _ _ _
+    (λ xs ys zs p q. (ys, p, rw c.in-Some.is at q))
+    c.loop.invariant c.in_ok-read.ensures in
+    Known-then (λ xs zs. (ys : List ℕ) × Goes start first now start faulted xs ys × NextIs (Some c.in-Some.read) ys zs) (RanOpened next now last later) (Ran start first last (faulted || later)) _ _
+    (λ xs zs p r. goes_opened start start next first now last faulted later c.in-Some.read xs p.0 zs p.1 p.2 told.1 r)
+    line told.2
 
 pub loop-preserved : goal.loop-preserved
 loop-preserved g c =
-    let start = Closed c.args.strategy.now c.args.seats in
+    let start = Closed c.args.terms.now.strategy.now c.args.terms.now.seats in
     let first = g.W.Write.contents c.args.writer.now in
     let now = g.W.Write.contents c.loop.writer in
-    let new = g.W.Write.contents c.say-in-Err.new.writer in
+    let new = g.W.Write.contents c.say.new.writer in
     let faulted = c.loop.faulted in
     let fault = c.in_ok-fault-in-Err.fault in
-    Known-both (Goes start first now start faulted) (NextIs c.in_ok-read.field-0) (Goes start first new start (faulted || fault)) _ _ _
+    let answer = c.in-Err.answer in
+    let kept = c.in-Err.ensures.unchanged in
+    let wrote : Wrote (Said answer) now new fault =
+    subst (λ w. Wrote (Said answer) (g.W.Write.contents w) new fault) kept.1 c.in_ok-fault-in-Err.ensures in
+    subst (λ r. Known (g.B.Read.remaining c.args.reader.now) (g.B.Read.remaining r) (Goes start first new start (faulted || fault))) (sym kept.0)
+    (Known-both (Goes start first now start faulted) (NextIs c.in_ok-read.field-0) (Goes start first new start (faulted || fault)) _ _ _
     (λ xs ys zs p q.
     goes_on start start start first now new faulted fault c.in-Some.read xs ys zs p (rw c.in-Some.is at q)
-    (record { written = Said c.in-Err.answer; step = c.in-Err.ensures.err; wrote = c.in_ok-fault-in-Err.ensures }))
-    c.loop.invariant c.in_ok-read.ensures
+    (record { written = Said answer; step = c.in-Err.ensures.err; wrote = wrote }))
+    c.loop.invariant c.in_ok-read.ensures)

@@ -1,21 +1,17 @@
-use Rattle.std.proofs.Common.{List, ap, ◌∙◌}
-use Rattle.bg_strategy.specs.declared.strategy.Strategy.{Strategy}
-use Rattle.bg_book.specs.declared.seat.Seat.{Seat}
-use Rattle.bg_book.specs.Changes.{opened}
-use Rattle.bg_book.specs.Invariant.{Midway}
-use Rattle.bg_book.proofs.FirstSeats.{known_first, apart_first}
-use Rattle.bg_book.proofs.Openings.{new_seats_same}
+use Rattle.std.proofs.Common.{ℕ, ap, ◌∙◌}
+use Rattle.bg_book.specs.Gathering.{are_all}
+use Rattle.bg_book.proofs.Openings.{fits, in_range}
+use Rattle.bg_book.proofs.Order.{new_in_order}
 use Rattle.bg_book.proofs.book.Book.build.Goals as goal
 
-pub returns-clause-book : goal.returns-clause-book
-returns-clause-book c =
-    let made = c.in_ok-rollout.ensures.ok in
-    ap (λ (m : Midway). m.routing) made.2
-    ∙ ap (λ (s : Strategy). opened s c.args.name.now c.args.ports.now c.args.seats c.args.limits made.0) c.in_ok-strategy.ensures.cases
-    ∙ ap (λ (seats : List Seat). opened c.args.strategy.now c.args.name.now c.args.ports.now c.args.seats c.args.limits seats) (new_seats_same _ _ _ made.1 c.in_ok-handed_out.ensures)
+pub open-requires-clause-seats : goal.open-requires-clause-seats
+open-requires-clause-seats g c =
+    let fit = fits c.args.strategy.now c.args.name.now c.args.ports.now c.args.seats c.args.limits c.requires.fits in
+    let range = in_range c.args.seats fit.seats_fit in
+    c.requires.seats range.0 range.1
 
-pub returns-clause-known : goal.returns-clause-known
-returns-clause-known c = known_first _ _ _ _ _ _ _ (returns-clause-book c) c.in_ok-handed_out.ensures
-
-pub returns-clause-apart : goal.returns-clause-apart
-returns-clause-apart c = apart_first _ _ c.in_ok-handed_out.ensures
+pub returns-clause-all : goal.returns-clause-all
+returns-clause-all g c =
+    let fit = fits c.args.strategy.now c.args.name.now c.args.ports.now c.args.seats c.args.limits c.requires.fits in
+    let range = in_range c.args.seats fit.seats_fit in
+    ap (λ (n : ℕ). are_all n c.in_ok-rollout.handed_out.items) (c.requires.seats range.0 range.1) ∙ new_in_order c.args.seats _ c.in_ok-rollout.ensures.seats

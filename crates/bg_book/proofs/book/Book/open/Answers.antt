@@ -3,4 +3,4 @@ use Rattle.bg_book.proofs.Openings.{answers_by_memory}
 use Rattle.bg_book.proofs.book.Book.open.Goals as goal
 
 pub returns-clause-refusal : goal.returns-clause-refusal
-returns-clause-refusal c = answers_by_memory _ _ (sym c.opening_fault.ensures ∙ c.in_default.is) c.build.ensures.err
+returns-clause-refusal g c = answers_by_memory _ _ (sym c.opening_fault.ensures ∙ c.in_default.is) c.build.ensures.err

@@ -1,9 +1,8 @@
-use Rattle.std.proofs.Common.{◌≡◌, ◌≤◌, ◌+◌, ◌∷◌, ◌++◌, [], ℕ, None, length, slice_set, get_or, refl, subst, sym, ap, ◌∙◌, arith}
-use Rattle.std.proofs.lemmas.Option.{slice_get_within}
+use Rattle.std.proofs.Common.{◌≡◌, ◌≤◌, ◌+◌, ◌∷◌, ◌++◌, [], ℕ, None, length, slice_set, refl, subst, sym, ap, ◌∙◌}
 use Rattle.bg_revisions.specs.declared.revision.Service.{Service}
 use Rattle.bg_pasts.specs.Reachable.{Reachable}
 use Rattle.bg_book.specs.declared.calls.Ticket.{Ticket}
-use Rattle.bg_book.specs.declared.seat.Seat.{Seat}
+use Rattle.bg_ledger.specs.declared.holding.Holding.{Holding}
 use Rattle.bg_book.specs.OpenLists.{changed}
 use Rattle.bg_book.specs.Changes.{enter_entry, seat_in, with_past}
 use Rattle.bg_book.specs.Refusals.{enter_refusal, IsTicket}
@@ -13,7 +12,8 @@ use Rattle.bg_book.proofs.Lists.{has_list}
 use Rattle.bg_book.proofs.Entering.{lists_entered, stands_entered}
 use Rattle.bg_book.proofs.Offers.{selected_exists}
 use Rattle.bg_book.proofs.Seated.{known_inside, routing_seated}
-use Rattle.bg_book.proofs.Seating.{seat_read, few_calls}
+use Rattle.bg_book.proofs.Seating.{few_calls}
+use Rattle.bg_book.proofs.rollout.Rollout.admit.Given.{Over}
 use Rattle.bg_book.proofs.rollout.Rollout.admit.Goals as goal
 use Rattle.bg_book.proofs.rollout.Rollout.admit.Goals.{After-push_reserved}
 
@@ -26,80 +26,62 @@ accepted_inside : (inside now : Midway) (service : Service) (t : Ticket) → ins
 accepted_inside inside now service t is none ticket = subst (λ (m : Midway). (enter_refusal m.routing service ≡ None) × IsTicket m.routing service t) (sym is) (none, ticket)
 
 pub append-requires : goal.append-requires
-append-requires c =
+append-requires g c =
     let b = (midway_of c.self.inside).routing in
     let stand : Stands b (running_of c.self.inside) = c.self.invariant in
     let reach : Reachable b.strategy b.opening b.past = c.reachable.ensures b.strategy b.opening b.past stand.routing.legal.allowed in
     let ok = accepted_inside _ _ c.args.service c.args.ticket c.self.view_is c.requires.accepted c.requires.ticket in
     has_list b.past c.self.inside.lists _ stand.routing.lists (selected_exists b.strategy b.opening b.past c.args.service c.args.ticket.revision reach ok.1.revision_is)
 
-pub index_mut-requires : goal.index_mut-requires
-index_mut-requires c =
-    let known = known_inside _ _ c.args.seat.now c.self.view_is c.requires.known in
-    let within = slice_get_within c.self.inside.seats.items c.args.seat.now.index c.args.seat.now known in
-    let at : c.index-index.result ≡ c.args.seat.now.index = c.index-index.ensures in
-    omega (arith, within, at, c.self.inside.seats.ok.0)
-
-pub take-requires : goal.take-requires
-take-requires c =
-    let b = (midway_of c.self.inside).routing in
-    let known = known_inside _ _ c.args.seat.now c.self.view_is c.requires.known in
-    let stand : Stands b (running_of c.self.inside) = c.self.invariant in
-    let read : c.index_mut.result.now ≡ get_or c.self.inside.seats.items c.index-index.result c.index_mut.result.now = c.index_mut.ensures.value in
-    let same : c.index_mut.result.now ≡ c.args.seat.now = seat_read _ _ _ c.args.seat.now _ known c.index-index.ensures read in
-    rw same (few_calls b c.args.seat.now stand.routing (short_inside _ _ c.self.view_is c.requires.short) known)
-
-pub take-requires-2 : goal.take-requires-2
-take-requires-2 c =
+pub enter-requires-clause-calls : goal.enter-requires-clause-calls
+enter-requires-clause-calls g c =
     let b = (midway_of c.self.inside).routing in
     let stand : Stands b (running_of c.self.inside) = c.self.invariant in
     few_calls b c.args.seat.now stand.routing (short_inside _ _ c.self.view_is c.requires.short) (known_inside _ _ c.args.seat.now c.self.view_is c.requires.known)
 
 -- the routing as the code leaves it
-entered : (c : After-push_reserved) → record (midway_of c.self.inside).routing {
+entered : (g : Over) (c : After-push_reserved g) → record (midway_of c.self.inside).routing {
   opening = c.push_reserved.new.self.opening;
   closed = c.push_reserved.new.self.closed;
   past = c.push_reserved.new.self.past;
   lists = c.append.new.self;
-  seats = slice_set c.self.inside.seats.items c.index-index.result c.take.new.self;
+  seats = slice_set c.self.inside.records.items c.index-index.result c.enter.new.self;
 }
     ≡ with_past (midway_of c.self.inside).routing (enter_entry c.args.seat.now.index c.args.service c.args.ticket ∷ c.self.inside.history.past)
-    (slice_set c.self.inside.seats.items c.args.seat.now.index (seat_in c.args.seat.now c.args.ticket))
-entered c =
+    (slice_set c.self.inside.records.items c.args.seat.now.index (seat_in c.args.seat.now c.args.ticket))
+entered g c =
     let b = (midway_of c.self.inside).routing in
     let stand : Stands b (running_of c.self.inside) = c.self.invariant in
     let seat = c.args.seat.now in
     let t = c.args.ticket in
     let known = known_inside _ _ seat c.self.view_is c.requires.known in
-    let at : c.index-index.result ≡ seat.index = c.index-index.ensures in
+    let at : c.index-index.result ≡ seat.index = c.index-index.ensures.index in
     let pushed : c.push_reserved.new.self ≡ record c.self.inside.history { past = enter_entry seat.index c.args.service t ∷ b.past; spare = c.push_reserved.new.self.spare } =
     subst (λ (n : ℕ). c.push_reserved.new.self ≡ record c.self.inside.history { past = enter_entry n c.args.service t ∷ b.past; spare = c.push_reserved.new.self.spare }) at c.push_reserved.ensures.entry in
-    let read : c.index_mut.result.now ≡ get_or b.seats c.index-index.result c.index_mut.result.now = c.index_mut.ensures.value in
-    let same : c.index_mut.result.now ≡ seat = seat_read _ _ _ seat _ known c.index-index.ensures read in
-    let taken : c.take.new.self ≡ seat_in c.index_mut.result.now t = c.take.ensures in
+    let held : c.enter.new.self ≡ seat_in seat t = c.enter.ensures.own ∙ c.enter.ensures.seat in
     let appended : c.append.new.self ≡ changed t.revision (λ requests. requests ++ record { seat = c.index-index.result; number = t.number } ∷ []) b.lists = c.in_ok-append.ensures.ok in
     routing_seated b (enter_entry seat.index c.args.service t) _ _ _ c.push_reserved.new.self c.self.inside.history refl pushed
     (lists_entered b seat c.args.service t _ stand.routing (c.existing_ascends.ensures b.past)
     (appended ∙ ap (λ (n : ℕ). changed t.revision (λ requests. requests ++ record { seat = n; number = t.number } ∷ []) b.lists) at))
-    (ap (λ (n : ℕ). slice_set b.seats n c.take.new.self) at ∙ ap (λ (v : Seat). slice_set b.seats seat.index v) (taken ∙ ap (λ (v : Seat). seat_in v t) same))
+    (ap (λ (n : ℕ). slice_set b.seats n c.enter.new.self) at ∙ ap (λ (v : Holding). slice_set b.seats seat.index v) held)
 
 pub invariant_of-self-2 : goal.invariant_of-self-2
-invariant_of-self-2 c =
+invariant_of-self-2 g c =
     let b = (midway_of c.self.inside).routing in
     let k = running_of c.self.inside in
     let stand : Stands b k = c.self.invariant in
     let seat = c.args.seat.now in
     let t = c.args.ticket in
     let ok = accepted_inside _ _ c.args.service t c.self.view_is c.requires.accepted c.requires.ticket in
-    subst (λ (v : Routing). Stands v (record k { given = t.number; open_requests = k.open_requests + 1 })) (sym (entered c))
+    subst (λ (v : Routing). Stands v (record k { given = t.number; open_requests = k.open_requests + 1 })) (sym (entered g c))
     (stands_entered b k c.args.service t seat stand (c.neutral.ensures _ _ _ refl stand.core) ok.0 ok.1 (known_inside _ _ seat c.self.view_is c.requires.known) c.requires.out)
 
 -- the same of the rollout as it was
-entered_now : (inside now : Midway) (new : Routing) (seat : Seat) (service : Service) (t : Ticket) → inside ≡ now
+entered_now : (inside now : Midway) (new : Routing) (seat : Holding) (service : Service) (t : Ticket) → inside ≡ now
     → new ≡ with_past inside.routing (enter_entry seat.index service t ∷ inside.routing.past) (slice_set inside.routing.seats seat.index (seat_in seat t))
     → new ≡ with_past now.routing (enter_entry seat.index service t ∷ now.routing.past) (slice_set now.routing.seats seat.index (seat_in seat t))
 entered_now inside now new seat service t is made =
     subst (λ (m : Midway). new ≡ with_past m.routing (enter_entry seat.index service t ∷ m.routing.past) (slice_set m.routing.seats seat.index (seat_in seat t))) is made
 
 pub returns-clause-routing : goal.returns-clause-routing
-returns-clause-routing c = entered_now _ _ _ c.args.seat.now c.args.service c.args.ticket c.self.view_is (entered c)
+returns-clause-routing g c = entered_now _ _ _ c.args.seat.now c.args.service c.args.ticket c.self.view_is (entered g c)

@@ -8,4 +8,4 @@ short_inside : (inside now : Midway) → inside ≡ now → length now.routing.p
 short_inside inside now is short = subst (λ (m : Midway). length m.routing.past + 3 * all_open m.routing.past ≤ 1000000) (sym is) short
 
 pub overflow_add-len : goal.overflow_add-len
-overflow_add-len c = omega (arith, short_inside _ _ c.self.view_is c.requires, c.len.ensures)
+overflow_add-len g c = omega (arith, short_inside _ _ c.self.view_is c.requires, c.len.ensures)

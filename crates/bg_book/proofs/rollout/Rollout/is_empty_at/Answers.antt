@@ -13,7 +13,7 @@ none_is_empty [] = refl
 none_is_empty (x ∷ xs) = grind (arith, nat_tests)
 
 pub returns : goal.returns
-returns c =
+returns g c =
     let b = (midway_of c.self.inside).routing in
     let stand : Stands b (running_of c.self.inside) = c.self.invariant in
     let reach : Reachable b.strategy b.opening b.past = c.reachable.ensures b.strategy b.opening b.past stand.routing.legal.allowed in

@@ -25,7 +25,7 @@ some_copied None v h = absurd (cc)
 some_copied (Some x) v h = refl
 
 -- the newest revision is found
-newest_found : (inside : Inside) (x : Selectors) (found : Option Revision) → Stands (midway_of inside).routing (running_of inside)
+newest_found : {N : Type 0} (inside : Inside N) (x : Selectors) (found : Option Revision) → Stands (midway_of inside).routing (running_of inside)
     → Reachable inside.strategy inside.history.opening inside.history.past → x ≡ selectors_of inside.history.past → found ≡ numbered x.newest inside.roster.revisions
     → numbered (newest_of inside.history.past) (revisions_of inside.strategy inside.history.opening inside.history.past)
     ≡ cond (exists_in (newest_of inside.history.past) inside.history.past) (Some (revision_of inside.strategy inside.history.opening inside.history.past (newest_of inside.history.past))) None
@@ -35,7 +35,7 @@ newest_found inside x found stand reach selected is finds =
     ∙ found_there inside.strategy inside.history.opening inside.history.past (newest_of inside.history.past) _ stand.revisions finds reach.newest
 
 pub unwrap-newest-requires : goal.unwrap-newest-requires
-unwrap-newest-requires c =
+unwrap-newest-requires g c =
     let b = (midway_of c.self.inside).routing in
     let stand : Stands b (running_of c.self.inside) = c.self.invariant in
     let reach = c.reachable.ensures b.strategy b.opening b.past stand.routing.legal.allowed in
@@ -52,7 +52,7 @@ first_now : (inside now : Midway) (x : Option Outcome) → inside ≡ now → x 
 first_now inside now x is h = subst (λ (m : Midway). x ≡ first_allowed m.routing.strategy m.routing.past) is h
 
 -- what is next, where no step is
-next_now : (inside : Inside) (now : Midway) (x y : Option ℕ) (newest : Revision) (found : Option Revision) (step : Option Outcome) → midway_of inside ≡ now → Stands (midway_of inside).routing (running_of inside)
+next_now : {N : Type 0} (inside : Inside N) (now : Midway) (x y : Option ℕ) (newest : Revision) (found : Option Revision) (step : Option Outcome) → midway_of inside ≡ now → Stands (midway_of inside).routing (running_of inside)
     → found ≡ Some (revision_of inside.strategy inside.history.opening inside.history.past (newest_of inside.history.past)) → found ≡ Some newest → step ≡ None
     → (newest.available ≡ available (newest_of inside.history.past) inside.history.past → step ≡ first_promotion inside.strategy inside.history.past)
     → x ≡ find (λ r. may_scale_down inside.strategy r inside.history.past) (existing inside.history.past)
@@ -66,7 +66,7 @@ next_now inside now x y newest found step is stand was here none promotion due r
     (subst (λ (m : Midway). y ≡ find (λ r. may_remove m.routing.strategy r m.routing.past) (existing m.routing.past)) (sym is) removed))
 
 pub returns-in-Some-due : goal.returns-in-Some-due
-returns-in-Some-due c =
+returns-in-Some-due g c =
     let b = (midway_of c.self.inside).routing in
     let stand : Stands b (running_of c.self.inside) = c.self.invariant in
     let reach = c.reachable.ensures b.strategy b.opening b.past stand.routing.legal.allowed in
@@ -79,7 +79,7 @@ returns-in-Some-due c =
     (λ there. c.next_outcome.ensures b.strategy b.past stand.core there stand.moment) (sym c.in-Some-due.is ∙ due) refl
 
 pub returns-in-Some-next_removed : goal.returns-in-Some-next_removed
-returns-in-Some-next_removed c =
+returns-in-Some-next_removed g c =
     let b = (midway_of c.self.inside).routing in
     let stand : Stands b (running_of c.self.inside) = c.self.invariant in
     let reach = c.reachable.ensures b.strategy b.opening b.past stand.routing.legal.allowed in
@@ -92,7 +92,7 @@ returns-in-Some-next_removed c =
     (λ there. c.next_outcome.ensures b.strategy b.past stand.core there stand.moment) (sym c.in_default-due.is ∙ due) c.in-Some-next_removed.ensures
 
 pub returns-in-None : goal.returns-in-None
-returns-in-None c =
+returns-in-None g c =
     let b = (midway_of c.self.inside).routing in
     let stand : Stands b (running_of c.self.inside) = c.self.invariant in
     let reach = c.reachable.ensures b.strategy b.opening b.past stand.routing.legal.allowed in

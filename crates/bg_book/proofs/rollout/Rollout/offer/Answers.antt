@@ -25,7 +25,7 @@ some_copied None v h = absurd (cc)
 some_copied (Some x) v h = refl
 
 pub unwrap-revision-requires : goal.unwrap-revision-requires
-unwrap-revision-requires c =
+unwrap-revision-requires g c =
     let b = (midway_of c.self.inside).routing in
     let stand : Stands b (running_of c.self.inside) = c.self.invariant in
     let reach : Reachable b.strategy b.opening b.past = c.reachable.ensures b.strategy b.opening b.past stand.routing.legal.allowed in
@@ -36,7 +36,7 @@ unwrap-revision-requires c =
     ∙ found_there b.strategy b.opening b.past r _ stand.revisions (c.finds.ensures.number b.strategy b.opening b.past r) (selected_exists b.strategy b.opening b.past c.args.service r reach selected))
 
 -- the revision that was found has what the past says
-offered : (inside : Rattle.bg_book.specs.declared.rollout.Rollout.TheInside.Inside) (r : ℕ) (v : Revision) → Stands (midway_of inside).routing (running_of inside) → numbered r inside.roster.revisions ≡ Some (revision_of inside.strategy inside.history.opening inside.history.past r)
+offered : {N : Type 0} (inside : Rattle.bg_book.specs.declared.rollout.Rollout.TheInside.Inside N) (r : ℕ) (v : Revision) → Stands (midway_of inside).routing (running_of inside) → numbered r inside.roster.revisions ≡ Some (revision_of inside.strategy inside.history.opening inside.history.past r)
     → numbered r inside.roster.revisions ≡ Some v → v ≡ revision_of inside.strategy inside.history.opening inside.history.past r
 offered inside r v stand was found = same_Some _ _ (sym found ∙ was)
 
@@ -45,7 +45,7 @@ refused_now : (inside now : Midway) (service : Service) (f : EnterFault) → ins
 refused_now inside now service f is h = subst (λ (m : Midway). enter_refusal m.routing service ≡ Some f) is h
 
 pub returns-then-revision-eq0 : goal.returns-then-revision-eq0
-returns-then-revision-eq0 c =
+returns-then-revision-eq0 g c =
     let b = (midway_of c.self.inside).routing in
     let stand : Stands b (running_of c.self.inside) = c.self.invariant in
     let reach : Reachable b.strategy b.opening b.past = c.reachable.ensures b.strategy b.opening b.past stand.routing.legal.allowed in
@@ -59,7 +59,7 @@ returns-then-revision-eq0 c =
     refused_now _ _ c.args.service _ c.self.view_is (refused_endpoints b c.args.service r selected (sym size ∙ c.if-revision-eq0.true))
 
 pub returns-then-self : goal.returns-then-self
-returns-then-self c =
+returns-then-self g c =
     let b = (midway_of c.self.inside).routing in
     let stand : Stands b (running_of c.self.inside) = c.self.invariant in
     let reach : Reachable b.strategy b.opening b.past = c.reachable.ensures b.strategy b.opening b.past stand.routing.legal.allowed in
@@ -73,7 +73,7 @@ returns-then-self c =
     refused_now _ _ c.args.service _ c.self.view_is (refused_numbers b c.args.service r selected (λ e. c.if-revision-eq0.false (size ∙ e)) (omega (arith, stand.given, c.if-self.true)))
 
 pub returns-then-len-places_kept : goal.returns-then-len-places_kept
-returns-then-len-places_kept c =
+returns-then-len-places_kept g c =
     let b = (midway_of c.self.inside).routing in
     let stand : Stands b (running_of c.self.inside) = c.self.invariant in
     let reach : Reachable b.strategy b.opening b.past = c.reachable.ensures b.strategy b.opening b.past stand.routing.legal.allowed in
@@ -89,7 +89,7 @@ returns-then-len-places_kept c =
     (refused_full b c.args.service r selected (λ e. c.if-revision-eq0.false (size ∙ e)) (omega (arith, stand.given, c.if-self.false)) (omega (arith, kept, c.len.ensures, c.if-len-places_kept.true)))
 
 pub bounds-get-turn : goal.bounds-get-turn
-bounds-get-turn c =
+bounds-get-turn g c =
     let b = (midway_of c.self.inside).routing in
     let stand : Stands b (running_of c.self.inside) = c.self.invariant in
     let reach : Reachable b.strategy b.opening b.past = c.reachable.ensures b.strategy b.opening b.past stand.routing.legal.allowed in
@@ -113,7 +113,7 @@ ticket_now : (inside now : Midway) (service : Service) (t : Ticket) → inside �
 ticket_now inside now service t is h = subst (λ (m : Midway). (enter_refusal m.routing service ≡ None) × IsTicket m.routing service t) is h
 
 pub returns : goal.returns
-returns c =
+returns g c =
     let b = (midway_of c.self.inside).routing in
     let stand : Stands b (running_of c.self.inside) = c.self.invariant in
     let reach : Reachable b.strategy b.opening b.past = c.reachable.ensures b.strategy b.opening b.past stand.routing.legal.allowed in

@@ -7,7 +7,7 @@ use Rattle.bg_book.proofs.Lists.{list_counts}
 use Rattle.bg_book.proofs.rollout.Rollout.open_count.Goals as goal
 
 pub returns : goal.returns
-returns c =
+returns g c =
     let b = (midway_of c.self.inside).routing in
     let stand : Stands b (running_of c.self.inside) = c.self.invariant in
     let reach : Reachable b.strategy b.opening b.past = c.reachable.ensures b.strategy b.opening b.past stand.routing.legal.allowed in

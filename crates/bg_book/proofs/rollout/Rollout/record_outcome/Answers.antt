@@ -29,6 +29,7 @@ use Rattle.bg_book.proofs.Requests.{and_parts}
 use Rattle.bg_book.proofs.Lists.{lists-Removed}
 use Rattle.bg_book.proofs.Outcomes.{first_is_allowed, step_is_first, no_step_is_neutral, resumed_is_newest, scaled_down_exists, removed_was}
 use Rattle.bg_book.proofs.Carrying.{Carries, stands_recorded, recorded_by, recorded_left}
+use Rattle.bg_book.proofs.rollout.Rollout.record_outcome.Given.{Over}
 use Rattle.bg_book.proofs.rollout.Rollout.record_outcome.Goals as goal
 use Rattle.bg_book.proofs.rollout.Rollout.record_outcome.Goals.{After-push_reserved, in-Resumed, in-ScaledDown, in-Removed, in-Ready, in-Switched, in-Promoted}
 
@@ -37,7 +38,7 @@ first_inside : (inside now : Midway) (x : Outcome) → inside ≡ now → first_
 first_inside inside now x is first = subst (λ (m : Midway). first_allowed m.routing.strategy m.routing.past ≡ Some x) (sym is) first
 
 pub record-requires-clause-room : goal.record-requires-clause-room
-record-requires-clause-room c =
+record-requires-clause-room g c =
     let b = (midway_of c.self.inside).routing in
     let stand : Stands b (running_of c.self.inside) = c.self.invariant in
     let reach : Reachable b.strategy b.opening b.past = c.reachable.ensures b.strategy b.opening b.past stand.routing.legal.allowed in
@@ -48,7 +49,7 @@ some_is : (x : Option Revision) (v : Revision) → x ≡ Some v → IsSome x
 some_is x v h = rw h refl
 
 pub set_desired-requires : goal.set_desired-requires
-set_desired-requires c =
+set_desired-requires g c =
     let b = (midway_of c.self.inside).routing in
     let stand : Stands b (running_of c.self.inside) = c.self.invariant in
     let reach : Reachable b.strategy b.opening b.past = c.reachable.ensures b.strategy b.opening b.past stand.routing.legal.allowed in
@@ -58,7 +59,7 @@ set_desired-requires c =
     some_is _ _ (found_there b.strategy b.opening b.past r _ stand.revisions (c.finds.ensures.number b.strategy b.opening b.past r) (ap (λ (q : ℕ). exists_in q b.past) newest ∙ reach.newest))
 
 pub set_desired-requires-in-ScaledDown : goal.set_desired-requires-in-ScaledDown
-set_desired-requires-in-ScaledDown c =
+set_desired-requires-in-ScaledDown g c =
     let b = (midway_of c.self.inside).routing in
     let stand : Stands b (running_of c.self.inside) = c.self.invariant in
     let r = c.in-ScaledDown.revision in
@@ -72,7 +73,7 @@ no_size x s o past r h unscaled =
     rw h (wants s o past r ∙ none)
 
 pub remove-requires : goal.remove-requires
-remove-requires c =
+remove-requires g c =
     let b = (midway_of c.self.inside).routing in
     let stand : Stands b (running_of c.self.inside) = c.self.invariant in
     let r = c.in-Removed.revision in
@@ -81,14 +82,14 @@ remove-requires c =
     no_size _ b.strategy b.opening b.past r (found_there b.strategy b.opening b.past r _ stand.revisions (c.finds.ensures.number b.strategy b.opening b.past r) was.0) was.1
 
 -- the roster and the lists after the outcome
-record Followed (inside : Inside) (x : Outcome) (roster : Listing) (kept : List OpenAt) : Type 0 where
+record Followed {N : Type 0} (inside : Inside N) (x : Outcome) (roster : Listing) (kept : List OpenAt) : Type 0 where
   revisions : roster.revisions ≡ revisions_of inside.strategy inside.history.opening (entry.Outcome x ∷ inside.history.past)
   replicas : roster.replicas ≡ inside.roster.replicas
   last : roster.last ≡ inside.roster.last
   lists : kept ≡ lists_of (entry.Outcome x ∷ inside.history.past)
 
 -- the outcome changes the size of one revision
-resized_by : (inside : Inside) (x v : Outcome) (r n : ℕ) (roster : Listing) → Stands (midway_of inside).routing (running_of inside) → x ≡ v
+resized_by : {N : Type 0} (inside : Inside N) (x v : Outcome) (r n : ℕ) (roster : Listing) → Stands (midway_of inside).routing (running_of inside) → x ≡ v
     → roster ≡ record inside.roster { revisions = map (resized r n) inside.roster.revisions }
     → revisions_of inside.strategy inside.history.opening (entry.Outcome v ∷ inside.history.past) ≡ map (resized r n) (revisions_of inside.strategy inside.history.opening inside.history.past)
     → lists_of (entry.Outcome v ∷ inside.history.past) ≡ lists_of inside.history.past
@@ -101,7 +102,7 @@ resized_by inside x v r n roster stand is made law lists = subst (λ (y : Outcom
 })
 
 -- it changes none
-kept_by : (inside : Inside) (x v : Outcome) → Stands (midway_of inside).routing (running_of inside) → x ≡ v
+kept_by : {N : Type 0} (inside : Inside N) (x v : Outcome) → Stands (midway_of inside).routing (running_of inside) → x ≡ v
     → revisions_of inside.strategy inside.history.opening (entry.Outcome v ∷ inside.history.past) ≡ revisions_of inside.strategy inside.history.opening inside.history.past
     → lists_of (entry.Outcome v ∷ inside.history.past) ≡ lists_of inside.history.past
     → Followed inside x inside.roster inside.lists
@@ -113,7 +114,7 @@ kept_by inside x v stand is law lists = subst (λ (y : Outcome). Followed inside
 })
 
 -- it removes one
-removed_by : (inside : Inside) (x : Outcome) (r : ℕ) (roster : Listing) (kept : List OpenAt) → Stands (midway_of inside).routing (running_of inside) → x ≡ Removed r
+removed_by : {N : Type 0} (inside : Inside N) (x : Outcome) (r : ℕ) (roster : Listing) (kept : List OpenAt) → Stands (midway_of inside).routing (running_of inside) → x ≡ Removed r
     → roster ≡ record inside.roster { revisions = filter (λ v. not (v.number == r)) inside.roster.revisions }
     → kept ≡ filter (λ l. not (l.revision == r)) inside.lists
     → revisions_of inside.strategy inside.history.opening (entry.Outcome (Removed r) ∷ inside.history.past)
@@ -130,17 +131,17 @@ most : (n m : ℕ) → m ≤ n → max n m ≡ n
 most n m le = omega arith
 
 -- what was left of the rollout before the step of the attempt
-record LeftBy (inside left : Inside) (deadlines : Table) (x seen : Outcome) : Type 0 where
+record LeftBy {N : Type 0} (inside left : Inside N) (deadlines : Table) (x seen : Outcome) : Type 0 where
   same : seen ≡ x
   rest : left ≡ record inside { deadlines = deadlines; roster = left.roster; lists = left.lists }
   follows : Followed inside x left.roster left.lists
 
-left_by : (inside left : Inside) (deadlines : Table) (x seen v : Outcome) (roster : Listing) (kept : List OpenAt) → seen ≡ v → x ≡ v → left ≡ record inside { deadlines = deadlines; roster = roster; lists = kept }
+left_by : {N : Type 0} (inside left : Inside N) (deadlines : Table) (x seen v : Outcome) (roster : Listing) (kept : List OpenAt) → seen ≡ v → x ≡ v → left ≡ record inside { deadlines = deadlines; roster = roster; lists = kept }
     → Followed inside x roster kept → LeftBy inside left deadlines x seen
-left_by inside left deadlines x seen v roster kept saw asked is follows = subst (λ (i : Inside). LeftBy inside i deadlines x seen) (sym is) (record { same = saw ∙ sym asked; rest = refl; follows = follows })
+left_by inside left deadlines x seen v roster kept saw asked is follows = subst (λ (i : Inside _). LeftBy inside i deadlines x seen) (sym is) (record { same = saw ∙ sym asked; rest = refl; follows = follows })
 
-followed : (c : After-push_reserved) → LeftBy c.self.inside c.match-outcome.self-inside c.record.new.self c.args.outcome c.match-outcome.outcome
-followed c =
+followed : (g : Over) (c : After-push_reserved g) → LeftBy c.self.inside c.match-outcome.self-inside c.record.new.self c.args.outcome c.match-outcome.outcome
+followed g c =
     let inside = c.self.inside in
     let s = inside.strategy in
     let o = inside.history.opening in
@@ -177,17 +178,17 @@ last_same : (x : Outcome) (past : List Entry) → last_number (entry.Outcome x �
 last_same x past = refl
 
 -- what runs after the outcome
-carried : (c : After-push_reserved) → Carries (midway_of c.self.inside).routing (running_of c.self.inside) (entry.Outcome c.args.outcome)
+carried : (g : Over) (c : After-push_reserved g) → Carries (midway_of c.self.inside).routing (running_of c.self.inside) (entry.Outcome c.args.outcome)
     (record (running_of c.self.inside) { core = c.apply.new.self; roster = c.match-outcome.self-inside.roster; deadlines = c.record.new.self })
-carried c =
+carried g c =
     let inside = c.self.inside in
     let b = (midway_of inside).routing in
     let x = c.args.outcome in
     let stand : Stands b (running_of inside) = c.self.invariant in
     let first : first_allowed b.strategy b.past ≡ Some x = first_inside _ _ x c.self.view_is c.requires.first in
-    let left = followed c in
-    let core : c.match-outcome.self-inside.core ≡ inside.core = ap (λ (i : Inside). i.core) left.rest in
-    let at : c.match-outcome.self-inside.moment ≡ inside.moment = ap (λ (i : Inside). i.moment) left.rest in
+    let left = followed g c in
+    let core : c.match-outcome.self-inside.core ≡ inside.core = ap (λ (i : Inside _). i.core) left.rest in
+    let at : c.match-outcome.self-inside.moment ≡ inside.moment = ap (λ (i : Inside _). i.moment) left.rest in
     let next : (t : Strategy) (before : List Entry) → StandsFor t c.match-outcome.self-inside.core before → c.match-outcome.self-inside.moment ≡ moment before → first_promotion t before ≡ Some x
     → StandsFor t c.apply.new.self (entry.Outcome x ∷ before) =
     subst (λ (y : Outcome). (t : Strategy) (before : List Entry) → StandsFor t c.match-outcome.self-inside.core before → c.match-outcome.self-inside.moment ≡ moment before → first_promotion t before ≡ Some y
@@ -210,22 +211,22 @@ carried c =
     }
 
 -- the history after it
-pushed : (c : After-push_reserved) → c.push_reserved.new.self ≡ record c.self.inside.history { past = entry.Outcome c.args.outcome ∷ c.self.inside.history.past; spare = c.push_reserved.new.self.spare }
-pushed c = c.push_reserved.ensures.entry ∙ ap (λ (h : Kept). record h { past = entry.Outcome c.args.outcome ∷ h.past; spare = c.push_reserved.new.self.spare }) (ap (λ (i : Inside). i.history) (followed c).rest)
+pushed : (g : Over) (c : After-push_reserved g) → c.push_reserved.new.self ≡ record c.self.inside.history { past = entry.Outcome c.args.outcome ∷ c.self.inside.history.past; spare = c.push_reserved.new.self.spare }
+pushed g c = c.push_reserved.ensures.entry ∙ ap (λ (h : Kept). record h { past = entry.Outcome c.args.outcome ∷ h.past; spare = c.push_reserved.new.self.spare }) (ap (λ (i : Inside _). i.history) (followed g c).rest)
 
 pub invariant_of-self : goal.invariant_of-self
-invariant_of-self c =
+invariant_of-self g c =
     let inside = c.self.inside in
-    let left = followed c in
-    subst (λ (i : Inside). Stands (midway_of (record i { core = c.apply.new.self; history = c.push_reserved.new.self })).routing (running_of (record i { core = c.apply.new.self; history = c.push_reserved.new.self })))
+    let left = followed g c in
+    subst (λ (i : Inside _). Stands (midway_of (record i { core = c.apply.new.self; history = c.push_reserved.new.self })).routing (running_of (record i { core = c.apply.new.self; history = c.push_reserved.new.self })))
     (sym left.rest)
-    (stands_recorded (midway_of inside).routing (running_of inside) (entry.Outcome c.args.outcome) _ c.match-outcome.self-inside.lists c.push_reserved.new.self inside.history c.self.invariant (carried c) refl
-    (pushed c) left.follows.lists)
+    (stands_recorded (midway_of inside).routing (running_of inside) (entry.Outcome c.args.outcome) _ c.match-outcome.self-inside.lists c.push_reserved.new.self inside.history c.self.invariant (carried g c) refl
+    (pushed g c) left.follows.lists)
 
 pub returns : goal.returns
-returns c =
+returns g c =
     let inside = c.self.inside in
-    let left = followed c in
-    let less : c.push_reserved.new.self.spare + 1 ≡ inside.history.spare = c.push_reserved.ensures.spare ∙ ap (λ (i : Inside). i.history.spare) left.rest in
+    let left = followed g c in
+    let less : c.push_reserved.new.self.spare + 1 ≡ inside.history.spare = c.push_reserved.ensures.spare ∙ ap (λ (i : Inside _). i.history.spare) left.rest in
     recorded_left (record inside { deadlines = c.record.new.self; roster = c.match-outcome.self-inside.roster; lists = c.match-outcome.self-inside.lists }) c.match-outcome.self-inside _ c.apply.new.self c.push_reserved.new.self _ (sym left.rest)
-    (recorded_by (midway_of inside).routing _ _ (entry.Outcome c.args.outcome) c.match-outcome.self-inside.lists c.push_reserved.new.self inside.history c.self.view_is refl refl (pushed c) less left.follows.lists)
+    (recorded_by (midway_of inside).routing _ _ (entry.Outcome c.args.outcome) c.match-outcome.self-inside.lists c.push_reserved.new.self inside.history c.self.view_is refl refl (pushed g c) less left.follows.lists)

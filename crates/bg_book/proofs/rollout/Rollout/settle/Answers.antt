@@ -4,15 +4,15 @@ use Rattle.bg_book.proofs.Reaching.{reached_none, reached_more, place_left, work
 use Rattle.bg_book.proofs.rollout.Rollout.settle.Goals as goal
 
 pub loop-outcome-init : goal.loop-outcome-init
-loop-outcome-init c = (reached_none c.args.self.now.routing c.stands.ensures.lists, omega arith)
+loop-outcome-init g c = (reached_none c.args.self.now.routing c.stands.ensures.lists, omega arith)
 
 pub record_outcome-requires-clause-spare : goal.record_outcome-requires-clause-spare
-record_outcome-requires-clause-spare c =
+record_outcome-requires-clause-spare g c =
     place_left c.args.self.now.routing c.loop-outcome.self.routing c.loop-outcome.count c.args.self.now.spare c.loop-outcome.self.spare c.in-Some.outcome c.loop-outcome.invariant.0
     (sym c.in-Some.ensures) c.requires c.loop-outcome.invariant.1
 
 pub overflow_add-count : goal.overflow_add-count
-overflow_add-count c =
+overflow_add-count g c =
     let b = c.args.self.now.routing in
     let reach : Reachable b.strategy b.opening b.past = c.reachable.ensures b.strategy b.opening b.past c.stands.ensures.legal.allowed in
     let few = follow_few c.work_falls.ensures b.strategy b.past c.loop-outcome.invariant.0.outcomes c.loop-outcome.invariant.0.follow in
@@ -20,10 +20,10 @@ overflow_add-count c =
     omega (arith, few, most, c.loop-outcome.invariant.0.count_is)
 
 pub loop-outcome-smaller : goal.loop-outcome-smaller
-loop-outcome-smaller c = work_left c.work_falls.ensures c.loop-outcome.self.routing c.record_outcome.new.self.routing c.in-Some.outcome (sym c.in-Some.ensures) c.record_outcome.ensures.routing
+loop-outcome-smaller g c = work_left c.work_falls.ensures c.loop-outcome.self.routing c.record_outcome.new.self.routing c.in-Some.outcome (sym c.in-Some.ensures) c.record_outcome.ensures.routing
 
 pub loop-outcome-preserved : goal.loop-outcome-preserved
-loop-outcome-preserved c = (
+loop-outcome-preserved g c = (
   reached_more c.args.self.now.routing c.loop-outcome.self.routing c.record_outcome.new.self.routing c.loop-outcome.count c.in-Some.outcome c.loop-outcome.invariant.0
       (sym c.in-Some.ensures) c.record_outcome.ensures.routing,
   omega (arith, c.loop-outcome.invariant.1, c.record_outcome.ensures.spare),

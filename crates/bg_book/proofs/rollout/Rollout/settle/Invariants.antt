@@ -4,9 +4,9 @@ use Rattle.bg_book.specs.Settling.{Reached}
 use Rattle.bg_book.proofs.rollout.Rollout.settle.Given as goal
 
 abbrev pub invariant-loop-outcome : goal.invariant-loop-outcome
-invariant-loop-outcome l =
+invariant-loop-outcome g l =
     Reached l.initial.self.routing l.self.routing l.count
     × (l.self.spare + l.count ≡ l.initial.self.spare)
 
 abbrev pub decreases-loop-outcome : goal.decreases-loop-outcome
-decreases-loop-outcome l = work l.self.routing.strategy l.self.routing.past
+decreases-loop-outcome g l = work l.self.routing.strategy l.self.routing.past

@@ -5,7 +5,7 @@ use Rattle.bg_book.proofs.Commands.{Leaves, command_leaves}
 use Rattle.bg_book.proofs.rollout.Rollout.take_command.Goals as goal
 
 pub invariant_of-self : goal.invariant_of-self
-invariant_of-self c =
+invariant_of-self g c =
     let b = (midway_of c.self.inside).routing in
     let k = running_of c.self.inside in
     let e = c.args.entry in
@@ -27,7 +27,7 @@ invariant_of-self c =
     stands_recorded b k e new b.lists c.push_reserved.new.self c.self.inside.history stand carried refl c.push_reserved.ensures.entry (stand.routing.lists ∙ sym leaves.lists)
 
 pub returns : goal.returns
-returns c =
+returns g c =
     let b = (midway_of c.self.inside).routing in
     let e = c.args.entry in
     let stand : Stands b (running_of c.self.inside) = c.self.invariant in

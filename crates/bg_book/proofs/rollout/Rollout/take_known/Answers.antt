@@ -24,6 +24,7 @@ use Rattle.bg_book.proofs.Requests.{and_parts, eq_from}
 use Rattle.bg_book.proofs.Carrying.{Carries, stands_recorded, recorded_by, recorded_left, allowed_inside}
 use Rattle.bg_book.proofs.Events.{found_there, grown}
 use Rattle.bg_book.proofs.Deploys.{owner_exists, lists_known}
+use Rattle.bg_book.proofs.rollout.Rollout.take_known.Given.{Over}
 use Rattle.bg_book.proofs.rollout.Rollout.take_known.Goals as goal
 use Rattle.bg_book.proofs.rollout.Rollout.take_known.Goals.{then-revision-selectors, else-revision-selectors}
 
@@ -32,7 +33,7 @@ isnt true h = absurd (cc)
 isnt false h = refl
 
 pub record-requires-clause-room_for_two : goal.record-requires-clause-room_for_two
-record-requires-clause-room_for_two c = λ two.
+record-requires-clause-room_for_two g c = λ two.
     let b = (midway_of c.self.inside).routing in
     let stand : Stands b (running_of c.self.inside) = c.self.invariant in
     let reach : Reachable b.strategy b.opening b.past = c.reachable.ensures b.strategy b.opening b.past stand.routing.legal.allowed in
@@ -53,7 +54,7 @@ some_is : (x : Option Revision) (v : Revision) → x ≡ Some v → IsSome x
 some_is x v h = rw h refl
 
 pub grow-requires : goal.grow-requires
-grow-requires c =
+grow-requires g c =
     let b = (midway_of c.self.inside).routing in
     let stand : Stands b (running_of c.self.inside) = c.self.invariant in
     let r = c.args.revision in
@@ -69,20 +70,20 @@ eq_true : (m n : ℕ) → m ≡ n → (m == n) ≡ true
 eq_true m n h = grind (arith, nat_tests)
 
 -- what was left of the rollout before the core took the deploy
-record LeftBy (inside left : Inside) (deadlines : Table) (e : Entry) : Type 0 where
+record LeftBy {N : Type 0} (inside left : Inside N) (deadlines : Table) (e : Entry) : Type 0 where
   rest : left ≡ record inside { deadlines = deadlines; roster = left.roster }
   revisions : left.roster.revisions ≡ revisions_of inside.strategy inside.history.opening (e ∷ inside.history.past)
   replicas : left.roster.replicas ≡ inside.roster.replicas
   last : left.roster.last ≡ inside.roster.last
 
-left_by : (inside left : Inside) (deadlines : Table) (e : Entry) (roster : Listing) → left ≡ record inside { deadlines = deadlines; roster = roster }
+left_by : {N : Type 0} (inside left : Inside N) (deadlines : Table) (e : Entry) (roster : Listing) → left ≡ record inside { deadlines = deadlines; roster = roster }
     → roster.revisions ≡ revisions_of inside.strategy inside.history.opening (e ∷ inside.history.past)
     → roster.replicas ≡ inside.roster.replicas → roster.last ≡ inside.roster.last → LeftBy inside left deadlines e
 left_by inside left deadlines e roster is revisions replicas last =
-    subst (λ (i : Inside). LeftBy inside i deadlines e) (sym is) (record { rest = refl; revisions = revisions; replicas = replicas; last = last })
+    subst (λ (i : Inside _). LeftBy inside i deadlines e) (sym is) (record { rest = refl; revisions = revisions; replicas = replicas; last = last })
 
-followed : (c : goal.After-push_reserved) → LeftBy c.self.inside c.if-revision-selectors.self-inside c.record.new.self (event.Deploy c.args.revision c.args.name c.args.ports)
-followed c =
+followed : (g : Over) (c : goal.After-push_reserved g) → LeftBy c.self.inside c.if-revision-selectors.self-inside c.record.new.self (event.Deploy c.args.revision c.args.name c.args.ports)
+followed g c =
     let inside = c.self.inside in
     let b = (midway_of inside).routing in
     let r = c.args.revision in
@@ -107,9 +108,9 @@ below_last : (r last : ℕ) → r ≤ last → max r last ≡ last
 below_last r last h = omega (arith, h)
 
 -- what runs after the deploy
-carried : (c : goal.After-push_reserved) → Carries (midway_of c.self.inside).routing (running_of c.self.inside) (event.Deploy c.args.revision c.args.name c.args.ports)
+carried : (g : Over) (c : goal.After-push_reserved g) → Carries (midway_of c.self.inside).routing (running_of c.self.inside) (event.Deploy c.args.revision c.args.name c.args.ports)
     (record (running_of c.self.inside) { core = c.deploy.new.self; roster = c.if-revision-selectors.self-inside.roster; deadlines = c.record.new.self })
-carried c =
+carried g c =
     let inside = c.self.inside in
     let b = (midway_of inside).routing in
     let r = c.args.revision in
@@ -117,8 +118,8 @@ carried c =
     let stand : Stands b (running_of inside) = c.self.invariant in
     let reach : Reachable b.strategy b.opening b.past = c.reachable.ensures b.strategy b.opening b.past stand.routing.legal.allowed in
     let there : exists_in r b.past ≡ true = exists_inside _ _ c.args.name r c.self.view_is c.requires.known in
-    let left = followed c in
-    let core : c.if-revision-selectors.self-inside.core ≡ inside.core = ap (λ (i : Inside). i.core) left.rest in
+    let left = followed g c in
+    let core : c.if-revision-selectors.self-inside.core ≡ inside.core = ap (λ (i : Inside _). i.core) left.rest in
     record {
       allowed = allowed_inside _ _ e c.self.view_is c.requires.allowed;
       plain = record { requests = refl; numbers = refl; entered = refl; calls = λ i. refl };
@@ -133,33 +134,33 @@ carried c =
     }
 
 -- the lists and the history after it
-lists_after : (c : goal.After-push_reserved) → c.self.inside.lists ≡ lists_of (event.Deploy c.args.revision c.args.name c.args.ports ∷ c.self.inside.history.past)
-lists_after c =
+lists_after : (g : Over) (c : goal.After-push_reserved g) → c.self.inside.lists ≡ lists_of (event.Deploy c.args.revision c.args.name c.args.ports ∷ c.self.inside.history.past)
+lists_after g c =
     let b = (midway_of c.self.inside).routing in
     let stand : Stands b (running_of c.self.inside) = c.self.invariant in
     stand.routing.lists
     ∙ sym (lists_known b.past c.args.revision c.args.name c.args.ports (c.existing_ascends.ensures b.past) (exists_inside _ _ c.args.name c.args.revision c.self.view_is c.requires.known))
 
-pushed : (c : goal.After-push_reserved) → c.push_reserved.new.self
+pushed : (g : Over) (c : goal.After-push_reserved g) → c.push_reserved.new.self
     ≡ record c.self.inside.history { past = event.Deploy c.args.revision c.args.name c.args.ports ∷ c.self.inside.history.past; spare = c.push_reserved.new.self.spare }
-pushed c =
+pushed g c =
     c.push_reserved.ensures.entry
-    ∙ ap (λ (h : Kept). record h { past = event.Deploy c.args.revision c.args.name c.args.ports ∷ h.past; spare = c.push_reserved.new.self.spare }) (ap (λ (i : Inside). i.history) (followed c).rest)
+    ∙ ap (λ (h : Kept). record h { past = event.Deploy c.args.revision c.args.name c.args.ports ∷ h.past; spare = c.push_reserved.new.self.spare }) (ap (λ (i : Inside _). i.history) (followed g c).rest)
 
 pub invariant_of-self : goal.invariant_of-self
-invariant_of-self c =
+invariant_of-self g c =
     let inside = c.self.inside in
-    let left = followed c in
+    let left = followed g c in
     let e = event.Deploy c.args.revision c.args.name c.args.ports in
-    subst (λ (i : Inside). Stands (midway_of (record i { core = c.deploy.new.self; history = c.push_reserved.new.self })).routing (running_of (record i { core = c.deploy.new.self; history = c.push_reserved.new.self })))
+    subst (λ (i : Inside _). Stands (midway_of (record i { core = c.deploy.new.self; history = c.push_reserved.new.self })).routing (running_of (record i { core = c.deploy.new.self; history = c.push_reserved.new.self })))
     (sym left.rest)
-    (stands_recorded (midway_of inside).routing (running_of inside) e _ inside.lists c.push_reserved.new.self inside.history c.self.invariant (carried c) refl (pushed c) (lists_after c))
+    (stands_recorded (midway_of inside).routing (running_of inside) e _ inside.lists c.push_reserved.new.self inside.history c.self.invariant (carried g c) refl (pushed g c) (lists_after g c))
 
 pub returns : goal.returns
-returns c =
+returns g c =
     let inside = c.self.inside in
-    let left = followed c in
+    let left = followed g c in
     let e = event.Deploy c.args.revision c.args.name c.args.ports in
-    let less : c.push_reserved.new.self.spare + 1 ≡ inside.history.spare = c.push_reserved.ensures.spare ∙ ap (λ (i : Inside). i.history.spare) left.rest in
+    let less : c.push_reserved.new.self.spare + 1 ≡ inside.history.spare = c.push_reserved.ensures.spare ∙ ap (λ (i : Inside _). i.history.spare) left.rest in
     recorded_left (record inside { deadlines = c.record.new.self; roster = c.if-revision-selectors.self-inside.roster }) c.if-revision-selectors.self-inside _ c.deploy.new.self c.push_reserved.new.self e (sym left.rest)
-    (recorded_by (midway_of inside).routing _ _ e inside.lists c.push_reserved.new.self inside.history c.self.view_is refl refl (pushed c) less (lists_after c))
+    (recorded_by (midway_of inside).routing _ _ e inside.lists c.push_reserved.new.self inside.history c.self.view_is refl refl (pushed g c) less (lists_after g c))

@@ -6,12 +6,13 @@ use Rattle.bg_book.specs.declared.calls.Control.TheVariants.{Available}
 use Rattle.bg_book.specs.Invariant.{RunningState, Stands, midway_of, running_of}
 use Rattle.bg_book.proofs.Events.{allowed-Available, fits_inside, reported_ok}
 use Rattle.bg_book.proofs.Carrying.{Carries, stands_recorded, recorded_by}
+use Rattle.bg_book.proofs.rollout.Rollout.take_report.Given.{Over}
 use Rattle.bg_book.proofs.rollout.Rollout.take_report.Goals as goal
 
 -- the roster after the report
-reported_roster : (c : goal.After-push_reserved) → c.set_available-accepted.new.self
+reported_roster : (g : Over) (c : goal.After-push_reserved g) → c.set_available-accepted.new.self
     ≡ record c.self.inside.roster { revisions = map (reported c.args.revision c.args.size) c.self.inside.roster.revisions }
-reported_roster c =
+reported_roster g c =
     let b = (midway_of c.self.inside).routing in
     let r = c.args.revision in
     let n = c.args.size in
@@ -23,13 +24,13 @@ reported_roster c =
     c.set_available-accepted.ensures.reported
 
 pub invariant_of-self : goal.invariant_of-self
-invariant_of-self c =
+invariant_of-self g c =
     let b = (midway_of c.self.inside).routing in
     let k = running_of c.self.inside in
     let r = c.args.revision in
     let n = c.args.size in
     let stand : Stands b k = c.self.invariant in
-    let roster = reported_roster c in
+    let roster = reported_roster g c in
     let new : RunningState = record k { roster = c.set_available-accepted.new.self } in
     let carried : Carries b k (event.Available r n) new = record {
       allowed = allowed-Available b r n (fits_inside _ _ (Available r n) c.self.view_is c.requires.fits);
@@ -46,7 +47,7 @@ invariant_of-self c =
     stands_recorded b k (event.Available r n) new b.lists c.push_reserved.new.self c.self.inside.history stand carried refl c.push_reserved.ensures.entry stand.routing.lists
 
 pub returns : goal.returns
-returns c =
+returns g c =
     let b = (midway_of c.self.inside).routing in
     let stand : Stands b (running_of c.self.inside) = c.self.invariant in
     recorded_by b _ _ (event.Available c.args.revision c.args.size) b.lists c.push_reserved.new.self c.self.inside.history c.self.view_is refl refl

@@ -9,16 +9,17 @@ use Rattle.bg_pasts.specs.Reachable.{Reachable}
 use Rattle.bg_book.specs.Invariant.{RunningState, Stands, midway_of, running_of}
 use Rattle.bg_book.proofs.Carrying.{Carries, stands_recorded, recorded_by, allowed_inside, core_inside}
 use Rattle.bg_book.proofs.Events.{grown}
+use Rattle.bg_book.proofs.rollout.Rollout.take_retry.Given.{Over}
 use Rattle.bg_book.proofs.rollout.Rollout.take_retry.Goals as goal
 
 -- the roster in which the newest revision wants as many as a preview
-grown_roster : (c : goal.After-push_reserved) → c.grow.new.roster
+grown_roster : (g : Over) (c : goal.After-push_reserved g) → c.grow.new.roster
     ≡ record c.self.inside.roster {
       revisions = map (resized (newest_of c.self.inside.history.past)
           (max c.self.inside.strategy.preview_replicas (desired c.self.inside.strategy (newest_of c.self.inside.history.past) c.self.inside.history.past)))
           c.self.inside.roster.revisions;
     }
-grown_roster c =
+grown_roster g c =
     let b = (midway_of c.self.inside).routing in
     let stand : Stands b (running_of c.self.inside) = c.self.invariant in
     let reach : Reachable b.strategy b.opening b.past = c.reachable.ensures b.strategy b.opening b.past stand.routing.legal.allowed in
@@ -30,13 +31,13 @@ grown_roster c =
     })) newest c.grow.ensures)
 
 pub invariant_of-self : goal.invariant_of-self
-invariant_of-self c =
+invariant_of-self g c =
     let b = (midway_of c.self.inside).routing in
     let k = running_of c.self.inside in
     let e = event.Retry in
     let new : RunningState = record k { core = c.args.core; roster = c.grow.new.roster; deadlines = c.record.new.self } in
     let stand : Stands b k = c.self.invariant in
-    let roster = grown_roster c in
+    let roster = grown_roster g c in
     let carried : Carries b k e new = record {
       allowed = allowed_inside _ _ e c.self.view_is c.requires.allowed;
       plain = record { requests = refl; numbers = refl; entered = refl; calls = λ i. refl };
@@ -52,7 +53,7 @@ invariant_of-self c =
     stands_recorded b k e new b.lists c.push_reserved.new.self c.self.inside.history stand carried refl c.push_reserved.ensures.entry stand.routing.lists
 
 pub returns : goal.returns
-returns c =
+returns g c =
     let b = (midway_of c.self.inside).routing in
     let stand : Stands b (running_of c.self.inside) = c.self.invariant in
     recorded_by b _ _ event.Retry b.lists c.push_reserved.new.self c.self.inside.history c.self.view_is refl refl

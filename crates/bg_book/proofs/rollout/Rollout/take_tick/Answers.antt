@@ -7,7 +7,7 @@ use Rattle.bg_book.proofs.Carrying.{Carries, stands_recorded}
 use Rattle.bg_book.proofs.rollout.Rollout.take_tick.Goals as goal
 
 pub invariant_of-self : goal.invariant_of-self
-invariant_of-self c =
+invariant_of-self g c =
     let b = (midway_of c.self.inside).routing in
     let k = running_of c.self.inside in
     let m = c.args.moment in

@@ -1,0 +1,94 @@
+use Rattle.std.proofs.Common.{◌≡◌, ◌≢◌, ◌≤◌, ◌+◌, ◌∷◌, ◌==◌, ◌||◌, not, ℕ, true, List, length, Some, slice_get, slice_set, sym, ap, ◌∙◌, subst, arith}
+use Rattle.std.specs.List.{list_all}
+use Rattle.bg_strategy.specs.declared.strategy.Strategy.{Strategy}
+use Rattle.bg_history.specs.Requests.{open_requests}
+use Rattle.bg_history.specs.declared.entry.Entry.{Entry}
+use Rattle.bg_history.specs.declared.entry.Outcome.{Outcome}
+use Rattle.bg_history.specs.declared.entry.Entry.TheVariants.{Leave}
+use Rattle.bg_history.specs.Steps.{Follows, is_settled}
+use Rattle.bg_ledger.specs.declared.holding.Holding.{Holding}
+use Rattle.bg_ledger.specs.Holdings.{vacated}
+use Rattle.bg_book.specs.declared.limits.Limits.{Limits}
+use Rattle.bg_book.specs.Changes.{Stepped, with_past}
+use Rattle.bg_book.specs.Refusals.{all_open}
+use Rattle.bg_book.specs.Routing.{Routing}
+use Rattle.bg_book.specs.Settling.{Reached}
+use Rattle.bg_book.specs.Invariant.{Midway, AtRest, RoutingStands}
+use Rattle.bg_book.proofs.Leaving.{is_held, one_open, alone, one_left}
+use Rattle.bg_book.proofs.Reaching.{stepped_by, open_after, length_after, limits_after}
+use Rattle.bg_book.proofs.book.Book.leave_met.Given.{Over}
+use Rattle.bg_book.proofs.book.Book.leave_met.Goals as goal
+use Rattle.bg_book.proofs.book.Book.leave_met.Goals.{After-settle}
+
+known_inside : (b now : Routing) (seat : Holding) → b ≡ now → slice_get now.seats seat.index ≡ Some seat → slice_get b.seats seat.index ≡ Some seat
+known_inside b now seat is known = subst (λ (v : Routing). slice_get v.seats seat.index ≡ Some seat) (sym is) known
+
+pub release-left-requires-clause-spare : goal.release-left-requires-clause-spare
+release-left-requires-clause-spare g c =
+    let known = known_inside _ _ c.args.seat.now c.self.view_is c.requires.known in
+    omega (arith, c.self.invariant.spare, one_open c.self.inside.rollout.routing c.args.seat.now c.stands.ensures known (is_held _ c.requires.within))
+
+-- at most two outcomes follow
+two_follow : (b left : Routing) (seat : Holding) (outcomes : List Outcome)
+    → ((s : Strategy) (past : List Entry) (i number r : ℕ) (xs : List Outcome) → is_settled s past ≡ true
+    → list_all (λ q. not (q.number == number) || (q.revision == r)) (open_requests past) ≡ true → Follows s xs (Leave i number r ∷ past) → length xs ≤ 2)
+    → is_settled b.strategy b.past ≡ true → list_all (λ q. not (q.number == seat.number) || (q.revision == seat.revision)) (open_requests b.past) ≡ true
+    → left ≡ with_past b (Leave seat.index seat.number seat.revision ∷ b.past) (slice_set b.seats seat.index (vacated seat))
+    → Follows left.strategy outcomes left.past → length outcomes ≤ 2
+two_follow b left seat outcomes two settled alone made follow =
+    two b.strategy b.past seat.index seat.number seat.revision outcomes settled alone (subst (λ (v : Routing). Follows v.strategy outcomes v.past) made follow)
+
+pub settle-requires : goal.settle-requires
+settle-requires g c = λ outcomes follow.
+    let b = c.self.inside.rollout.routing in
+    let seat = c.args.seat.now in
+    let known = known_inside _ _ seat c.self.view_is c.requires.known in
+    let few = two_follow b _ seat outcomes c.leaving_allows_two.ensures c.self.invariant.settled (alone b seat c.stands.ensures known (is_held _ c.requires.within)) c.release-left.ensures.routing follow in
+    omega (arith, few, c.release-left.ensures.spare, c.self.invariant.spare, one_open b seat c.stands.ensures known (is_held _ c.requires.within))
+
+-- at most two outcomes followed
+few : (g : Over) (c : After-settle g) → c.settle.result ≤ 2
+few g c =
+    let b = c.self.inside.rollout.routing in
+    let seat = c.args.seat.now in
+    let known = known_inside _ _ seat c.self.view_is c.requires.known in
+    let most = two_follow b _ seat c.settle.ensures.reached.outcomes c.leaving_allows_two.ensures c.self.invariant.settled (alone b seat c.stands.ensures known (is_held _ c.requires.within)) c.release-left.ensures.routing
+    c.settle.ensures.reached.follow in
+    omega (arith, most, c.settle.ensures.reached.count_is)
+
+-- what holds after them
+at_rest : {count : ℕ} (rollout left settled : Midway) (seat : Holding) (n : ℕ) → AtRest count rollout → RoutingStands rollout.routing → slice_get rollout.routing.seats seat.index ≡ Some seat → seat.number ≢ 0
+    → left.routing ≡ with_past rollout.routing (Leave seat.index seat.number seat.revision ∷ rollout.routing.past) (slice_set rollout.routing.seats seat.index (vacated seat))
+    → left.spare + 1 ≡ rollout.spare → Reached left.routing settled.routing n → n ≤ 2 → settled.spare + n ≡ left.spare → is_settled settled.routing.strategy settled.routing.past ≡ true → AtRest count settled
+at_rest rollout left settled seat n rest stand known some made taken reached two spare quiet =
+    let b = rollout.routing in
+    let kept : all_open settled.routing.past ≡ all_open left.routing.past = open_after left.routing settled.routing n reached in
+    let now : all_open left.routing.past ≡ all_open (Leave seat.index seat.number seat.revision ∷ b.past) = ap (λ (v : Routing). all_open v.past) made in
+    let one = one_left b seat stand known some in
+    let entries : length settled.routing.past ≡ n + length left.routing.past = length_after left.routing settled.routing n reached in
+    let more : length left.routing.past ≡ length (Leave seat.index seat.number seat.revision ∷ b.past) = ap (λ (v : Routing). length v.past) made in
+    let limits : settled.routing.limits ≡ b.limits = limits_after left.routing settled.routing n reached ∙ ap (λ (v : Routing). v.limits) made in
+    let limit : settled.routing.limits.entries ≡ b.limits.entries = ap (λ (l : Limits). l.entries) limits in
+    record {
+      all_seats = ap (λ (v : Routing). v.opening.seats) reached.now_is ∙ ap (λ (v : Routing). v.opening.seats) made ∙ rest.all_seats;
+      settled = quiet;
+      spare = omega (arith, kept, now, one, spare, taken, rest.spare, two);
+      room = omega (arith, kept, now, one, entries, more, limit, rest.room, two);
+    }
+
+pub invariant_of-self : goal.invariant_of-self
+invariant_of-self g c =
+    at_rest c.self.inside.rollout c.release-left.new.self c.settle.new.self c.args.seat.now c.settle.result c.self.invariant c.stands.ensures
+    (known_inside _ _ c.args.seat.now c.self.view_is c.requires.known) (is_held _ c.requires.within) c.release-left.ensures.routing c.release-left.ensures.spare c.settle.ensures.reached (few g c) c.settle.ensures.spare c.settle.ensures.settled
+
+-- the leaving, and the outcomes after it
+stepped : (b now left new : Routing) (seat : Holding) (n : ℕ) → b ≡ now
+    → left ≡ with_past b (Leave seat.index seat.number seat.revision ∷ b.past) (slice_set b.seats seat.index (vacated seat)) → Reached left new n → is_settled new.strategy new.past ≡ true
+    → Stepped now.strategy (Leave seat.index seat.number seat.revision) now.past new.past n
+stepped b now left new seat n is made reached settled =
+    subst (λ (v : Routing). Stepped v.strategy (Leave seat.index seat.number seat.revision) v.past new.past n) is
+    (stepped_by b left new (Leave seat.index seat.number seat.revision) _ n made reached settled)
+
+pub returns-clause-step : goal.returns-clause-step
+returns-clause-step g c =
+    (c.settle.result, stepped _ _ _ _ c.args.seat.now c.settle.result c.self.view_is c.release-left.ensures.routing c.settle.ensures.reached c.settle.ensures.settled, few g c)

@@ -1,0 +1,5 @@
+use Rattle.bg_book.proofs.Order.{as_left}
+use Rattle.bg_book.proofs.laws.lent.Goals as goal
+
+pub returns : goal.returns
+returns c len items now new is order count = as_left len items now new is order count

@@ -1,0 +1,119 @@
+//! A book that threads share.
+ghost use Rattle.std.specs.Prelude.{◌≡◌, ◌<◌, ◌≤◌, IfOk, OnErr};
+ghost use Rattle.bg_ledger.specs.Holdings.{vacated};
+ghost use Rattle.bg_book.specs.Changes.{seat_in};
+ghost use Rattle.bg_book.specs.Headline.{Headline};
+ghost use Rattle.bg_book.specs.Meeting.{Meets};
+ghost use Rattle.bg_book.specs.Refusals.{control_refusal, enter_refusal, AnswersBy, IsTicket};
+ghost use Rattle.bg_book.specs.Routing.{Routing};
+ghost use Rattle.bg_book.specs.declared.control_fault.ControlFault.TheVariants as control_fault;
+ghost use Rattle.bg_book.specs.declared.fault.EnterFault.TheVariants as enter_fault;
+
+use crate::book::Book;
+use crate::calls::{Control, Left, Ticket};
+use crate::control_fault::ControlFault;
+use crate::fault::EnterFault;
+use crate::laws::headline;
+use bg_ledger::{Names, Seat};
+use bg_revisions::Service;
+use std::sync::{Mutex, Wait};
+
+/// What is asked of a book under its desk's lock.
+pub trait Question<A> {
+    /// What an answer says of the question and the book.
+    ghost gives: { Self → Routing → A → Type 0 };
+
+    /// Answers what it gives for the book.
+    fn ask<N: Names>(self, book: &Book<N>) -> A
+        ensures { gives self book.now result };
+}
+
+/// A book behind a lock, which threads share.
+///
+/// Each call takes the lock once, makes one call of the book and lets go. `told` says of each that the answer is one
+/// of a book that has what [`headline`] says, as the book is when the lock is taken.
+#[derive(Drop)]
+pub struct Desk<N: Names> {
+    book: Mutex<Book<N>>,
+}
+
+impl<N: Names> Desk<N> {
+    /// Puts a book behind a lock.
+    pub fn new(book: Book<N>) -> Desk<N> {
+        Desk {
+            book: Mutex::new(book),
+        }
+    }
+
+    /// [`Book::enter`].
+    pub fn enter<R: Wait>(
+        &self,
+        rt: &R,
+        seat: &mut Seat<N>,
+        service: Service,
+    ) -> Result<Ticket, EnterFault>
+        requires out { seat.old.number ≡ 0 }
+        ensures seat { IfOk result (λ t. seat.new ≡ seat_in seat.old t) }
+        ensures number { IfOk result (λ t. 0 < t.number) }
+        ensures seat_unchanged { OnErr result (seat.new ≡ seat.old) }
+        ensures told { (b : Routing) × Headline b × Meets b seat.old
+            × AnswersBy (enter_refusal b service) enter_fault.OutOfMemory result
+            × IfOk result (IsTicket b service) }
+    {
+        let mut locked = self.book.lock(rt);
+        let book = &mut *locked;
+        headline(book);
+        book.enter(seat, service)
+    }
+
+    /// [`Book::leave`].
+    pub fn leave<R: Wait>(&self, rt: &R, seat: &mut Seat<N>) -> Left
+        requires within { 0 < seat.old.number }
+        ensures left { result ≡ record { number = seat.old.number; revision = seat.old.revision } }
+        ensures seat { seat.new ≡ vacated seat.old }
+        ensures told { (b : Routing) × Headline b × Meets b seat.old }
+    {
+        let mut locked = self.book.lock(rt);
+        let book = &mut *locked;
+        headline(book);
+        book.leave(seat)
+    }
+
+    /// [`Book::control`].
+    pub fn control<R: Wait>(&self, rt: &R, control: &Control) -> Result<u64, ControlFault>
+        ensures few { IfOk result (λ n. n ≤ 140) }
+        ensures told { (b : Routing) × Headline b
+            × AnswersBy (control_refusal b control.now) control_fault.OutOfMemory result }
+    {
+        let mut locked = self.book.lock(rt);
+        let book = &mut *locked;
+        headline(book);
+        book.control(control)
+    }
+
+    /// Answers what the question gives for the book as it is.
+    pub fn look<A, Q: Question<A>, R: Wait>(&self, rt: &R, question: Q) -> A
+        ensures told { (b : Routing) × Headline b × Q.gives question b result }
+    {
+        let book = self.book.lock(rt);
+        ask(&*book, question)
+    }
+
+    /// The book, out of the lock.
+    pub fn into_book(self) -> Book<N>
+        ensures { Headline result }
+    {
+        let book = self.book.into_inner();
+        headline(&book);
+        book
+    }
+}
+
+/// What the question gives, and what holds of the book.
+fn ask<N: Names, A, Q: Question<A>>(book: &Book<N>, question: Q) -> A
+    ensures headline { Headline book.now }
+    ensures answer { Q.gives question book.now result }
+{
+    headline(book);
+    question.ask(book)
+}

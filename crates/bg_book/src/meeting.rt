@@ -1,0 +1,36 @@
+//! How a book meets a seat.
+ghost use Rattle.std.specs.Prelude.{◌≡◌, ◌<◌, Some, slice_get};
+ghost use Rattle.bg_book.specs.Meeting.{Meets};
+
+use crate::book::Book;
+use crate::rollout::Rollout;
+use bg_ledger::{Names, Seat};
+use bg_pasts::laws::reachable;
+
+impl<N: Names> Book<N> {
+    /// Changes nothing. It shows that the book's record of a seat is the seat, so that the seat is what the history
+    /// says.
+    pub(crate) fn meet(&mut self, seat: &mut Seat<N>)
+        ensures met { Meets self.old seat.old }
+        ensures book { self.new ≡ self.old }
+        ensures seat { seat.new ≡ seat.old }
+    {
+        reachable();
+        self.rollout.stands();
+        let index = seat.index();
+        self.rollout.agree(index, seat);
+    }
+}
+
+impl<N: Names> Rollout<N> {
+    /// Changes nothing. It shows that the record of a seat is the seat.
+    fn agree(&mut self, index: u32, seat: &mut Seat<N>)
+        requires index { seat.old.index ≡ index }
+        requires within { index < self.old.routing.opening.seats }
+        ensures known { slice_get self.old.routing.seats index ≡ Some seat.old }
+        ensures rollout { self.new ≡ self.old }
+        ensures seat { seat.new ≡ seat.old }
+    {
+        self.records[index as usize].agree(seat);
+    }
+}

@@ -1,0 +1,6 @@
+//! The routing book behind a lock.
+
+mod calls;
+mod gathering;
+mod rows;
+mod threads;

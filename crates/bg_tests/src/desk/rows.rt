@@ -1,0 +1,410 @@
+//! Scripts through a desk, on one thread: it answers and records what the book answers and records.
+ghost use Rattle.std.specs.Prelude.{◌≡◌, true, ⊤};
+ghost use Rattle.bg_book.specs.Gathering.{are_all, indices};
+ghost use Rattle.bg_ledger.specs.Blanks.{AreAllFor};
+
+use super::calls::make;
+use bg_book::laws::lent;
+use bg_book::{Book, Call, Desk, Limits, Question, Reply};
+use bg_history::History;
+use bg_ledger::{Blanks, Names, Seat};
+use bg_operator::{Command, LineFault, parse_line};
+use bg_report::{reply, report};
+use bg_strategy::{Strategy, read};
+use std::alloc::Global;
+use std::io;
+use std::io::Write;
+use std::marker::Brand;
+use std::sync::Wait;
+use std::test::Fail;
+
+/// What `blueGreen` has beside the active service, and the lines after `open v1 9001 9002`.
+const ROWS: [(&str, &str); 16] = [
+    // switches and scales down
+    (
+        "",
+        "deploy v2 9101 9102
+available 2 2
+tick 29
+tick 30
+report",
+    ),
+    // drains before scaling down
+    (
+        "",
+        "available 1 2
+enter 0 active
+deploy v2 9101 9102
+available 2 2
+tick 30
+report
+leave 0
+report",
+    ),
+    // manual promotion with preview
+    (
+        r#", "autoPromotionEnabled": false, "previewService": "web-preview""#,
+        "available 1 2
+deploy v2 9101 9102
+available 2 2
+report
+enter 0 active
+enter 1 preview
+promote
+promote
+abort
+retry",
+    ),
+    // pause by seconds
+    (
+        r#", "autoPromotionSeconds": 10"#,
+        "deploy v2 9101 9102
+tick 5
+available 2 2
+tick 14
+report
+tick 15
+report",
+    ),
+    // preview size
+    (
+        r#", "previewReplicaCount": 1, "autoPromotionEnabled": false"#,
+        "deploy v2 9101 9102
+available 2 1
+available 2 2
+promote
+report
+available 2 2",
+    ),
+    // failed analysis before the switch, and a retry
+    (
+        r#", "prePromotionAnalysis": {"templates": []}"#,
+        "deploy v2 9101 9102
+available 2 2
+promote
+verdict pre failed
+report
+verdict pre failed
+promote
+abort
+deploy v2 9101 9102
+retry
+report
+verdict pre successful",
+    ),
+    // failed analysis after the switch
+    (
+        r#", "postPromotionAnalysis": {}"#,
+        "available 1 2
+deploy v2 9101 9102
+available 2 2
+report
+tick 40
+report
+verdict pre failed
+verdict post error
+report",
+    ),
+    // reverts to the stable revision
+    (
+        r#", "postPromotionAnalysis": {}"#,
+        "available 1 2
+deploy v2 9101 9102
+available 2 2
+tick 40
+deploy v1 9001 9002
+report
+deploy v1 9001 9002
+deploy v1 9001 9003
+deploy v2 9101 9103
+tick 70",
+    ),
+    // the latest one is kept
+    (
+        r#", "scaleDownDelayRevisionLimit": 1"#,
+        "deploy v2 9101 9102
+available 2 2
+deploy v3 9201 9202
+available 3 2
+report",
+    ),
+    // none is kept
+    (
+        r#", "scaleDownDelayRevisionLimit": 0"#,
+        "deploy v2 9101 9102
+available 2 2
+deploy v3 9201 9202
+available 3 2",
+    ),
+    // reverts while draining
+    (
+        "",
+        "available 1 2
+enter 0 active
+deploy v2 9101 9102
+available 2 2
+tick 30
+deploy v1 9001 9002
+report
+leave 0
+report",
+    ),
+    // superseded while active
+    (
+        r#", "postPromotionAnalysis": {}"#,
+        "available 1 2
+deploy v2 9101 9102
+available 2 2
+deploy v3 9201 9202
+report
+abort
+report
+tick 30",
+    ),
+    // full promotion
+    (
+        r#", "prePromotionAnalysis": {"templates": []}, "postPromotionAnalysis": {}"#,
+        "promote full
+deploy v2 9101 9102
+promote full
+promote full
+available 2 2",
+    ),
+    // moments and bad arguments
+    (
+        "",
+        "tick 5
+tick 4
+tick 5
+tick 9007199254740993
+tick 9007199254740992
+available 2 0
+deploy V2 1 2
+deploy v2 1
+deploy v2 7 7",
+    ),
+    // a request on each seat, one of them twice
+    (
+        "",
+        "enter 0 active
+available 1 2
+enter 0 active
+enter 0 active
+enter 1 active
+enter 2 preview
+enter 3 active
+leave 2
+leave 0
+enter 0 active
+enter 9 active
+leave 9
+report",
+    ),
+    // requests that are still in at the end
+    (
+        "",
+        "available 1 2
+enter 3 active
+enter 1 active
+deploy v2 9101 9102
+available 2 2
+enter 0 active
+tick 30
+report",
+    ),
+];
+
+/// A script, and the strategy of its book.
+#[derive(Drop)]
+struct Script<'a> {
+    alloc: Global,
+    strategy: &'a Strategy,
+    lines: &'a str,
+}
+
+/// What was answered, and the entries of the history once all seats have left.
+#[derive(Drop)]
+struct Played {
+    answers: Vec<u8>,
+    entries: Vec<u8>,
+}
+
+/// Where the lines of a script are carried out.
+trait Player {
+    fn call(&mut self, call: &Call) -> Reply;
+
+    fn report(&self, text: &mut Vec<u8>) -> io::Result<()>;
+}
+
+/// A book and its seats.
+struct AtBook<N: Names> {
+    book: Book<N>,
+    seats: Vec<Seat<N>>,
+    ghost all: { are_all 4 seats.items ≡ true },
+}
+
+impl<N: Names> Player for AtBook<N> {
+    fn call(&mut self, call: &Call) -> Reply {
+        lent();
+        self.book.call(self.seats.as_mut_slice(), call)
+    }
+
+    fn report(&self, text: &mut Vec<u8>) -> io::Result<()> {
+        report(&self.book, text)
+    }
+}
+
+/// A desk and its seats.
+struct AtDesk<'a, N: Names, R: Wait> {
+    rt: &'a R,
+    desk: Desk<N>,
+    seats: Vec<Seat<N>>,
+    ghost all: { are_all 4 seats.items ≡ true },
+}
+
+/// The report of a book.
+#[derive(Drop)]
+struct Report<'a> {
+    text: &'a mut Vec<u8>,
+}
+
+impl Question<io::Result<()>> for Report<'_> {
+    ghost gives = { λ _ _ _. ⊤ };
+
+    fn ask<N: Names>(self, book: &Book<N>) -> io::Result<()> {
+        report(book, self.text)
+    }
+}
+
+impl<N: Names, R: Wait> Player for AtDesk<'_, N, R> {
+    fn call(&mut self, call: &Call) -> Reply {
+        lent();
+        make(self.rt, &self.desk, self.seats.as_mut_slice(), call)
+    }
+
+    fn report(&self, text: &mut Vec<u8>) -> io::Result<()> {
+        self.desk.look(self.rt, Report { text })
+    }
+}
+
+/// Carries out the lines of a script, and writes what each is answered.
+fn play<P: Player>(script: &Script, player: &mut P, answers: &mut Vec<u8>) -> Result<(), Fail> {
+    for line in script.lines.lines() {
+        match parse_line(script.alloc, line.as_bytes())? {
+            Command::Control(event) => reply(&player.call(&Call::Control(event)), answers)?,
+            Command::Enter { seat, service } => {
+                reply(&player.call(&Call::Enter { seat, service }), answers)?;
+            }
+            Command::Leave { seat } => reply(&player.call(&Call::Leave { seat }), answers)?,
+            Command::Report => player.report(answers)?,
+            Command::Open { .. } | Command::Quit => return Err(LineFault::UnknownWord.into()),
+        }
+    }
+    Ok(())
+}
+
+/// Writes the entries of a history, oldest first.
+fn write_entries(history: &History, text: &mut Vec<u8>) -> io::Result<()> {
+    for place in 0..history.len() {
+        if let Some(entry) = history.get(place) {
+            writeln!(text, "{entry:?}")?;
+        }
+    }
+    Ok(())
+}
+
+/// Opens a book of four seats.
+fn open<N: Names>(script: &Script, blanks: Blanks) -> Result<AtBook<N>, Fail>
+    requires blanks { AreAllFor N.Names blanks }
+    requires seats { N.seats ≡ 4 }
+{
+    let (book, seats) = Book::open(
+        script.alloc,
+        script.strategy,
+        "v1",
+        &[9001, 9002],
+        4,
+        Limits::usual(),
+        blanks,
+    )?;
+    Ok(AtBook { book, seats })
+}
+
+fn play_at_book<N: Names>(script: &Script, blanks: Blanks) -> Result<Played, Fail>
+    requires blanks { AreAllFor N.Names blanks }
+    requires seats { N.seats ≡ 4 }
+{
+    let mut player = open::<N>(script, blanks)?;
+    let mut answers = Vec::new(script.alloc);
+    let mut entries = Vec::new(script.alloc);
+    let played = play(script, &mut player, &mut answers);
+    let AtBook { book, seats } = player;
+    let history = book.close(seats);
+    played?;
+    write_entries(&history, &mut entries)?;
+    Ok(Played { answers, entries })
+}
+
+fn play_at_desk<N: Names, R: Wait>(rt: &R, script: &Script, blanks: Blanks) -> Result<Played, Fail>
+    requires blanks { AreAllFor N.Names blanks }
+    requires seats { N.seats ≡ 4 }
+{
+    let AtBook { book, seats } = open::<N>(script, blanks)?;
+    let mut answers = Vec::new(script.alloc);
+    let mut entries = Vec::new(script.alloc);
+    let desk = Desk::new(book);
+    let mut player = AtDesk { rt, desk, seats };
+    let played = play(script, &mut player, &mut answers);
+    let AtDesk { rt: _, desk, seats } = player;
+    let history = desk.into_book().close(seats);
+    played?;
+    write_entries(&history, &mut entries)?;
+    Ok(Played { answers, entries })
+}
+
+/// The strategy with these settings.
+fn strategy_with(alloc: Global, settings: &str) -> Result<Strategy, Fail> {
+    let mut text = Vec::new(alloc);
+    write!(
+        text,
+        r#"{{"spec": {{"replicas": 2, "strategy": {{"blueGreen": {{"activeService": "web"{settings}}}}}}}}}"#
+    )?;
+    Ok(read(alloc, &text)?)
+}
+
+/// What the script is answered by a book, and by a desk.
+fn play_both<R: Wait>(
+    rt: &R,
+    alloc: Global,
+    settings: &str,
+    lines: &str,
+) -> Result<(Played, Played), Fail> {
+    let strategy = strategy_with(alloc, settings)?;
+    let script = Script {
+        alloc,
+        strategy: &strategy,
+        lines,
+    };
+    let at_book = play_at_book::<Brand>(&script, Blanks::new())?;
+    let at_desk = play_at_desk::<Brand, R>(rt, &script, Blanks::new())?;
+    Ok((at_book, at_desk))
+}
+
+#[test]
+fn desk_rows(rt: HostRuntime) -> Result<(), Fail> {
+    for (settings, script) in &ROWS {
+        let (at_book, at_desk) = play_both(&rt, rt.alloc(), settings, script)?;
+        assert!(rt; !at_book.answers.is_empty(), "{script}");
+        assert_eq!(rt;
+            at_desk.answers.as_slice(),
+            at_book.answers.as_slice(),
+            "{script}"
+        );
+        assert_eq!(rt;
+            at_desk.entries.as_slice(),
+            at_book.entries.as_slice(),
+            "{script}"
+        );
+    }
+    Ok(())
+}

@@ -1,0 +1,152 @@
+//! Threads at one desk.
+ghost use Rattle.std.specs.Prelude.{◌≡◌, IfOk};
+ghost use Rattle.bg_book.specs.Gathering.{indices};
+ghost use Rattle.bg_book.specs.Runs.{AreOut};
+ghost use Rattle.bg_ledger.specs.Blanks.{AreAllFor};
+
+use crate::book::samples::strategy;
+use bg_book::laws::{lent, same_order};
+use bg_book::{Book, Control, Desk, Limits};
+use bg_history::History;
+use bg_ledger::{Blanks, Names, Seat};
+use bg_revisions::Service;
+use std::alloc::Global;
+use std::marker::Brand;
+use std::sync::Wait;
+use std::test::Fail;
+use std::thread::{Threads, for_each_mut, join_mut};
+
+/// How often each worker enters and leaves.
+const ROUNDS: u32 = 1000;
+
+/// The last of the ticks.
+const LAST_MOMENT: u64 = 100;
+
+/// A worker: each round enters and leaves. Rounds that are refused are not made up for.
+fn work<N: Names, R: Wait>(rt: &R, desk: &Desk<N>, seat: &mut Seat<N>)
+    requires { seat.old.number ≡ 0 }
+    ensures out { seat.new.number ≡ 0 }
+    ensures index { seat.new.index ≡ seat.old.index }
+{
+    for _ in 0..ROUNDS {
+        if desk.enter(rt, seat, Service::Active).is_ok() {
+            let _left = desk.leave(rt, seat);
+        }
+    }
+}
+
+/// Works each seat in a thread of its own.
+fn work_all<N: Names + Send + Sync, R: Threads + Wait + Sync>(
+    rt: &R,
+    desk: &Desk<N>,
+    seats: &mut [Seat<N>],
+)
+    requires { AreOut seats.old }
+    ensures { indices seats.new ≡ indices seats.old }
+{
+    same_order();
+    let threads = seats.len();
+    if threads == 0 {
+        return;
+    }
+    for_each_mut(
+        rt,
+        seats,
+        threads,
+        &|_place, seat: &mut Seat<N>|
+            requires { seat.now.number ≡ 0 }
+            ensures { seat.exit.now.index ≡ seat.entry.now.index }
+        { work(rt, desk, seat) },
+    );
+}
+
+/// Makes the ticks. Those that are refused are not made up for.
+fn tick<N: Names, R: Wait>(rt: &R, desk: &Desk<N>) {
+    for moment in 1..=LAST_MOMENT {
+        let _told = desk.control(rt, &Control::Tick(moment));
+    }
+}
+
+/// Works the seats, and makes the ticks beside them.
+fn work_and_tick<N: Names + Send + Sync, R: Threads + Wait + Sync>(
+    rt: &R,
+    desk: &Desk<N>,
+    seats: &mut [Seat<N>],
+)
+    requires { AreOut seats.old }
+    ensures { indices seats.new ≡ indices seats.old }
+{
+    join_mut(
+        rt,
+        &mut ||
+            requires { AreOut seats.now }
+            ensures { indices seats.exit.now ≡ indices seats.entry.now }
+        { work_all(rt, desk, seats) },
+        &mut || tick(rt, desk),
+    );
+}
+
+/// What the test looks at.
+#[derive(Drop)]
+struct Worked {
+    calls: [u64; 2],
+    history: History,
+}
+
+/// How many calls both seats were answered.
+fn calls_of_both<N: Names>(seats: &[Seat<N>]) -> [u64; 2] {
+    match seats {
+        [first, second] => [first.calls(), second.calls()],
+        _ => [0, 0],
+    }
+}
+
+/// Opens a book of two seats with both endpoints, works it, and gathers.
+fn open_and_work<N: Names + Send + Sync, R: Threads + Wait + Sync>(
+    rt: &R,
+    alloc: Global,
+    blanks: Blanks,
+) -> Result<Worked, Fail>
+    requires blanks { AreAllFor N.Names blanks }
+    requires seats { N.seats ≡ 2 }
+    ensures { IfOk result (λ worked. worked.history.opening.seats ≡ 2) }
+{
+    lent();
+    let strategy = strategy(alloc)?;
+    let available = Control::Available {
+        revision: 1,
+        size: 2,
+    };
+    let (book, mut seats) = Book::<N>::open(
+        alloc,
+        &strategy,
+        "v1",
+        &[9001, 9002],
+        2,
+        Limits::usual(),
+        blanks,
+    )?;
+    let desk = Desk::new(book);
+    let told = desk.control(rt, &available);
+    work_and_tick(rt, &desk, seats.as_mut_slice());
+    let calls = calls_of_both(&seats);
+    let history = desk.into_book().close(seats);
+    let _outcomes = told?;
+    Ok(Worked { calls, history })
+}
+
+fn with_new_names<R: Threads + Wait + Sync>(rt: &R, alloc: Global) -> Result<Worked, Fail>
+    ensures { IfOk result (λ worked. worked.history.opening.seats ≡ 2) }
+{
+    open_and_work::<Brand, R>(rt, alloc, Blanks::new())
+}
+
+#[test]
+fn desk_threads(rt: HostRuntime) -> Result<(), Fail> {
+    let worked = with_new_names(&rt, rt.alloc())?;
+    assert_eq!(rt; worked.calls, [2000, 2000]);
+    assert_eq!(rt; worked.history.len(), 4101);
+    assert_eq!(rt; worked.history.closed(0), 0);
+    assert_eq!(rt; worked.history.closed(1), 0);
+    Ok(())
+}
