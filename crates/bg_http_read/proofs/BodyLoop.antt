@@ -1,6 +1,6 @@
 -- A body that is read from a stream.
-use Rattle.std.proofs.Common.{◌≡◌, ℕ, zero, suc, ◌==◌, List, [], ◌++◌, length, drop, refl, ap, sym, ◌∙◌, append_assoc, subst, true, Option, Some, None, IfSome}
-use Rattle.std.proofs.lemmas.List.{append-nil}
+use Rattle.std.proofs.Common.{◌≡◌, ℕ, zero, suc, ◌==◌, List, [], ◌∷◌, ◌++◌, length, refl, ap, sym, ◌∙◌, append_assoc, subst, true, IsFalse, arith, Option, Some, None, IfSome}
+use Rattle.std.proofs.lemmas.List.{append-nil, length-append}
 use Rattle.std.proofs.lemmas.Bool.{eqb-true}
 use Rattle.std.specs.Io.KnownBytes.{Keeps, IsAtEnd, prepend_known}
 use Rattle.bg_http.specs.declared.response_fault.ResponseFault.TheVariants as fault
@@ -9,26 +9,48 @@ use Rattle.bg_http_read.specs.declared.body.Stage.{Stage}
 use Rattle.bg_http_read.specs.declared.body.Stage.TheVariants as stage
 use Rattle.bg_http_read.specs.declared.body_fault.BodyFault.{BodyFault}
 use Rattle.bg_http_read.specs.declared.body_fault.BodyFault.TheVariants as body_fault
-use Rattle.bg_http_read.specs.declared.intake.IntakeFault.{IntakeFault}
-use Rattle.bg_http_read.specs.declared.intake.IntakeFault.TheVariants as intake_fault
-use Rattle.bg_http_read.specs.Bodies.{ReadsOn, Reads, Fails, FailsOn, Takes, Refuses, is_whole, can_end}
+use Rattle.bg_http_read.specs.Bodies.{ReadsOn, Reads, Fails, Takes, Follows, Refuses, is_whole, can_end}
 use Rattle.bg_http_read.specs.BodyFaults.{Failure, malformed, large, cut}
-use Rattle.bg_http_read.specs.BodiesRead.{read_fault, of_machine, Leaves, BodyFails}
+use Rattle.bg_http_read.specs.BodiesRead.{read_fault, Leaves, BodyFails}
 
--- what a parser reads of an input is what another has to read of another, and so it fails
-pub record Follows (one : Body) (first : List ℕ) (other : Body) (second : List ℕ) : Type 0 where
-  pub read : (more body rest : List ℕ) → Reads other (second ++ more) body rest
-      → Reads one (first ++ more) body rest
-  pub fails : (failure : Failure) (more : List ℕ) → Fails other failure (second ++ more)
-      → Fails one failure (first ++ more)
-
-pub follows_itself : (body : Body) (left : Option (List ℕ))
-    → Leaves (λ i j. Follows body i body j) left left
-follows_itself body None = tt
-follows_itself body (Some input) = record {
+pub follows_itself : (body : Body) (bytes : List ℕ) → Follows body bytes body bytes
+follows_itself body bytes = record {
   read = λ more b rest h. h;
   fails = λ failure more h. h;
+  ends = λ e. e;
 }
+
+-- what follows one state follows those before it
+pub follows_both : (one other next : Body) (first bytes now : List ℕ)
+    → Follows one first other bytes → Follows other bytes next now → Follows one first next now
+follows_both one other next first bytes now h k = record {
+  read = λ more b rest r. h.read more b rest (k.read more b rest r);
+  fails = λ failure more r. h.fails failure more (k.fails failure more r);
+  ends = λ to_end. h.ends (k.ends to_end);
+}
+
+-- more bytes come
+pub follows_behind : (one other : Body) (first bytes more : List ℕ)
+    → Follows one first other bytes → Follows one (first ++ more) other (bytes ++ more)
+follows_behind one other first bytes more h = record {
+  read = λ later b rest r.
+      subst (λ l. Reads one l b rest) (sym (append_assoc first more later))
+      (h.read (more ++ later) b rest
+      (subst (λ l. Reads other l b rest) (append_assoc bytes more later) r));
+  fails = λ failure later r.
+      subst (Fails one failure) (sym (append_assoc first more later))
+      (h.fails failure (more ++ later)
+      (subst (Fails other failure) (append_assoc bytes more later) r));
+  ends = λ to_end. h.ends to_end;
+}
+
+-- where no more is taken, what the last state needs, the first one does
+pub wants_first : (one other next : Body) (first bytes : List ℕ) (count : ℕ)
+    → Follows one first other bytes → Takes other next bytes count → count ≡ 0
+    → IsFalse (can_end next.stage) → Fails one cut first
+wants_first one other next first bytes count h t none wanting =
+    subst (Fails one cut) (append-nil first)
+    (h.fails cut [] (subst (Fails other cut) (sym (append-nil bytes)) (t.1.wants none wanting)))
 
 -- the bytes are held elsewhere
 pub follows_kept : (one other : Body) (first second third : Option (List ℕ))
@@ -40,27 +62,26 @@ follows_kept one other (Some i) (Some j) None h kept = absurd kept
 follows_kept one other (Some i) (Some j) (Some k) h kept =
     subst (λ l. Follows one i other l) (sym kept) h
 
--- bytes are taken
-pub follows_taken : (one other next : Body) (first left : Option (List ℕ)) (bytes now : List ℕ)
-    (count : ℕ) → Leaves (λ i j. Follows one i other j) first (prepend_known bytes left)
-    → Takes other next bytes count → now ≡ drop count bytes
+-- bytes that wait are taken
+pub follows_on : (one other next : Body) (first left : Option (List ℕ)) (bytes now : List ℕ)
+    → Leaves (λ i j. Follows one i other j) first (prepend_known bytes left)
+    → Follows other bytes next now
     → Leaves (λ i j. Follows one i next j) first (prepend_known now left)
-follows_taken one other next None left bytes now count h t e = tt
-follows_taken one other next (Some i) None bytes now count h t e = absurd h
-follows_taken one other next (Some i) (Some j) bytes now count h t e = record {
+follows_on one other next None left bytes now h f = tt
+follows_on one other next (Some i) None bytes now h f = absurd h
+follows_on one other next (Some i) (Some j) bytes now h f = record {
   read = λ more b rest r.
       h.read more b rest (subst (λ l. Reads other l b rest) (sym (append_assoc bytes j more))
-      (t.1.read (j ++ more) b rest (subst (λ l. Reads next l b rest) (sym (back more)) r)));
+      (f.read (j ++ more) b rest
+      (subst (λ l. Reads next l b rest) (append_assoc now j more) r)));
   fails = λ failure more r.
       h.fails failure more (subst (Fails other failure) (sym (append_assoc bytes j more))
-      (t.1.fails failure (j ++ more) (subst (λ n. FailsOn failure n next.stage (length next.bytes.items) (drop count bytes ++ (j ++ more))) t.0 (subst (Fails next failure) (sym (back more)) r))));
+      (f.fails failure (j ++ more) (subst (Fails next failure) (append_assoc now j more) r)));
+  ends = λ to_end. h.ends (f.ends to_end);
 }
-  where
-    back : (more : List ℕ) → drop count bytes ++ (j ++ more) ≡ (now ++ j) ++ more
-    back more = sym (append_assoc (drop count bytes) j more) ∙ ap (λ l. (l ++ j) ++ more) (sym e)
 
 -- nothing is missing: what is left is the rest
-whole_reads : (s : Stage) (done input : List ℕ) → is_whole s ≡ true → ReadsOn s done input done input
+pub whole_reads : (s : Stage) (done input : List ℕ) → is_whole s ≡ true → ReadsOn s done input done input
 whole_reads (stage.Length left) done input h = record {
   bytes = [];
   size_is = sym (is_zero left h);
@@ -77,7 +98,7 @@ whole_reads stage.Trailers done input h = cc
 whole_reads stage.ToTheEnd done input h = cc
 whole_reads stage.Whole done input h = (refl, refl)
 
-end_reads : (s : Stage) (done input : List ℕ) → can_end s ≡ true → (s ≡ stage.ToTheEnd → input ≡ [])
+pub end_reads : (s : Stage) (done input : List ℕ) → can_end s ≡ true → (s ≡ stage.ToTheEnd → input ≡ [])
     → ReadsOn s done input done input
 end_reads (stage.Length left) done input h e = whole_reads (stage.Length left) done input h
 end_reads stage.Line done input h e = cc
@@ -121,14 +142,32 @@ fails_first : (one other : Body) (i j : List ℕ) (failure : Failure) → Follow
 fails_first one other i j failure f h =
     subst (Fails one failure) (append-nil i) (f.fails failure [] (h []))
 
+-- where as many bytes wait as before and no more come, none came
+none_came : (now later i j : List ℕ) → later ++ j ≡ now ++ i → later ≡ now → j ≡ [] → i ≡ []
+none_came now later i j kept same end = empty i (omega (
+  arith,
+  ap length kept,
+  ap length same,
+  ap length end,
+  length-append later j,
+  length-append now i,
+))
+  where
+    empty : (l : List ℕ) → length l ≡ 0 → l ≡ []
+    empty [] e = refl
+    empty (x ∷ l) e = absurd (omega (arith, e))
+
 -- the input ends before the body does
-pub closed_body : (one other : Body) (first left : Option (List ℕ)) (now : List ℕ)
-    → Leaves (λ i j. Follows one i other j) first (prepend_known now left) → IsAtEnd left
-    → Fails other cut now → IfSome first (λ input. BodyFails one input fault.Closed)
-closed_body one other None left now f at h = tt
-closed_body one other (Some i) None now f at h = absurd f
-closed_body one other (Some i) (Some j) now f at h =
-    let ends = append-nil (now ++ j) ∙ ap (λ l. now ++ l) at ∙ append-nil now in
+pub closed_body : (one other : Body) (first left later : Option (List ℕ)) (bytes now rest : List ℕ)
+    → Leaves (λ i j. Follows one i other j) first (prepend_known bytes left)
+    → Fails other cut bytes → Keeps (prepend_known now left) (prepend_known rest later)
+    → rest ≡ now → IsAtEnd later → IfSome first (λ input. BodyFails one input fault.Closed)
+closed_body one other None left later bytes now rest f h kept same end = tt
+closed_body one other (Some i) None later bytes now rest f h kept same end = absurd f
+closed_body one other (Some i) (Some j) None bytes now rest f h kept same end = absurd kept
+closed_body one other (Some i) (Some j) (Some k) bytes now rest f h kept same end =
+    let none : j ≡ [] = none_came now rest j k kept same end in
+    let ends = append-nil (bytes ++ j) ∙ ap (λ l. bytes ++ l) none ∙ append-nil bytes in
     subst (Fails one cut) (append-nil i)
     (f.fails cut [] (subst (Fails other cut) (sym ends) h))
 
@@ -145,10 +184,3 @@ refused_body one other (Some i) (Some j) bytes body_fault.TooLarge f r =
     fails_first one other i (bytes ++ j) large f
     (λ more. subst (Fails other large) (sym (append_assoc bytes j more)) (r (j ++ more)))
 refused_body one other (Some i) (Some j) bytes body_fault.OutOfMemory f r = tt
-
--- of a fault of the machine nothing is said
-pub machine_body : (one : Body) (first : Option (List ℕ)) (e : IntakeFault)
-    → IfSome first (λ input. BodyFails one input (of_machine e))
-machine_body one None e = tt
-machine_body one (Some i) intake_fault.ReadFailed = tt
-machine_body one (Some i) intake_fault.OutOfMemory = tt

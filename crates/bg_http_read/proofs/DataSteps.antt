@@ -24,6 +24,7 @@ takes_nothing limit s done bytes wants empty = record {
   fails = λ failure more h. h;
   wants = λ none. wants;
   empty = λ none. empty;
+  ends = λ e. e;
 }
 
 -- the first bytes of a length
@@ -93,6 +94,7 @@ takes_length limit left count done bytes e =
           fits h);
       wants = λ none wanting. omega (arith, none, e, positive (left - count) wanting);
       empty = λ none other. absurd (other_stage other);
+      ends = λ other. absurd (other_stage other);
     }
   where
     positive : (n : ℕ) → IsFalse (n == 0) → 0 < n
@@ -137,6 +139,7 @@ takes_data limit left count done bytes some e =
           (sums size) h));
       wants = λ none wanting. inl (line_end_missing left bytes (omega (arith, none, e, some)));
       empty = λ none other. absurd (other_stage other);
+      ends = λ other. absurd (other_stage other);
     }
   where
     other_stage : stage.Data (left - count) ≡ stage.ToTheEnd → ⊥
@@ -167,6 +170,7 @@ takes_line_end limit done after = record {
   });
   wants = λ none. absurd (omega (arith, none));
   empty = λ none. absurd (omega (arith, none));
+  ends = λ e. cc;
 }
 
 -- nothing of CR LF is there, or CR alone
@@ -202,6 +206,7 @@ takes_trailers limit done bytes count took fits found = record {
   fails = λ failure more h. absurd h;
   wants = λ none. absurd (omega (arith, none, took));
   empty = λ none. absurd (omega (arith, none, took));
+  ends = λ e. cc;
 }
 
 -- no trailers are there yet
@@ -235,6 +240,7 @@ takes_all limit done bytes = record {
       ));
   wants = λ none wanting. absurd (no_false wanting);
   empty = λ none same. no_bytes bytes none;
+  ends = λ e. e;
 }
   where
     all_dropped : (l : List ℕ) → drop (length l) l ≡ []

@@ -3,11 +3,12 @@ pub mod BodyOrFault
 pub mod ChunkLines
 pub mod DataSteps
 pub mod FaultStays
+pub mod FedResponses
 pub mod Filled
 pub mod Fronts
 pub mod HeadLengths
-pub mod InterimLoop
 pub mod InterimOrder
+pub mod InterimTaken
 pub mod LineSteps
 pub mod OneFailure
 pub mod OneFault
@@ -19,8 +20,9 @@ pub mod RequestsRead
 pub mod RequestBodies
 pub mod ResponseBodies
 pub mod ResponseOrFault
-pub mod ResponseHeadLoop
+pub mod ResponsePieces
 pub mod ResponseHeadsFound
+pub mod StreamFaults
 pub mod TrailersFound
 mod WorkedBodies
 mod WorkedHeads

@@ -95,6 +95,7 @@ takes_line limit done bytes count size took fits line some within = record {
       (line_more bytes more size (drop count bytes) line) some within h;
   wants = λ none. absurd (omega (arith, none, took));
   empty = λ none. absurd (omega (arith, none, took));
+  ends = λ e. cc;
 }
 
 -- the line of size 0 is taken
@@ -111,6 +112,7 @@ takes_end limit done bytes count took fits line within = record {
       (at_trailers (drop count bytes ++ more) (line_more bytes more 0 (drop count bytes) line) h);
   wants = λ none. absurd (omega (arith, none, took));
   empty = λ none. absurd (omega (arith, none, took));
+  ends = λ e. cc;
 }
 
 -- no line is there yet

@@ -97,7 +97,7 @@ pub record Unchanged (old new : Body) : Type 0 where
 
 -- of the limit, two stages with the bytes before them, and bytes: the first bytes were taken, and
 -- what was to be read of all, whatever follows, is what is still to be read of the others; where
--- none was taken, more are needed
+-- none was taken, more are needed. Only what went to the end of the input does so
 pub record TakesOn
     (limit : ℕ) (before : Stage) (done : List ℕ) (next : Stage) (now bytes : List ℕ) (count : ℕ)
     : Type 0 where
@@ -109,6 +109,7 @@ pub record TakesOn
       → FailsOn failure limit before (length done) (bytes ++ more)
   pub wants : count ≡ 0 → IsFalse (can_end next) → FailsOn cut limit before (length done) bytes
   pub empty : count ≡ 0 → next ≡ stage.ToTheEnd → bytes ≡ []
+  pub ends : next ≡ stage.ToTheEnd → before ≡ stage.ToTheEnd
 
 -- the parser took the first bytes
 abbrev pub Takes : Body → Body → List ℕ → ℕ → Type 0
@@ -124,6 +125,15 @@ Reads parser input body rest = ReadsOn parser.stage parser.bytes.items input bod
 abbrev pub Fails : Body → Failure → List ℕ → Type 0
 Fails parser failure input =
     FailsOn failure parser.limit parser.stage (length parser.bytes.items) input
+
+-- whatever follows, what a parser has to read of bytes is what another has to read of others, and
+-- so it fails
+pub record Follows (one : Body) (first : List ℕ) (other : Body) (second : List ℕ) : Type 0 where
+  pub read : (more body rest : List ℕ) → Reads other (second ++ more) body rest
+      → Reads one (first ++ more) body rest
+  pub fails : (failure : Failure) (more : List ℕ) → Fails other failure (second ++ more)
+      → Fails one failure (first ++ more)
+  pub ends : other.stage ≡ stage.ToTheEnd → one.stage ≡ stage.ToTheEnd
 
 -- what a fault says of bytes, whatever follows them
 abbrev pub RefusesOn : ℕ → Stage → List ℕ → List ℕ → BodyFault → Type 0

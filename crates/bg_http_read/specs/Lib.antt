@@ -8,4 +8,5 @@ pub mod RequestHeads
 pub mod Requests
 pub mod ResponseHeads
 pub mod Responses
+pub mod ResponsesFed
 pub mod Streams

@@ -1,11 +1,14 @@
 //! A body, which is fed the bytes as they come.
-ghost use Rattle.std.specs.Prelude.{◌≡◌, ◌<◌, [], IfOk, IfErr, OnErr};
-ghost use Rattle.bg_http_read.specs.Bodies.{KeepsLimit, Refuses, Takes, Unchanged};
+ghost use Rattle.std.specs.Prelude.{◌≡◌, ◌<◌, [], IfOk, IfErr, IsFalse, OnErr, OnOk};
+ghost use Rattle.bg_http_read.specs.Bodies.{Fails, Follows, KeepsLimit, Refuses, Takes, Unchanged};
 ghost use Rattle.bg_http_read.specs.Bodies.{can_end, is_whole};
+ghost use Rattle.bg_http_read.specs.BodyFaults.{cut};
+ghost use Rattle.bg_http_read.specs.Streams.{waiting};
 ghost use Rattle.bg_http_read.specs.declared.body.Stage.TheVariants as stage;
 
 use crate::body_fault::BodyFault;
 use crate::chunk_lines::find_line;
+use crate::intake::Intake;
 use crate::trailers::find_trailers;
 use bg_http::Bytes;
 use std::alloc::{AllocError, Global};
@@ -102,6 +105,29 @@ impl Body {
             Stage::Length(left) => left == 0,
             Stage::ToTheEnd | Stage::Whole => true,
             Stage::Line | Stage::Data(_) | Stage::Trailers => false,
+        }
+    }
+
+    /// Takes all that is its own of the bytes that wait, and tells whether it is whole. Where it
+    /// isn't, it needs more than these; one that goes to the end of the input has taken them all.
+    pub(crate) fn take_waiting(&mut self, intake: &mut Intake) -> Result<bool, BodyFault>
+        requires { KeepsLimit self.old }
+        ensures taken { OnOk result
+            (Follows self.old (waiting intake.old) self.new (waiting intake.new)) }
+        ensures whole { IfOk result (λ whole. whole ≡ is_whole self.new.stage) }
+        ensures wants { OnOk result (IsFalse (can_end self.new.stage)
+            → Fails self.old cut (waiting intake.old)) }
+        ensures empty { OnOk result (self.new.stage ≡ stage.ToTheEnd → waiting intake.new ≡ []) }
+        ensures refused { IfErr result (λ fault. Refuses self.old (waiting intake.old) fault) }
+        ensures within { KeepsLimit self.new }
+        ensures limit { self.new.limit ≡ self.old.limit }
+    {
+        loop {
+            let count = self.take(intake.get())?;
+            if count == 0 {
+                return Ok(self.is_whole());
+            }
+            intake.skip(count);
         }
     }
 

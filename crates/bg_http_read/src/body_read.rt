@@ -26,16 +26,10 @@ pub(crate) fn read_body<S: Duplex>(
     ensures kept { Keeps (S.contents stream.old) (S.contents stream.new) }
 {
     for _ in 0..MOST_TURNS {
-        if body.is_whole() {
-            return Ok(());
-        }
-        let count = match body.take(intake.get()) {
-            Ok(count) => count,
+        match body.take_waiting(intake) {
+            Ok(true) => return Ok(()),
+            Ok(false) => {}
             Err(fault) => return Err(ResponseFault::from(fault)),
-        };
-        if count > 0 {
-            intake.skip(count);
-            continue;
         }
         match intake.fill(stream) {
             Ok(true) => {}

@@ -1,5 +1,6 @@
 //! Bytes that were read from a stream and not yet taken.
-ghost use Rattle.std.specs.Prelude.{◌≡◌, ◌<◌, ◌≤◌, [], IfOk, IfSome, IsFalse, OnOk, drop, length, take};
+ghost use Rattle.std.specs.Prelude.{◌≡◌, ◌<◌, ◌≤◌, ◌++◌, [], IfOk, IfSome, IsFalse, OnErr, OnOk};
+ghost use Rattle.std.specs.Prelude.{drop, length, take};
 ghost use Rattle.std.specs.Io.KnownBytes.{Consumes, IsAtEnd, Keeps};
 ghost use Rattle.bg_http_read.specs.Streams.{to_come, waiting};
 
@@ -11,7 +12,7 @@ use std::io::{ErrorKind, Read};
 pub(crate) const MOST_TURNS: u32 = 1 << 24;
 
 /// How many bytes are asked for at once.
-const PIECE: usize = 4096;
+pub(crate) const PIECE: usize = 4096;
 
 /// Why no more bytes come.
 #[derive(Clone, Copy, PartialEq, Eq, Debug, Drop)]
@@ -33,7 +34,7 @@ impl From<AllocError> for IntakeFault {
 }
 
 /// One read, tried again where it was interrupted; how many bytes it gave, none where it failed.
-fn read_piece<S: Duplex>(stream: &mut S, piece: &mut [u8]) -> Option<usize>
+pub(crate) fn read_piece<S: Duplex>(stream: &mut S, piece: &mut [u8]) -> Option<usize>
     ensures fits { IfSome result (λ count. count ≤ length piece.new) }
     ensures bytes { IfSome result (λ count.
         Consumes (S.remaining stream.old) (S.remaining stream.new) (take count piece.new)) }
@@ -105,6 +106,15 @@ impl Intake {
         self.bytes.rotate_left(taken);
         self.bytes.truncate(left);
         self.taken = 0;
+    }
+
+    /// Puts bytes behind those that wait. Where memory is refused, those wait as before.
+    pub(crate) fn add(&mut self, bytes: &[u8]) -> Result<(), AllocError>
+        ensures added { OnOk result (waiting self.new ≡ waiting self.old ++ bytes.now) }
+        ensures kept { OnErr result (waiting self.new ≡ waiting self.old) }
+    {
+        self.compact();
+        self.bytes.extend_from_slice(bytes)
     }
 
     /// Adds the next bytes of the stream, and tells whether there were any.

@@ -6,6 +6,7 @@ mod body;
 mod body_fault;
 mod body_read;
 mod chunk_lines;
+mod final_head;
 mod head_fault;
 mod head_limits;
 mod intake;
@@ -14,8 +15,9 @@ mod one_way;
 mod request_head;
 mod request_head_read;
 mod request_read;
+mod response_body;
 mod response_head;
-mod response_head_read;
+mod response_parser;
 mod response_read;
 mod trailers;
 

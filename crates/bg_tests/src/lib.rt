@@ -7,6 +7,8 @@ mod book;
 #[cfg(test)]
 mod desk;
 #[cfg(test)]
+mod forward;
+#[cfg(test)]
 mod history;
 #[cfg(test)]
 mod http;

@@ -1,9 +1,8 @@
 use Rattle.std.proofs.Common.{◌≡◌}
 use Rattle.std.specs.Io.KnownBytes.{Keeps}
-use Rattle.bg_http_read.specs.Bodies.{KeepsLimit}
+use Rattle.bg_http_read.specs.Bodies.{Follows, KeepsLimit}
 use Rattle.bg_http_read.specs.BodiesRead.{Leaves}
 use Rattle.bg_http_read.specs.Streams.{to_come}
-use Rattle.bg_http_read.proofs.BodyLoop.{Follows}
 use Rattle.bg_http_read.proofs.body_read.read_body.Given as goal
 
 abbrev pub invariant-loop : goal.invariant-loop

@@ -1,0 +1,4 @@
+pub mod Connected
+pub mod Flushed
+pub mod HandedOn
+pub mod Rounds

@@ -1,0 +1,22 @@
+use Rattle.std.proofs.Common.{IfOk, Result, Ok, Err}
+use Rattle.bg_book.specs.Headline.{Headline}
+use Rattle.bg_book.specs.Meeting.{Meets}
+use Rattle.bg_book.specs.Refusals.{IsTicket}
+use Rattle.bg_book.specs.Routing.{Routing}
+use Rattle.bg_book.specs.declared.calls.Ticket.{Ticket}
+use Rattle.bg_book.specs.declared.fault.EnterFault.{EnterFault}
+use Rattle.bg_ledger.specs.declared.holding.Holding.{Holding}
+use Rattle.bg_revisions.specs.declared.revision.Service.{Service}
+use Rattle.bg_forward.proofs.door.DoorGate.enter.Goals as goal
+
+-- the book that is met gives the ticket
+given : (b : Routing) (seat : Holding) (service : Service) (r : Result Ticket EnterFault)
+    → Headline b → Meets b seat → IfOk r (IsTicket b service)
+    → IfOk r (λ t. (b : Routing) × Headline b × Meets b seat × IsTicket b service t)
+given b seat service (Ok t) headline meets is = (b, headline, meets, is)
+given b seat service (Err e) headline meets is = tt
+
+pub returns-clause-gives : goal.returns-clause-gives
+returns-clause-gives g c =
+    let told = c.enter.ensures.told in
+    given told.0 c.args.seat.now c.args.service c.enter.result told.1 told.2 told.4

@@ -1,0 +1,118 @@
+-- What became of a connection, and what its client was written.
+use Rattle.std.specs.Prelude.{◌≡◌, ◌⊎◌, ℕ, IfSome, if◌then◌else◌, List}
+use Rattle.std.specs.Prelude.{[], ◌++◌, Option, Some, None, Result, Ok, Err, ⊤}
+use Rattle.std.specs.Io.KnownBytes.{Appends}
+use Rattle.bg_book.specs.declared.calls.Ticket.{Ticket}
+use Rattle.bg_http.specs.RequestRules.{owes_continue}
+use Rattle.bg_http.specs.Statuses.{request_status}
+use Rattle.bg_http.specs.Texts.{refusal_text, response_text}
+use Rattle.bg_http.specs.declared.request.Request.{Request}
+use Rattle.bg_http.specs.declared.request.RequestHead.{RequestHead}
+use Rattle.bg_http.specs.declared.request_fault.RequestFault.{RequestFault}
+use Rattle.bg_http.specs.declared.request_fault.RequestFault.TheVariants as fault
+use Rattle.bg_http.specs.declared.request_rules.Framing.{Framing}
+use Rattle.bg_http.specs.declared.response.Response.{Response}
+use Rattle.bg_http_read.specs.Requests.{HeadRefused, JudgedHead, ReadsRequest, RequestFails, continue_text}
+use Rattle.bg_forward.specs.declared.serving.End.{End}
+use Rattle.bg_forward.specs.declared.serving.End.TheVariants as end
+
+-- what came of reading a request
+abbrev pub ReadOutcome : Type 0
+ReadOutcome = Result Request RequestFault
+
+-- the client's bytes begin with this request, or have this fault
+abbrev pub ReadsAs : Option (List ℕ) → ReadOutcome → Type 0
+ReadsAs input (Ok request) =
+    IfSome input (λ bytes. (rest : List ℕ) × ReadsRequest bytes request rest)
+ReadsAs input (Err fault) = IfSome input (λ bytes. RequestFails bytes fault)
+
+-- a refusal in this status, unless writing it failed
+abbrev pub MayBeRefused : ℕ → End → Type 0
+MayBeRefused status e = (e ≡ end.Refused status) ⊎ (e ≡ end.WriteFailed)
+
+-- an endpoint that can't be reached or gives no response is a bad gateway; for want of memory the
+-- service is unavailable
+abbrev pub IsGatewayStatus : ℕ → Type 0
+IsGatewayStatus status = (status ≡ 502) ⊎ (status ≡ 503)
+
+-- how a connection ends whose client is not to be answered
+abbrev pub unanswered : RequestFault → End
+unanswered fault.Closed = end.Closed
+unanswered fault.ReadFailed = end.ReadFailed
+unanswered _ = end.WriteFailed
+
+-- a fault with a status is refused in it, and one without ends the connection
+abbrev pub EndsBy : Option ℕ → RequestFault → End → Type 0
+EndsBy (Some status) fault e = MayBeRefused status e
+EndsBy None fault e = e ≡ unanswered fault
+
+-- how a connection may end that entered
+abbrev pub MayEndInside : End → Type 0
+MayEndInside (end.Answered code) = ⊤
+MayEndInside (end.Refused status) = IsGatewayStatus status
+MayEndInside end.WriteFailed = ⊤
+MayEndInside end.Closed = ⊥
+MayEndInside end.ReadFailed = ⊥
+
+-- how a connection may end, by what was read and by whether it entered: no request that is refused
+-- enters, and one that the gate refuses is answered 503
+abbrev pub MayEnd : ReadOutcome → Option Ticket → End → Type 0
+MayEnd (Err fault) None e = EndsBy (request_status fault) fault e
+MayEnd (Err fault) (Some t) e = ⊥
+MayEnd (Ok request) None e = MayBeRefused 503 e
+MayEnd (Ok request) (Some t) e = MayEndInside e
+
+-- the text of a response with this code to the request that was read
+abbrev pub IsResponseText : ReadOutcome → ℕ → List ℕ → Type 0
+IsResponseText (Ok request) code text =
+    (response : Response) × (response.code ≡ code) × (text ≡ response_text request response)
+IsResponseText (Err fault) code text = ⊥
+
+-- what the client is written last, by how the connection ended
+abbrev pub IsLastText : ReadOutcome → End → List ℕ → Type 0
+IsLastText read end.Closed text = text ≡ []
+IsLastText read end.ReadFailed text = text ≡ []
+IsLastText read (end.Refused status) text = text ≡ refusal_text status
+IsLastText read (end.Answered code) text = IsResponseText read code text
+IsLastText read end.WriteFailed text = ⊤
+
+-- what was written last; where writing failed, nothing is said
+abbrev pub WroteLast : Option (List ℕ) → Option (List ℕ) → ReadOutcome → End → Type 0
+WroteLast old new read end.WriteFailed = ⊤
+WroteLast old new read e = (text : List ℕ) × IsLastText read e text × Appends old new text
+
+-- a head that passes all rules was read, and this is what it is owed: `100 Continue` or nothing
+pub record IsOwed (input : Option (List ℕ)) (interim : List ℕ) : Type 0 where
+  pub head : RequestHead
+  pub framing : Framing
+  pub begins : IfSome input (λ bytes. (after : List ℕ) × JudgedHead bytes head framing after)
+  pub interim_is : interim ≡ (if owes_continue head framing then continue_text else [])
+
+-- what was written while the request was read: what its head is owed, and nothing where the head
+-- was refused. Where a read failed or memory was refused it may be either
+abbrev pub IsInterim : Option (List ℕ) → ReadOutcome → List ℕ → Type 0
+IsInterim input (Ok request) interim = IsOwed input interim
+IsInterim input (Err fault) interim =
+    ((interim ≡ []) × IfSome input (λ bytes. HeadRefused bytes fault)) ⊎ IsOwed input interim
+
+-- what the client was written: first while its request was read, then at the end
+pub record Wrote (input old new : Option (List ℕ)) (read : ReadOutcome) (e : End) : Type 0 where
+  pub interim : List ℕ
+  pub text : List ℕ
+  pub is_interim : IsInterim input read interim
+  pub is_last : IsLastText read e text
+  pub appends : Appends old new (interim ++ text)
+
+-- the same, where writing to the client didn't fail
+abbrev pub WroteUnlessFailed
+    : Option (List ℕ) → Option (List ℕ) → Option (List ℕ) → ReadOutcome → End → Type 0
+WroteUnlessFailed input old new read end.WriteFailed = ⊤
+WroteUnlessFailed input old new read e = Wrote input old new read e
+
+-- a connection: what was read, that it may end so, and what the client was written
+pub record Connection (input old new : Option (List ℕ)) (entered : Option Ticket) (e : End)
+    : Type 0 where
+  pub read : ReadOutcome
+  pub reads : ReadsAs input read
+  pub may_end : MayEnd read entered e
+  pub wrote : WroteUnlessFailed input old new read e

@@ -1,0 +1,109 @@
+//! What is done with a request that entered, and what its client is answered. No seat and no gate
+//! is seen here.
+ghost use Rattle.std.specs.Prelude.{◌≡◌, ◌⊎◌, [], IfErr, IsTrue, OnOk, Ok};
+ghost use Rattle.std.specs.Io.KnownBytes.{Appends};
+ghost use Rattle.bg_http.specs.Statuses.{is_refusal};
+ghost use Rattle.bg_http.specs.Texts.{refusal_text, response_text};
+ghost use Rattle.bg_forward.specs.Buffers.{held, stream_of};
+ghost use Rattle.bg_forward.specs.Connections.{IsGatewayStatus, MayBeRefused, MayEndInside, ReadOutcome};
+ghost use Rattle.bg_forward.specs.Connections.{WroteLast};
+ghost use Rattle.bg_forward.specs.declared.serving.End.TheVariants as end;
+
+use crate::buffered::Buffered;
+use crate::serving::End;
+use crate::streams::Dial;
+use bg_http::{Request, Response, write_refusal, write_request, write_response};
+use bg_http_read::read_response;
+use std::alloc::Global;
+use std::io;
+use std::io::Write;
+
+/// Forwards a request to a port, and answers its client with the response or a refusal.
+pub(crate) fn exchange<S: Write, D: Dial>(
+    alloc: Global,
+    request: &Request,
+    port: u16,
+    client: &mut Buffered<S>,
+    dial: &D,
+) -> End
+    requires { held client.old ≡ [] }
+    ensures may_end { MayEndInside result }
+    ensures wrote { WroteLast (S.contents (stream_of client.old)) (S.contents (stream_of client.new))
+        (Ok request.now) result }
+{
+    match forward(alloc, request, port, dial) {
+        Ok(response) => answer(request, &response, client),
+        Err(status) => refuse(status, client),
+    }
+}
+
+/// Forwards a request to a port and reads the response. A fault is the status in which the client
+/// is refused: 503 where memory is refused as the response is read, and 502 otherwise (RFC 9110
+/// sections 15.6.3 and 15.6.4).
+fn forward<D: Dial>(alloc: Global, request: &Request, port: u16, dial: &D) -> Result<Response, u16>
+    ensures { IfErr result IsGatewayStatus }
+{
+    let Ok(stream) = dial.dial(port) else {
+        return Err(502);
+    };
+    let mut upstream = Buffered::new(alloc, stream);
+    if write_request(request, port, &mut upstream).is_err() || upstream.flush().is_err() {
+        return Err(502);
+    }
+    match read_response(alloc, request, &mut upstream.stream) {
+        Ok(response) => Ok(response),
+        Err(fault) => Err(fault.status()),
+    }
+}
+
+/// Answers a client with a response.
+fn answer<S: Write>(request: &Request, response: &Response, client: &mut Buffered<S>) -> End
+    requires { held client.old ≡ [] }
+    ensures end { (result ≡ end.Answered response.now.code) ⊎ (result ≡ end.WriteFailed) }
+    ensures wrote { WroteLast (S.contents (stream_of client.old)) (S.contents (stream_of client.new))
+        (Ok request.now) result }
+{
+    match send_response(request, response, client) {
+        Ok(()) => End::Answered(response.code),
+        Err(_) => End::WriteFailed,
+    }
+}
+
+/// Writes a response and hands all of it on.
+fn send_response<S: Write>(
+    request: &Request,
+    response: &Response,
+    client: &mut Buffered<S>,
+) -> io::Result<()>
+    requires { held client.old ≡ [] }
+    ensures { OnOk result (Appends (S.contents (stream_of client.old))
+        (S.contents (stream_of client.new)) (response_text request.now response.now)) }
+{
+    write_response(request, response, client)?;
+    client.flush()
+}
+
+/// Answers a client with a refusal.
+pub(crate) fn refuse<S: Write>(status: u16, client: &mut Buffered<S>) -> End
+    requires status { IsTrue (is_refusal status) }
+    requires empty { held client.old ≡ [] }
+    ensures end { MayBeRefused status result }
+    ensures wrote { (outcome : ReadOutcome) → WroteLast (S.contents (stream_of client.old))
+        (S.contents (stream_of client.new)) outcome result }
+{
+    match send_refusal(status, client) {
+        Ok(()) => End::Refused(status),
+        Err(_) => End::WriteFailed,
+    }
+}
+
+/// Writes a refusal and hands all of it on.
+fn send_refusal<S: Write>(status: u16, client: &mut Buffered<S>) -> io::Result<()>
+    requires status { IsTrue (is_refusal status) }
+    requires empty { held client.old ≡ [] }
+    ensures { OnOk result (Appends (S.contents (stream_of client.old))
+        (S.contents (stream_of client.new)) (refusal_text status)) }
+{
+    write_refusal(status, client)?;
+    client.flush()
+}

@@ -1,0 +1,78 @@
+//! Workers, each in a thread of its own.
+ghost use Rattle.std.specs.Prelude.{◌≡◌, ◌<◌, length};
+ghost use Rattle.bg_forward.specs.Seats.{AllOut, AllWorked, Worked};
+
+use crate::buffered::Buffered;
+use crate::gate::Gate;
+use crate::serving::serve_one;
+use crate::streams::{Accept, Dial};
+use bg_ledger::{Names, Seat};
+use bg_revisions::Service;
+use std::alloc::Global;
+use std::thread;
+use std::thread::Threads;
+
+/// Serves `count` connections on each seat, one thread for each seat; `services` has the service of
+/// each. An accept that fails counts as one of the connections. Where no thread can be had, seats
+/// are worked one after the other.
+///
+/// Every seat is out at the end, and its calls have risen by two for each of its connections that
+/// entered.
+pub fn run_workers<
+    N: Names + Send + Sync,
+    R: Threads + Sync,
+    G: Gate<N> + Sync,
+    A: Accept + Sync,
+    D: Dial + Sync,
+>(
+    rt: &R,
+    alloc: Global,
+    gate: &G,
+    seats: &mut [Seat<N>],
+    services: &[Service],
+    accept: &A,
+    dial: &D,
+    count: u32,
+)
+where
+    A::Stream: Send,
+    D::Stream: Send,
+    requires out { AllOut seats.old }
+    requires services { length services.now ≡ length seats.old }
+    ensures { AllWorked count seats.old seats.new }
+{
+    let threads = seats.len();
+    if threads == 0 {
+        return;
+    }
+    thread::for_each_mut(
+        rt,
+        seats,
+        threads,
+        &|place, seat: &mut Seat<N>|
+            requires { (seat.old.number ≡ 0) × (place < length services.now) }
+            ensures { Worked count seat.old seat.new }
+        { work(alloc, gate, seat, services[place], accept, dial, count) },
+    );
+}
+
+/// Serves `count` connections on one seat.
+fn work<N: Names, G: Gate<N>, A: Accept, D: Dial>(
+    alloc: Global,
+    gate: &G,
+    seat: &mut Seat<N>,
+    service: Service,
+    accept: &A,
+    dial: &D,
+    count: u32,
+)
+    requires { seat.old.number ≡ 0 }
+    ensures { Worked count seat.old seat.new }
+{
+    for _ in 0..count {
+        if let Ok(stream) = accept.accept(service) {
+            let mut client = Buffered::new(alloc, stream);
+            serve_one(alloc, gate, seat, service, &mut client, dial);
+        }
+    }
+}

@@ -1,0 +1,295 @@
+-- What a response's parser answers, by what it was fed.
+use Rattle.std.proofs.Common.{◌≡◌, Bool, true, false, ℕ, ◌==◌, ◌≤◌, List, [], ◌++◌, length, refl, ap, sym, ◌∙◌, arith, subst, inl, inr, Option, Some, None, Result, Ok, Err, IfErr, IfNone, IfOk, IfSome, IsErrAnd}
+use Rattle.std.proofs.lemmas.List.{append-nil}
+use Rattle.bg_http.specs.declared.request.Request.{Request}
+use Rattle.bg_http.specs.declared.response.Response.{Response}
+use Rattle.bg_http.specs.declared.response.ResponseHead.{ResponseHead}
+use Rattle.bg_http.specs.declared.response_fault.ResponseFault.{ResponseFault}
+use Rattle.bg_http.specs.declared.response_fault.ResponseFault.TheVariants as fault
+use Rattle.bg_http.specs.declared.response_rules.ResponseFraming.{ResponseFraming}
+use Rattle.bg_http.specs.declared.response_rules.ResponseFraming.TheVariants as framing
+use Rattle.bg_http_read.specs.Bodies.{Follows, KeepsLimit, Reads, Fails, Refuses, can_end, is_whole}
+use Rattle.bg_http_read.specs.BodiesRead.{read_fault}
+use Rattle.bg_http_read.specs.BodyFaults.{Failure, malformed, large, cut}
+use Rattle.bg_http_read.specs.Responses.{AfterInterim, IsFinalHead, FramedResponseBodyFails, ReadsResponse, ReadsResponseBody, ResponseBodyFails, ResponseFails, length_of_response, most_response_body, no_body}
+use Rattle.bg_http_read.specs.ResponsesFed.{Advances, GoesToTheEnd, HasParts, IsFed, IsFedBody, IsFedStage, IsOpen, IsOpenStage, IsRead, IsRefused, NeedsMore, StartsBody, WantsBody, WantsStage, first_stage, most_of}
+use Rattle.bg_http_read.specs.Streams.{waiting}
+use Rattle.bg_http_read.specs.declared.body.Body.{Body}
+use Rattle.bg_http_read.specs.declared.body.Stage.{Stage}
+use Rattle.bg_http_read.specs.declared.body.Stage.TheVariants as stage
+use Rattle.bg_http_read.specs.declared.body_fault.BodyFault.{BodyFault}
+use Rattle.bg_http_read.specs.declared.body_fault.BodyFault.TheVariants as body_fault
+use Rattle.bg_http_read.specs.declared.response_body.ResponseBody.{ResponseBody}
+use Rattle.bg_http_read.specs.declared.response_parser.ResponseParser.{ResponseParser}
+use Rattle.bg_http_read.specs.declared.response_parser.ResponseStage.{ResponseStage}
+use Rattle.bg_http_read.specs.declared.response_parser.ResponseStage.TheVariants as part
+use Rattle.bg_http_read.proofs.BodyLoop.{end_reads, follows_behind, follows_both, follows_itself, whole_reads}
+use Rattle.bg_http_read.proofs.InterimTaken.{final_behind, memory_refuses, skips_behind}
+use Rattle.bg_http_read.proofs.ResponseBodies.{end_of, framed_fails, framed_reads}
+
+-- the head was found, and nothing of the body was taken
+pub fed_head : (asked request : Request) (head : ResponseHead) (named : ResponseFraming)
+    (p : ResponseBody) (waits seen : List ℕ) → asked ≡ request
+    → AfterInterim asked seen (IsFinalHead asked head named waits) → p.head ≡ head
+    → p.framing ≡ named → StartsBody named p.body → IsFedBody request p waits seen
+fed_head asked request head named p waits seen same found of_head of_framing starts = record {
+  after = waits;
+  found = subst (λ n. AfterInterim request seen (IsFinalHead request p.head n waits)) (sym of_framing)
+      (subst (λ h. AfterInterim request seen (IsFinalHead request h named waits)) (sym of_head)
+      (subst (λ r. AfterInterim r seen (IsFinalHead r head named waits)) same found));
+  start = p.body;
+  starts = subst (λ n. StartsBody n p.body) (sym of_framing) starts;
+  follows = follows_itself p.body waits;
+  limit = refl;
+}
+
+-- bytes that wait were taken
+pub fed_taken : (request : Request) (p : ResponseBody) (next : Body) (waits now seen : List ℕ)
+    → IsFedBody request p waits seen → Follows p.body waits next now
+    → next.limit ≡ p.body.limit → IsFedBody request (record p { body = next }) now seen
+fed_taken request p next waits now seen h follows limit = record {
+  after = h.after;
+  found = h.found;
+  start = h.start;
+  starts = h.starts;
+  follows = follows_both h.start p.body next h.after waits now h.follows follows;
+  limit = limit ∙ h.limit;
+}
+
+-- more bytes were fed
+fed_behind : (request : Request) (s : ResponseStage) (waits seen more : List ℕ)
+    → IsFedStage request s waits seen → IsFedStage request s (waits ++ more) (seen ++ more)
+fed_behind request (part.Heads search) waits seen more h =
+    skips_behind request search.interim seen waits more h
+fed_behind request (part.Body p) waits seen more h = record {
+  after = h.after ++ more;
+  found = final_behind request seen h.after more p.head p.framing h.found;
+  start = h.start;
+  starts = h.starts;
+  follows = follows_behind h.start p.body h.after waits more h.follows;
+  limit = h.limit;
+}
+fed_behind request part.Done waits seen more h = h
+
+pub fed_added : (request : Request) (s : ResponseStage) (waits now seen bytes : List ℕ)
+    → IsFedStage request s waits seen → now ≡ waits ++ bytes
+    → IsFedStage request s now (seen ++ bytes)
+fed_added request s waits now seen bytes h added =
+    subst (λ w. IsFedStage request s w (seen ++ bytes)) (sym added)
+    (fed_behind request s waits seen bytes h)
+
+-- what is read of the bytes that wait and those that follow is a response
+fed_reads : (request : Request) (p : ResponseBody) (waits seen more rest : List ℕ)
+    (response : Response) → IsFedBody request p waits seen → KeepsLimit p.body
+    → HasParts response p → Reads p.body (waits ++ more) p.body.bytes.items rest
+    → ReadsResponse request response (seen ++ more)
+fed_reads request p waits seen more rest response h within parts reads = record {
+  count = found.count;
+  few = found.few;
+  after = found.after;
+  skips = found.skips;
+  holds = (
+    p.head,
+    p.framing,
+    h.after ++ more,
+    found.holds,
+    rest,
+    record {
+      body = subst (λ l. ReadsResponseBody p.framing (h.after ++ more) l rest) (sym parts.body_is) body;
+      code_is = parts.code_is;
+      reason_is = parts.reason_is;
+      fields_are = parts.fields_are;
+      length_is = parts.length_is
+          ∙ ap (length_of_response p.framing p.head) (sym parts.body_is);
+    },
+  );
+}
+  where
+    found : AfterInterim request (seen ++ more) (IsFinalHead request p.head p.framing (h.after ++ more))
+    found = final_behind request seen h.after more p.head p.framing h.found
+
+    small : length p.body.bytes.items ≤ h.start.limit
+    small = omega (arith, within, h.limit)
+
+    body : ReadsResponseBody p.framing (h.after ++ more) p.body.bytes.items rest
+    body =
+        framed_reads p.framing h.start h.starts h.found.holds.1 (h.after ++ more)
+        p.body.bytes.items rest small (h.follows.read more p.body.bytes.items rest reads)
+
+-- nothing is missing of the body
+pub fed_whole : (request : Request) (p : ResponseBody) (waits seen : List ℕ) (response : Response)
+    → IsFedBody request p waits seen → KeepsLimit p.body → HasParts response p
+    → is_whole p.body.stage ≡ true → IsRead request response seen
+fed_whole request p waits seen response h within parts whole more =
+    fed_reads request p waits seen more (waits ++ more) response h within parts
+    (whole_reads p.body.stage p.body.bytes.items (waits ++ more) whole)
+
+-- the body ends with the input
+pub fed_end : (request : Request) (p : ResponseBody) (waits seen : List ℕ) (response : Response)
+    → IsFedBody request p waits seen → KeepsLimit p.body → HasParts response p
+    → can_end p.body.stage ≡ true → (p.body.stage ≡ stage.ToTheEnd → waits ≡ [])
+    → ReadsResponse request response seen
+fed_end request p waits seen response h within parts ends empty =
+    subst (ReadsResponse request response) (append-nil seen)
+    (fed_reads request p waits seen [] waits response h within parts
+    (subst (λ l. Reads p.body l p.body.bytes.items waits) (sym (append-nil waits))
+    (end_reads p.body.stage p.body.bytes.items waits ends empty)))
+
+-- what fails of the bytes that wait and those that follow fails of the input
+fed_fails : (request : Request) (p : ResponseBody) (waits seen more : List ℕ) (e : ResponseFault)
+    → (h : IsFedBody request p waits seen) → ResponseBodyFails p.framing (h.after ++ more) e
+    → ResponseFails request (seen ++ more) e
+fed_fails request p waits seen more e h fails =
+    let found = final_behind request seen h.after more p.head p.framing h.found in
+    no_body (record {
+      count = found.count;
+      few = found.few;
+      after = found.after;
+      skips = found.skips;
+      holds = (p.head, p.framing, h.after ++ more, found.holds, fails);
+    })
+
+framed : (request : Request) (p : ResponseBody) (waits seen more : List ℕ) (failure : Failure)
+    → (h : IsFedBody request p waits seen) → Fails p.body failure (waits ++ more)
+    → FramedResponseBodyFails failure p.framing (h.after ++ more)
+framed request p waits seen more failure h fails =
+    framed_fails p.framing h.start h.starts failure (h.after ++ more)
+    (h.follows.fails failure more fails)
+
+pub fed_refused : (request : Request) (p : ResponseBody) (waits seen : List ℕ) (e : BodyFault)
+    → IsFedBody request p waits seen → Refuses p.body waits e
+    → IsRefused request (read_fault e) seen
+fed_refused request p waits seen body_fault.Bad h refused more =
+    fed_fails request p waits seen more fault.Bad h
+    (framed request p waits seen more malformed h (refused more))
+fed_refused request p waits seen body_fault.TooLarge h refused more =
+    fed_fails request p waits seen more fault.TooLarge h
+    (framed request p waits seen more large h (refused more))
+fed_refused request p waits seen body_fault.OutOfMemory h refused more =
+    memory_refuses request seen more
+
+-- the body is cut off
+pub fed_cut_off : (request : Request) (p : ResponseBody) (waits seen : List ℕ)
+    → IsFedBody request p waits seen → Fails p.body cut waits
+    → ResponseFails request seen fault.Closed
+fed_cut_off request p waits seen h fails =
+    subst (λ l. ResponseFails request l fault.Closed) (append-nil seen)
+    (fed_fails request p waits seen [] fault.Closed h
+    (framed request p waits seen [] cut h (subst (Fails p.body cut) (sym (append-nil waits)) fails)))
+
+-- where a body may end and isn't whole, it goes to the end of the input
+to_the_end : (s : Stage) → can_end s ≡ true → is_whole s ≡ false → s ≡ stage.ToTheEnd
+to_the_end (stage.Length left) ends missing = absurd (both left ends missing)
+  where
+    both : (n : ℕ) → (n == 0) ≡ true → (n == 0) ≡ false → ⊥
+    both n h k = cc
+to_the_end stage.Line ends missing = cc
+to_the_end (stage.Data left) ends missing = cc
+to_the_end stage.Trailers ends missing = cc
+to_the_end stage.ToTheEnd ends missing = refl
+to_the_end stage.Whole ends missing = cc
+
+framed_to_the_end : (named : ResponseFraming) → first_stage named ≡ stage.ToTheEnd
+    → named ≡ framing.ToTheEnd
+framed_to_the_end framing.Interim e = cc
+framed_to_the_end framing.NoBody e = cc
+framed_to_the_end framing.Chunks e = cc
+framed_to_the_end (framing.Length size) e = cc
+framed_to_the_end framing.ToTheEnd e = refl
+
+fed_to_the_end : (request : Request) (p : ResponseBody) (waits seen : List ℕ)
+    → IsFedBody request p waits seen → KeepsLimit p.body → WantsBody request p waits seen
+    → p.body.stage ≡ stage.ToTheEnd → GoesToTheEnd request seen
+fed_to_the_end request p waits seen h within wants is = record {
+  count = h.found.count;
+  few = h.found.few;
+  after = h.found.after;
+  skips = h.found.skips;
+  holds = (p.head, p.framing, h.after, h.found.holds, (named, few));
+}
+  where
+    starts : h.start.stage ≡ stage.ToTheEnd
+    starts = h.follows.ends is
+
+    named : p.framing ≡ framing.ToTheEnd
+    named = framed_to_the_end p.framing (sym h.starts.stage_is ∙ starts)
+
+    none : waits ≡ []
+    none = wants.empty is
+
+    reads : Reads p.body (waits ++ []) p.body.bytes.items waits
+    reads =
+        subst (λ l. Reads p.body l p.body.bytes.items waits) (sym (append-nil waits))
+        (end_reads p.body.stage p.body.bytes.items waits (ap can_end is) (λ e. none))
+
+    all : p.body.bytes.items ≡ h.after ++ []
+    all =
+        let end = end_of h.start h.starts.none starts (h.after ++ []) p.body.bytes.items waits
+        (h.follows.read [] p.body.bytes.items waits reads) in
+        end.1
+
+    limit : h.start.limit ≡ most_response_body
+    limit = subst (λ n. h.start.limit ≡ most_of n) named h.starts.limit_is
+
+    few : length h.after ≤ most_response_body
+    few = omega (arith, ap length (all ∙ append-nil h.after), within, h.limit, limit)
+
+-- a parser that took all that it can needs more
+pub fed_needs_more : (request : Request) (s : ResponseStage) (waits seen : List ℕ)
+    → IsFedStage request s waits seen → IsOpenStage s → WantsStage request s waits seen
+    → NeedsMore request seen
+fed_needs_more request (part.Heads search) waits seen h goes_on wants = inl wants
+fed_needs_more request (part.Body p) waits seen h goes_on wants = by_end (can_end p.body.stage) refl
+  where
+    by_end : (ends : Bool) → can_end p.body.stage ≡ ends → NeedsMore request seen
+    by_end false e = inl (wants.cut_off e)
+    by_end true e =
+        inr (fed_to_the_end request p waits seen h goes_on wants
+        (to_the_end p.body.stage e wants.missing))
+fed_needs_more request part.Done waits seen h goes_on wants = absurd h
+
+-- a fault that is known is what is answered
+pub advances_err : (request : Request) (seen : List ℕ) (parser : ResponseParser)
+    (r : Result (Option Response) ResponseFault) (e : ResponseFault) → IsErrAnd r (λ f. f ≡ e)
+    → IsRefused request e seen → Advances request seen r parser
+advances_err request seen parser (Ok (Some response)) e is refused = absurd is
+advances_err request seen parser (Ok None) e is refused = absurd is
+advances_err request seen parser (Err f) e is refused =
+    subst (λ f. IsRefused request f seen) (sym is) refused
+
+-- what the parts of an answer say
+pub advanced_response : (request : Request) (seen : List ℕ) (parser : ResponseParser)
+    (r : Result (Option Response) ResponseFault) → Advances request seen r parser
+    → IfOk r (λ found. IfSome found (λ response. IsRead request response seen))
+advanced_response request seen parser (Ok (Some response)) h = h
+advanced_response request seen parser (Ok None) h = tt
+advanced_response request seen parser (Err e) h = tt
+
+pub advanced_none : (request : Request) (seen : List ℕ) (parser : ResponseParser)
+    (r : Result (Option Response) ResponseFault) → Advances request seen r parser
+    → IfOk r (λ found. IfNone found (IsOpen parser))
+    → IfOk r (λ found. IfNone found (IsFed parser request seen × NeedsMore request seen))
+advanced_none request seen parser (Ok (Some response)) h goes_on = tt
+advanced_none request seen parser (Ok None) h goes_on = (
+  h.0,
+  fed_needs_more request parser.stage (waiting parser.intake) seen h.0.stage_is goes_on h.1,
+)
+advanced_none request seen parser (Err e) h goes_on = tt
+
+pub advanced_fault : (request : Request) (seen : List ℕ) (parser : ResponseParser)
+    (r : Result (Option Response) ResponseFault) → Advances request seen r parser
+    → IfErr r (λ e. IsRefused request e seen)
+advanced_fault request seen parser (Ok (Some response)) h = tt
+advanced_fault request seen parser (Ok None) h = tt
+advanced_fault request seen parser (Err e) h = h
+
+-- what is so whatever follows is so where nothing does
+pub refused_here : (request : Request) (e : ResponseFault) (seen : List ℕ)
+    → IsRefused request e seen → ResponseFails request seen e
+refused_here request e seen h =
+    subst (λ l. ResponseFails request l e) (append-nil seen) (h [])
+
+pub read_here : (request : Request) (response : Response) (seen : List ℕ)
+    → IsRead request response seen → ReadsResponse request response seen
+read_here request response seen h =
+    subst (ReadsResponse request response) (append-nil seen) (h [])

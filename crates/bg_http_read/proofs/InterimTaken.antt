@@ -1,0 +1,106 @@
+-- Interim responses and the head after them, at the front of bytes.
+use Rattle.std.proofs.Common.{◌≡◌, true, ℕ, zero, suc, ◌≤◌, List, ◌++◌, refl, ap, ◌∙◌, arith, Ok, Err}
+use Rattle.bg_http.specs.ResponseRules.{response_framing}
+use Rattle.bg_http.specs.declared.request.Request.{Request}
+use Rattle.bg_http.specs.declared.response.ResponseHead.{ResponseHead}
+use Rattle.bg_http.specs.declared.response_fault.ResponseFault.{ResponseFault}
+use Rattle.bg_http.specs.declared.response_fault.ResponseFault.TheVariants as fault
+use Rattle.bg_http.specs.declared.response_rules.ResponseFraming.{ResponseFraming}
+use Rattle.bg_http.specs.declared.response_rules.ResponseFraming.TheVariants as framing
+use Rattle.bg_http_read.specs.HeadFaults.{ResponseHeadFails, of_head}
+use Rattle.bg_http_read.specs.ResponseHeads.{ReadsResponseHead}
+use Rattle.bg_http_read.specs.Responses.{AfterInterim, IsFinalHead, JudgedResponse, ResponseFails, SkipsInterim, names_another, breaks_rule, no_head, many_interim}
+use Rattle.bg_http_read.specs.ResponsesFed.{IsRefused}
+use Rattle.bg_http_read.specs.declared.head_fault.HeadFault.{HeadFault}
+use Rattle.bg_http_read.proofs.ResponseHeadsFound.{response_head_more, response_head_fails_more}
+
+-- a head that is judged stays so, whatever follows
+judged_more : (request : Request) (input more : List ℕ) (head : ResponseHead)
+    (named : ResponseFraming) (after : List ℕ) → JudgedResponse request input head named after
+    → JudgedResponse request (input ++ more) head named (after ++ more)
+judged_more request input more head named after h =
+    record { reads = response_head_more input more head after h.reads; judged = h.judged }
+
+pub skips_behind : (request : Request) (count : ℕ) (input after more : List ℕ)
+    → SkipsInterim request count input after
+    → SkipsInterim request count (input ++ more) (after ++ more)
+skips_behind request zero input after more h = ap (λ l. l ++ more) h
+skips_behind request (suc count) input after more (before, head, skips, judged) = (
+  before ++ more,
+  head,
+  skips_behind request count input before more skips,
+  judged_more request before more head framing.Interim after judged,
+)
+
+pub final_behind : (request : Request) (input after more : List ℕ) (head : ResponseHead)
+    (named : ResponseFraming) → AfterInterim request input (IsFinalHead request head named after)
+    → AfterInterim request (input ++ more) (IsFinalHead request head named (after ++ more))
+final_behind request input after more head named h = record {
+  count = h.count;
+  few = h.few;
+  after = h.after ++ more;
+  skips = skips_behind request h.count input h.after more h.skips;
+  holds = (judged_more request h.after more head named after h.holds.0, h.holds.1);
+}
+
+-- one more interim response
+pub skips_next : (request : Request) (count : ℕ) (input before after : List ℕ)
+    (head : ResponseHead) (named : ResponseFraming) → SkipsInterim request count input before
+    → ReadsResponseHead before head after → response_framing request head ≡ Ok named
+    → names_another named ≡ true → SkipsInterim request (suc count) input after
+skips_next request count input before after head named skips reads judged another =
+    (before, head, skips, record { reads = reads; judged = judged ∙ ap Ok (only named another) })
+  where
+    only : (named : ResponseFraming) → names_another named ≡ true → named ≡ framing.Interim
+    only framing.Interim t = refl
+    only framing.NoBody t = cc
+    only framing.Chunks t = cc
+    only (framing.Length size) t = cc
+    only framing.ToTheEnd t = cc
+
+-- the head breaks a rule
+pub rule_refuses : (request : Request) (count : ℕ) (input before after : List ℕ)
+    (head : ResponseHead) (e : ResponseFault) → count ≤ 16
+    → SkipsInterim request count input before → ReadsResponseHead before head after
+    → response_framing request head ≡ Err e → IsRefused request e input
+rule_refuses request count input before after head e few skips reads broken more = breaks_rule (record {
+  count = count;
+  few = few;
+  after = before ++ more;
+  skips = skips_behind request count input before more skips;
+  holds = (head, after ++ more, response_head_more before more head after reads, broken);
+})
+
+-- no head can come
+pub head_refuses : (request : Request) (count : ℕ) (input before : List ℕ) (e : HeadFault)
+    → count ≤ 16 → SkipsInterim request count input before → ResponseHeadFails before (of_head e)
+    → IsRefused request (of_head e) input
+head_refuses request count input before e few skips fails more = no_head (record {
+  count = count;
+  few = few;
+  after = before ++ more;
+  skips = skips_behind request count input before more skips;
+  holds = response_head_fails_more before more e fails;
+})
+
+-- too many interim responses came
+pub many_refuse : (request : Request) (input before : List ℕ)
+    → SkipsInterim request 17 input before → IsRefused request fault.Bad input
+many_refuse request input before skips more =
+    many_interim refl (before ++ more, skips_behind request 17 input before more skips)
+
+-- of memory nothing is said
+pub memory_fails : (request : Request) (input : List ℕ)
+    → ResponseFails request input fault.OutOfMemory
+memory_fails request input =
+    no_head (record { count = 0; few = omega arith; after = input; skips = refl; holds = tt })
+
+pub memory_refuses : (request : Request) (input : List ℕ)
+    → IsRefused request fault.OutOfMemory input
+memory_refuses request input more = memory_fails request (input ++ more)
+
+-- nor of reading
+pub reading_fails : (request : Request) (input : List ℕ)
+    → ResponseFails request input fault.ReadFailed
+reading_fails request input =
+    no_head (record { count = 0; few = omega arith; after = input; skips = refl; holds = tt })

@@ -1,0 +1,15 @@
+use Rattle.bg_http_read.specs.Responses.{ResponseFails}
+use Rattle.bg_http_read.proofs.FedResponses.{read_here, refused_here}
+use Rattle.bg_http_read.proofs.StreamFaults.{if_err_is}
+use Rattle.bg_http_read.proofs.response_parser.ResponseParser.end.Goals as goal
+
+pub returns-in_err-response-clause-refused : goal.returns-in_err-response-clause-refused
+returns-in_err-response-clause-refused c request seen fed =
+    let e = c.in_err-response.field-0.0 in
+    if_err_is (ResponseFails request seen) c.from_residual.result e c.from_residual.ensures.1
+    (refused_here request e seen (c.in_err-response.ensures.answer request seen fed))
+
+pub returns-in-Some-clause-response : goal.returns-in-Some-clause-response
+returns-in-Some-clause-response c request seen fed =
+    let answer = rw c.in-Some.is at c.in_ok-response.ensures.answer request seen fed in
+    read_here request c.in-Some.response seen answer

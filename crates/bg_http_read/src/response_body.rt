@@ -1,0 +1,82 @@
+//! A response whose head was found, and whose body is fed.
+ghost use Rattle.std.specs.Prelude.{◌≡◌, IfOk};
+ghost use Rattle.bg_http_read.specs.Responses.{length_of_response};
+ghost use Rattle.bg_http_read.specs.ResponsesFed.{HasParts, StartsBody};
+
+use crate::body::Body;
+use bg_http::{Bytes, Response, ResponseFraming, ResponseHead, length_told};
+use std::alloc::{AllocError, Global};
+
+/// The most bytes that a response's body may have.
+const MOST_BODY: usize = 4_194_304;
+
+/// The digits of the length that goes on: that of the body, or where there is none the one that the
+/// head tells.
+fn length_of_response(
+    alloc: Global,
+    framing: ResponseFraming,
+    head: &ResponseHead,
+    body: &Bytes,
+) -> Result<Option<Bytes>, AllocError>
+    ensures { IfOk result (λ length. length ≡ length_of_response framing head.now body.now) }
+{
+    match framing {
+        ResponseFraming::Interim => Ok(None),
+        ResponseFraming::NoBody => match length_told(head) {
+            Some(digits) => Ok(Some(Bytes::new(alloc, digits)?)),
+            None => Ok(None),
+        },
+        ResponseFraming::Chunks | ResponseFraming::Length(_) | ResponseFraming::ToTheEnd => {
+            let digits = body.get().len().to_string(alloc)?;
+            Ok(Some(Bytes::new(alloc, digits.as_bytes())?))
+        }
+    }
+}
+
+/// A response whose head was found, and whose body is fed.
+#[derive(Drop)]
+pub(crate) struct ResponseBody {
+    head: ResponseHead,
+    framing: ResponseFraming,
+    pub(crate) body: Body,
+}
+
+impl ResponseBody {
+    /// Nothing of the body is there; refused only where memory is.
+    pub(crate) fn new(
+        alloc: Global,
+        head: ResponseHead,
+        framing: ResponseFraming,
+    ) -> Result<ResponseBody, AllocError>
+        ensures head { IfOk result (λ part. part.head ≡ head) }
+        ensures framing { IfOk result (λ part. part.framing ≡ framing) }
+        ensures body { IfOk result (λ part. StartsBody framing part.body) }
+    {
+        let body = match framing {
+            ResponseFraming::Interim | ResponseFraming::NoBody => Body::of_length(alloc, 0)?,
+            ResponseFraming::Chunks => Body::of_chunks(alloc, MOST_BODY),
+            ResponseFraming::Length(size) => Body::of_length(alloc, size)?,
+            ResponseFraming::ToTheEnd => Body::to_the_end(alloc, MOST_BODY),
+        };
+        Ok(ResponseBody {
+            head,
+            framing,
+            body,
+        })
+    }
+
+    /// The response, with what was fed of its body; refused only where memory is.
+    pub(crate) fn into_response(self, alloc: Global) -> Result<Response, AllocError>
+        ensures { IfOk result (λ response. HasParts response self) }
+    {
+        let body = self.body.into_bytes();
+        let length = length_of_response(alloc, self.framing, &self.head, &body)?;
+        Ok(Response {
+            code: self.head.code,
+            reason: self.head.reason,
+            fields: self.head.fields,
+            length,
+            body,
+        })
+    }
+}

@@ -1,0 +1,276 @@
+//! Workers, each in a thread of its own.
+ghost use Rattle.std.specs.Prelude.{◌≡◌, length};
+ghost use Rattle.bg_book.specs.Gathering.{indices};
+ghost use Rattle.bg_forward.specs.Seats.{AllOut, AllWorked};
+ghost use Rattle.bg_ledger.specs.Blanks.{AreAllFor};
+
+use super::fakes::{Line, MANY};
+use super::messages::{CHUNKS, CHUNKS_ON, GET};
+use crate::book::samples::strategy;
+use bg_book::laws::{lent, same_order};
+use bg_book::{Book, Control, Desk, Limits};
+use bg_forward::{Accept, Dial, Door, run_workers};
+use bg_http::Duplex;
+use bg_ledger::{Blanks, Names, Seat};
+use bg_revisions::Service;
+use std::alloc::Global;
+use std::io::{ErrorKind, Read, Write};
+use std::marker::Brand;
+use std::sync::Wait;
+use std::sync::atomic::{AtomicU64, Ordering};
+use std::test::Fail;
+use std::thread::{Threads, join_mut};
+use std::{io, thread};
+
+/// So often the first endpoint looks whether the second request was answered.
+const TURNS: u32 = 10_000_000;
+
+/// The ticks that are made beside the workers.
+const TICKS: u64 = 100;
+
+/// How far the requests have come.
+#[derive(Drop)]
+struct Course {
+    /// How many connections to endpoints were opened.
+    dialled: AtomicU64,
+    /// How many clients were written their whole answer.
+    answered: AtomicU64,
+}
+
+/// Clients that all ask the same.
+#[derive(Drop)]
+struct Clients<'a> {
+    alloc: Global,
+    course: &'a Course,
+}
+
+/// A client that tells when it was answered.
+#[derive(Drop)]
+struct Client<'a> {
+    line: Line<'a>,
+    course: &'a Course,
+}
+
+impl Read for Client<'_> {
+    fn read(&mut self, buf: &mut [u8]) -> io::Result<usize> {
+        self.line.read(buf)
+    }
+}
+
+impl Write for Client<'_> {
+    fn write(&mut self, buf: &[u8]) -> io::Result<usize> {
+        self.line.write(buf)
+    }
+
+    fn flush(&mut self) -> io::Result<()> {
+        if self.line.shows() == CHUNKS_ON.as_bytes() {
+            self.course.answered.fetch_add(1, Ordering::SeqCst);
+        }
+        Ok(())
+    }
+}
+
+impl Duplex for Client<'_> {
+    fn receive(&mut self, buf: &mut [u8]) -> io::Result<usize> {
+        self.read(buf)
+    }
+
+    fn send(&mut self, bytes: &[u8]) -> io::Result<()> {
+        self.write_all(bytes)
+    }
+}
+
+impl<'a> Accept for Clients<'a> {
+    type Stream = Client<'a>;
+
+    fn accept(&self, _service: Service) -> io::Result<Client<'a>> {
+        Ok(Client {
+            line: Line::new(self.alloc, GET.as_bytes(), MANY, MANY),
+            course: self.course,
+        })
+    }
+}
+
+/// An endpoint whose first connection waits until a client was answered.
+#[derive(Drop)]
+struct Endpoint<'a> {
+    alloc: Global,
+    course: &'a Course,
+}
+
+/// A connection to it.
+#[derive(Drop)]
+struct Upstream<'a> {
+    line: Line<'a>,
+    waits: bool,
+    course: &'a Course,
+}
+
+impl Upstream<'_> {
+    /// Waits until a client was answered, and says whether one was.
+    fn wait(&self) -> bool {
+        for _ in 0..TURNS {
+            if self.course.answered.load(Ordering::SeqCst) > 0 {
+                return true;
+            }
+            thread::yield_now();
+        }
+        false
+    }
+}
+
+impl Read for Upstream<'_> {
+    fn read(&mut self, buf: &mut [u8]) -> io::Result<usize> {
+        if self.waits {
+            if !self.wait() {
+                return Err(io::Error::from(ErrorKind::TimedOut));
+            }
+            self.waits = false;
+        }
+        self.line.read(buf)
+    }
+}
+
+impl Write for Upstream<'_> {
+    fn write(&mut self, buf: &[u8]) -> io::Result<usize> {
+        self.line.write(buf)
+    }
+
+    fn flush(&mut self) -> io::Result<()> {
+        Ok(())
+    }
+}
+
+impl<'a> Dial for Endpoint<'a> {
+    type Stream = Upstream<'a>;
+
+    fn dial(&self, _port: u16) -> io::Result<Upstream<'a>> {
+        let before = self.course.dialled.fetch_add(1, Ordering::SeqCst);
+        Ok(Upstream {
+            line: Line::new(self.alloc, CHUNKS.as_bytes(), MANY, MANY),
+            waits: before == 0,
+            course: self.course,
+        })
+    }
+}
+
+/// Works the seats at the door of a desk.
+fn work<N: Names + Send + Sync, R: Threads + Wait + Sync>(
+    rt: &R,
+    alloc: Global,
+    desk: &Desk<N>,
+    seats: &mut [Seat<N>],
+    course: &Course,
+)
+    requires two { length seats.old ≡ 2 }
+    requires out { AllOut seats.old }
+    ensures { indices seats.new ≡ indices seats.old }
+{
+    same_order();
+    let door = Door::new(rt, desk);
+    let clients = Clients { alloc, course };
+    let endpoint = Endpoint { alloc, course };
+    let services = [Service::Active, Service::Active];
+    run_workers(rt, alloc, &door, seats, &services, &clients, &endpoint, 1);
+}
+
+/// Makes the ticks.
+fn tick<N: Names, R: Wait>(rt: &R, desk: &Desk<N>) {
+    for moment in 1..=TICKS {
+        let _told = desk.control(rt, &Control::Tick(moment));
+    }
+}
+
+/// Works the seats, and makes the ticks beside them.
+fn work_and_tick<N: Names + Send + Sync, R: Threads + Wait + Sync>(
+    rt: &R,
+    alloc: Global,
+    desk: &Desk<N>,
+    seats: &mut [Seat<N>],
+    course: &Course,
+)
+    requires two { length seats.old ≡ 2 }
+    requires out { AllOut seats.old }
+    ensures { indices seats.new ≡ indices seats.old }
+{
+    join_mut(
+        rt,
+        &mut ||
+            requires { (length seats.now ≡ 2) × AllOut seats.now }
+            ensures { indices seats.exit.now ≡ indices seats.entry.now }
+        { work(rt, alloc, desk, seats, course) },
+        &mut || tick(rt, desk),
+    );
+}
+
+/// How many calls both seats were answered.
+fn calls_of_both<N: Names>(seats: &[Seat<N>]) -> [u64; 2] {
+    match seats {
+        [first, second] => [first.calls(), second.calls()],
+        _ => [0, 0],
+    }
+}
+
+/// What the test looks at.
+#[derive(Clone, Copy, PartialEq, Eq, Debug, Drop)]
+struct Worked {
+    calls: [u64; 2],
+    entries: u64,
+}
+
+fn open_and_work<N: Names + Send + Sync, R: Threads + Wait + Sync>(
+    rt: &R,
+    alloc: Global,
+    course: &Course,
+    blanks: Blanks,
+) -> Result<Worked, Fail>
+    requires blanks { AreAllFor N.Names blanks }
+    requires seats { N.seats ≡ 2 }
+{
+    lent();
+    let strategy = strategy(alloc)?;
+    let available = Control::Available {
+        revision: 1,
+        size: 2,
+    };
+    let (book, mut seats) = Book::<N>::open(
+        alloc,
+        &strategy,
+        "v1",
+        &[9001, 9002],
+        2,
+        Limits::usual(),
+        blanks,
+    )?;
+    let desk = Desk::new(book);
+    let told = desk.control(rt, &available);
+    work_and_tick(rt, alloc, &desk, seats.as_mut_slice(), course);
+    let calls = calls_of_both(&seats);
+    let history = desk.into_book().close(seats);
+    let _outcomes = told?;
+    Ok(Worked {
+        calls,
+        entries: history.len(),
+    })
+}
+
+fn with_new_names<R: Threads + Wait + Sync>(
+    rt: &R,
+    alloc: Global,
+    course: &Course,
+) -> Result<Worked, Fail> {
+    open_and_work::<Brand, R>(rt, alloc, course, Blanks::new())
+}
+
+#[test]
+fn two_at_once(rt: HostRuntime) -> Result<(), Fail> {
+    let course = Course {
+        dialled: AtomicU64::new(0),
+        answered: AtomicU64::new(0),
+    };
+    let worked = with_new_names(&rt, rt.alloc(), &course)?;
+    assert_eq!(rt; course.answered.load(Ordering::SeqCst), 2);
+    assert_eq!(rt; worked.calls, [2, 2]);
+    assert_eq!(rt; worked.entries, 105);
+    Ok(())
+}
