@@ -10,7 +10,7 @@ trap 'rm -rf "$work"' EXIT
 bench=$work/crates/desk_bench
 mkdir -p "$bench/src"
 cp "$top/HANDLES" "$work/"
-for crate in strategy revisions history pasts settling listing promotion scaledown ledger book; do
+for crate in strategy revisions history pasts settling listing promotion scaledown openlist ledger book; do
     cp -R "$top/crates/bg_$crate" "$work/crates/"
     grep "^bg_$crate\( [a-z_=0-9]*\)*:" "$top/crates.txt" >> "$work/crates.txt"
 done

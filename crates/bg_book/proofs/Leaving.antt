@@ -3,21 +3,20 @@ use Rattle.std.proofs.Common.{◌≡◌, ◌≢◌, ℕ, ◌+◌, ◌-◌, ◌<�
 use Rattle.std.specs.List.{list_all}
 use Rattle.std.proofs.lemmas.Option.{same_Some}
 use Rattle.bg_history.specs.declared.entry.Entry.TheVariants.{Leave}
-use Rattle.bg_history.specs.Sizes.{existing, Ascends}
 use Rattle.bg_history.specs.Deadlines.{exists_in}
 use Rattle.bg_history.specs.Requests.{Request, open_requests, held_by, calls_of, given}
 use Rattle.bg_promotion.specs.Stands.{StandsFor}
 use Rattle.bg_pasts.specs.Reachable.{stands_scaled}
 use Rattle.bg_ledger.specs.declared.holding.Holding.{Holding}
 use Rattle.bg_ledger.specs.Holdings.{vacated}
-use Rattle.bg_book.specs.OpenLists.{OpenAt, changed, lists_of}
+use Rattle.bg_book.specs.OpenLists.{OpenAt, has_request, lists_of, without}
 use Rattle.bg_book.specs.Changes.{with_past}
 use Rattle.bg_book.specs.Refusals.{all_open}
 use Rattle.bg_book.specs.Routing.{Routing}
 use Rattle.bg_book.specs.PastState.{seated, seat_of}
 use Rattle.bg_book.specs.Invariant.{are_apart, Differ, RoutingStands, RunningState, Stands}
 use Rattle.bg_book.proofs.Legal.{legal-Leave, requests-Leave}
-use Rattle.bg_book.proofs.Lists.{lists-Leave}
+use Rattle.bg_book.proofs.Lists.{has_its_request, lists-Leave}
 use Rattle.bg_book.proofs.Requests.{and_parts, and_both, all_weaker, found_passes, eq_refl, eq_sym, by_seat, one_less}
 use Rattle.bg_book.proofs.Seating.{in_holds, seated_of}
 use Rattle.bg_book.proofs.Seats.{seats_one_changed, seat-Leave_same, seat-Leave_other}
@@ -32,7 +31,7 @@ one_open b seat stand known some =
     let less = one_less seat.index (open_requests b.past) holds.0 stand.requests.differ holds.1.held in
     omega (arith, less)
 
-pub held_exists : (b : Routing) (seat : Holding) → RoutingStands b → list_all (λ q. stands_scaled b.strategy q.revision b.past) (open_requests b.past) ≡ true
+held_exists : (b : Routing) (seat : Holding) → RoutingStands b → list_all (λ q. stands_scaled b.strategy q.revision b.past) (open_requests b.past) ≡ true
     → slice_get b.seats seat.index ≡ Some seat → seat.number ≢ 0 → exists_in seat.revision b.past ≡ true
 held_exists b seat stand scaled known some =
     let holds = in_holds b seat stand known some in
@@ -40,14 +39,21 @@ held_exists b seat stand scaled known some =
     found_passes (λ q. q.seat == seat.index) (λ q. stands_scaled b.strategy q.revision b.past) (open_requests b.past) holds.0 holds.1.held scaled in
     (and_parts (exists_in seat.revision b.past) _ (ap (λ (r : ℕ). stands_scaled b.strategy r b.past) (sym holds.1.revision) ∙ here)).0
 
--- the lists after it left
-pub lists_left : (b : Routing) (seat : Holding) (new : List OpenAt) → RoutingStands b → Ascends (existing b.past) → slice_get b.seats seat.index ≡ Some seat → seat.number ≢ 0
-    → new ≡ changed seat.revision (λ requests. filter (λ q. not (q.seat == seat.index)) requests) b.lists
-    → new ≡ lists_of (Leave seat.index seat.number seat.revision ∷ b.past)
-lists_left b seat new stand ascends known some made =
+-- its request is in a list
+pub has_held : (b : Routing) (seat : Holding) → RoutingStands b → list_all (λ q. stands_scaled b.strategy q.revision b.past) (open_requests b.past) ≡ true
+    → slice_get b.seats seat.index ≡ Some seat → seat.number ≢ 0 → has_request seat.index b.lists ≡ true
+has_held b seat stand scaled known some =
     let holds = in_holds b seat stand known some in
-    made ∙ ap (changed seat.revision (λ requests. filter (λ q. not (q.seat == seat.index)) requests)) stand.lists
-    ∙ sym (lists-Leave b.past seat.index seat.number seat.revision holds.0 ascends stand.requests.differ holds.1.held holds.1.number holds.1.revision)
+    let there : exists_in holds.0.revision b.past ≡ true = ap (λ (r : ℕ). exists_in r b.past) holds.1.revision ∙ held_exists b seat stand scaled known some in
+    ap (has_request seat.index) stand.lists ∙ has_its_request b.past seat.index holds.0 holds.1.held there
+
+-- the lists after it left
+pub lists_left : (b : Routing) (seat : Holding) (new : List OpenAt) → RoutingStands b → slice_get b.seats seat.index ≡ Some seat → seat.number ≢ 0
+    → new ≡ without seat.index b.lists → new ≡ lists_of (Leave seat.index seat.number seat.revision ∷ b.past)
+lists_left b seat new stand known some made =
+    let holds = in_holds b seat stand known some in
+    made ∙ ap (without seat.index) stand.lists
+    ∙ sym (lists-Leave b.past seat.index seat.number seat.revision holds.0 stand.requests.differ holds.1.held holds.1.number)
 
 or_left : (a b : Bool) → a ≡ true → (a || b) ≡ true
 or_left a b h = rw h refl

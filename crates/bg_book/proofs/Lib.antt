@@ -1,5 +1,6 @@
 pub mod Requests
 pub mod Lists
+pub mod Linked
 pub mod Legal
 pub mod Seats
 pub mod Seating

@@ -1,6 +1,6 @@
 -- The lists that a past asks for, entry by entry.
-use Rattle.std.proofs.Common.{◌≡◌, ◌<◌, ℕ, suc, Bool, true, false, not, cond, ◌&&◌, ◌||◌, ◌==◌, nat_lt, ◌+◌, List, [], ◌∷◌, ◌++◌, length, filter, find, map, position, slice_set, get_or, Some, None, IsSome, refl, sym, ap, ◌∙◌, arith}
-use Rattle.std.specs.List.{position_or_len, list_any, list_all}
+use Rattle.std.proofs.Common.{◌≡◌, ◌<◌, ℕ, Bool, true, false, not, cond, ◌||◌, ◌==◌, List, [], ◌∷◌, ◌++◌, length, filter, find, map, Some, None, IsSome, refl, sym, ap, ◌∙◌, arith}
+use Rattle.std.specs.List.{list_any, list_all}
 use Rattle.std.proofs.lemmas.Bool.Decides.{nat_tests}
 use Rattle.std.proofs.lemmas.Option.{same_Some}
 use Rattle.std.proofs.lemmas.List.Elements.{filter-append}
@@ -14,49 +14,13 @@ use Rattle.bg_history.specs.Deadlines.{exists_in}
 use Rattle.bg_history.specs.Requests.{Request, open_requests, open_at, held_by}
 use Rattle.bg_pasts.specs.Reachable.{stands_scaled}
 use Rattle.bg_book.specs.declared.open_lists.OpenRequest.{OpenRequest}
-use Rattle.bg_book.specs.OpenLists.{OpenAt, requests_in, list_of, changed, listed, requests_at, lists_of}
-use Rattle.bg_book.specs.Invariant.{are_apart, Differ}
-use Rattle.bg_book.proofs.Requests.{and_parts, all_weaker, eq_from, eq_sym, by_seat}
+use Rattle.bg_book.specs.OpenLists.{OpenAt, requests_in, list_of, changed, without, has_request, is_empty_at, listed, requests_at, lists_of}
+use Rattle.bg_book.specs.Invariant.{Differ}
+use Rattle.bg_book.proofs.Requests.{and_both, and_parts, eq_from, eq_refl, by_seat}
 
 -- the list of a revision, by what gives the requests of each
 abbrev pub at : (ℕ → List OpenRequest) → ℕ → OpenAt
 at f q = record { revision = q; requests = f q }
-
--- the list at the first place of r, with its requests changed, was written there
-pub set_changed : (r : ℕ) (change : List OpenRequest → List OpenRequest) (lists : List OpenAt) (d : OpenAt) → position_or_len (λ l. l.revision == r) lists < length lists
-    → slice_set lists (position_or_len (λ l. l.revision == r) lists)
-    (record (get_or lists (position_or_len (λ l. l.revision == r) lists) d) { requests = change (get_or lists (position_or_len (λ l. l.revision == r) lists) d).requests })
-    ≡ changed r change lists
-set_changed r change [] d h = absurd (omega (arith, h))
-set_changed r change (l ∷ rest) d h = go (l.revision == r) (set_changed r change rest d) h where
-  place : ℕ
-  place = position_or_len (λ l. l.revision == r) rest
-
-  go : (b : Bool) → (place < length rest → slice_set rest place (record (get_or rest place d) { requests = change (get_or rest place d).requests }) ≡ changed r change rest)
-      → cond (not b) (1 + place) 0 < length (l ∷ rest)
-      → slice_set (l ∷ rest) (cond (not b) (1 + place) 0) (record (get_or (l ∷ rest) (cond (not b) (1 + place) 0) d) { requests = change (get_or (l ∷ rest) (cond (not b) (1 + place) 0) d).requests })
-      ≡ cond b (record l { requests = change l.requests } ∷ rest) (l ∷ changed r change rest)
-  go true below h = refl
-  go false below h =
-      let next : 1 + place ≡ suc place = omega arith in
-      rw next (ap (λ ls. l ∷ ls) (below (omega (arith, h))))
-
--- the place that was found
-pub place_is : (p : OpenAt → Bool) (lists : List OpenAt) (place : ℕ) → position p lists ≡ Some place → (place ≡ position_or_len p lists) × (place < length lists)
-place_is p lists place h = go (position_or_len p lists) (nat_lt (position_or_len p lists) (length lists)) refl h where
-  go : (at : ℕ) (b : Bool) → nat_lt at (length lists) ≡ b → cond b (Some at) None ≡ Some place → (place ≡ at) × (place < length lists)
-  go at true e f = let is : at ≡ place = same_Some at place f in (sym is, rw (← is) (grind (arith, nat_tests)))
-  go at false e f = absurd (cc)
-
--- the list that was read at the place of r, and written there with its requests changed
-pub changed_at : (r : ℕ) (change : List OpenRequest → List OpenRequest) (lists : List OpenAt) (place : ℕ) (l new : OpenAt) → position (λ l. l.revision == r) lists ≡ Some place
-    → l ≡ get_or lists place l → new ≡ record l { requests = change l.requests } → slice_set lists place new ≡ changed r change lists
-changed_at r change lists place l new at read made =
-    let found = place_is (λ l. l.revision == r) lists place at in
-    let within : position_or_len (λ l. l.revision == r) lists < length lists = rw (← found.0) found.1 in
-    ap (slice_set lists place) (made ∙ ap (λ (k : OpenAt). record k { requests = change k.requests }) read)
-    ∙ ap (λ (n : ℕ). slice_set lists n (record (get_or lists n l) { requests = change (get_or lists n l).requests })) found.0
-    ∙ set_changed r change lists l within
 
 -- where r is below all, it is none of them
 pub above_differs : (r : ℕ) (xs : List ℕ) (f g : ℕ → List OpenRequest) → AllAbove r xs → ((q : ℕ) → (q == r) ≡ false → g q ≡ f q)
@@ -130,55 +94,86 @@ listed_without p seat (q ∷ qs) = go (q.seat == seat) (p q) refl refl (listed_w
   go false true e f rest = rw (f, e) (ap (λ xs. listed q ∷ xs) rest)
   go false false e f rest = rw f rest
 
--- a request of another revision isn't among those of r
-others_stay : (p : Request → Bool) (seat : ℕ) (qs : List Request) → list_all (λ q. not (q.seat == seat) || not (p q)) qs ≡ true
-    → filter p (filter (λ q. not (q.seat == seat)) qs) ≡ filter p qs
-others_stay p seat [] h = refl
-others_stay p seat (q ∷ qs) h = let both = and_parts (not (q.seat == seat) || not (p q)) _ h in go (q.seat == seat) (p q) refl refl both.0 (others_stay p seat qs both.1) where
-  go : (b c : Bool) → (q.seat == seat) ≡ b → p q ≡ c → (not b || not c) ≡ true → filter p (filter (λ x. not (x.seat == seat)) qs) ≡ filter p qs
-      → filter p (cond (not b) (q ∷ filter (λ x. not (x.seat == seat)) qs) (filter (λ x. not (x.seat == seat)) qs)) ≡ cond c (q ∷ filter p qs) (filter p qs)
-  go true true e f here rest = absurd (cc)
-  go true false e f here rest = rest
-  go false true e f here rest = rw f (ap (λ xs. q ∷ xs) rest)
-  go false false e f here rest = rw f rest
-
--- a request apart from that of a seat is of another seat
-away : (q p : Request) (seat n : ℕ) → q.seat ≡ seat → are_apart q p ≡ true → (not (p.seat == seat) || not (p.revision == n)) ≡ true
-away q p seat n same apart =
-    let parts = and_parts (not (q.seat == p.seat)) (not (q.number == p.number)) apart in
-    let far : not (p.seat == seat) ≡ true = rw (← same) (ap not (eq_sym p.seat q.seat) ∙ parts.0) in
-    rw far refl
-
--- the request of a seat is of its revision alone
-seat_is_of : (seat : ℕ) (qs : List Request) (x : Request) (n : ℕ) → Differ qs → find (λ q. q.seat == seat) qs ≡ Some x → (x.revision == n) ≡ false
-    → list_all (λ q. not (q.seat == seat) || not (q.revision == n)) qs ≡ true
-seat_is_of seat [] x n d h other = refl
-seat_is_of seat (q ∷ qs) x n d h other = go (q.seat == seat) refl h (seat_is_of seat qs x n d.1) where
-  go : (b : Bool) → (q.seat == seat) ≡ b → cond b (Some q) (find (λ p. p.seat == seat) qs) ≡ Some x
-      → (find (λ p. p.seat == seat) qs ≡ Some x → (x.revision == n) ≡ false → list_all (λ p. not (p.seat == seat) || not (p.revision == n)) qs ≡ true)
-      → ((not b || not (q.revision == n)) && list_all (λ p. not (p.seat == seat) || not (p.revision == n)) qs) ≡ true
-  go true e f rest =
-      let is : q ≡ x = same_Some q x f in
-      let mine : (q.revision == n) ≡ false = rw is other in
-      rw mine (all_weaker (are_apart q) (λ p. not (p.seat == seat) || not (p.revision == n)) (λ p apart. away q p seat n (eq_from q.seat seat e) apart) qs d.0)
-  go false e f rest = rest f other
+-- where the requests of each revision lose those of the seat
+map_without : (seat : ℕ) (xs : List ℕ) (f g : ℕ → List OpenRequest) → ((q : ℕ) → g q ≡ filter (λ p. not (p.seat == seat)) (f q)) → map (at g) xs ≡ without seat (map (at f) xs)
+map_without seat [] f g left = refl
+map_without seat (x ∷ xs) f g left =
+    ap (λ qs. record { revision = x; requests = qs } ∷ map (at g) xs) (left x)
+    ∙ ap (λ ls. record { revision = x; requests = filter (λ p. not (p.seat == seat)) (f x) } ∷ ls) (map_without seat xs f g left)
 
 -- the lists after the request of a seat left
-pub lists-Leave : (past : List Entry) (seat number r : ℕ) (x : Request) → Ascends (existing past) → Differ (open_requests past) → held_by seat past ≡ Some x
-    → x.number ≡ number → x.revision ≡ r
-    → lists_of (Leave seat number r ∷ past) ≡ changed r (λ requests. filter (λ q. not (q.seat == seat)) requests) (lists_of past)
-lists-Leave past seat number r x ascends differ held is_number is_revision =
-    map_changed r _ (existing past) (λ q. requests_at q past) (λ q. requests_at q (Leave seat number r ∷ past)) ascends
-    (taken r ∙ listed_without (λ q. q.revision == r) seat (open_requests past))
-    (λ q other. taken q ∙ ap (map listed) (others_stay (λ p. p.revision == q) seat (open_requests past) (seat_is_of seat (open_requests past) x q differ held (apart q other))))
-  where
-    taken : (q : ℕ) → requests_at q (Leave seat number r ∷ past) ≡ map listed (filter (λ p. p.revision == q) (filter (λ p. not (p.seat == seat)) (open_requests past)))
-    taken q =
-        ap (λ (n : ℕ). map listed (filter (λ p. p.revision == q) (filter (λ p. not (p.number == n)) (open_requests past)))) (sym is_number)
-        ∙ ap (λ (qs : List Request). map listed (filter (λ p. p.revision == q) qs)) (by_seat seat (open_requests past) x differ held)
+pub lists-Leave : (past : List Entry) (seat number r : ℕ) (x : Request) → Differ (open_requests past) → held_by seat past ≡ Some x → x.number ≡ number
+    → lists_of (Leave seat number r ∷ past) ≡ without seat (lists_of past)
+lists-Leave past seat number r x differ held is_number =
+    map_without seat (existing past) (λ q. requests_at q past) (λ q. requests_at q (Leave seat number r ∷ past)) (λ q. taken q ∙ listed_without (λ p. p.revision == q) seat (open_requests past)) where
+      taken : (q : ℕ) → requests_at q (Leave seat number r ∷ past) ≡ map listed (filter (λ p. p.revision == q) (filter (λ p. not (p.seat == seat)) (open_requests past)))
+      taken q =
+          ap (λ (n : ℕ). map listed (filter (λ p. p.revision == q) (filter (λ p. not (p.number == n)) (open_requests past)))) (sym is_number)
+          ∙ ap (λ (qs : List Request). map listed (filter (λ p. p.revision == q) qs)) (by_seat seat (open_requests past) x differ held)
 
-    apart : (q : ℕ) → (q == r) ≡ false → (x.revision == q) ≡ false
-    apart q other = rw is_revision (eq_sym r q ∙ other)
+-- a seat that holds no request has none in a list
+none_listed : (seat r : ℕ) (qs : List Request) → find (λ q. q.seat == seat) qs ≡ None → list_any (λ q. q.seat == seat) (map listed (filter (λ q. q.revision == r) qs)) ≡ false
+none_listed seat r [] h = refl
+none_listed seat r (q ∷ qs) h = go (q.seat == seat) (q.revision == r) refl h (none_listed seat r qs) where
+  go : (b c : Bool) → (q.seat == seat) ≡ b → cond b (Some q) (find (λ p. p.seat == seat) qs) ≡ None
+      → (find (λ p. p.seat == seat) qs ≡ None → list_any (λ p. p.seat == seat) (map listed (filter (λ p. p.revision == r) qs)) ≡ false)
+      → list_any (λ p. p.seat == seat) (map listed (cond c (q ∷ filter (λ p. p.revision == r) qs) (filter (λ p. p.revision == r) qs))) ≡ false
+  go true c e h rest = absurd (cc)
+  go false true e h rest = rw (e, rest h) refl
+  go false false e h rest = rest h
+
+pub no_request : (past : List Entry) (seat : ℕ) → held_by seat past ≡ None → has_request seat (lists_of past) ≡ false
+no_request past seat none = go (existing past) where
+  go : (xs : List ℕ) → has_request seat (map (at (λ q. requests_at q past)) xs) ≡ false
+  go [] = refl
+  go (x ∷ xs) = rw (none_listed seat x (open_requests past) none, go xs) refl
+
+-- one that holds a request has it in the list of its revision
+one_listed : (seat : ℕ) (qs : List Request) (x : Request) → find (λ q. q.seat == seat) qs ≡ Some x → list_any (λ q. q.seat == seat) (map listed (filter (λ q. q.revision == x.revision) qs)) ≡ true
+one_listed seat [] x h = absurd (cc)
+one_listed seat (q ∷ qs) x h = go (q.seat == seat) (q.revision == x.revision) refl refl h (one_listed seat qs x) where
+  go : (b c : Bool) → (q.seat == seat) ≡ b → (q.revision == x.revision) ≡ c → cond b (Some q) (find (λ p. p.seat == seat) qs) ≡ Some x
+      → (find (λ p. p.seat == seat) qs ≡ Some x → list_any (λ p. p.seat == seat) (map listed (filter (λ p. p.revision == x.revision) qs)) ≡ true)
+      → list_any (λ p. p.seat == seat) (map listed (cond c (q ∷ filter (λ p. p.revision == x.revision) qs) (filter (λ p. p.revision == x.revision) qs))) ≡ true
+  go true true e k h rest = rw e refl
+  go true false e k h rest = absurd (let same : (q.revision == x.revision) ≡ true = ap (λ (y : Request). q.revision == y.revision) (sym (same_Some q x h)) ∙ eq_refl q.revision in cc)
+  go false true e k h rest = rw (e, rest h) refl
+  go false false e k h rest = rest h
+
+pub has_its_request : (past : List Entry) (seat : ℕ) (x : Request) → held_by seat past ≡ Some x → exists_in x.revision past ≡ true → has_request seat (lists_of past) ≡ true
+has_its_request past seat x held exists = go (existing past) exists where
+  either : (a : Bool) {b : Bool} → b ≡ true → (a || b) ≡ true
+  either true h = refl
+  either false h = h
+
+  at_x : (q : ℕ) (xs : List ℕ) (b : Bool) → (q == x.revision) ≡ b → (b || list_any (λ n. n == x.revision) xs) ≡ true → (list_any (λ n. n == x.revision) xs ≡ true → has_request seat (map (at (λ n. requests_at n past)) xs) ≡ true)
+      → (list_any (λ p. p.seat == seat) (requests_at q past) || has_request seat (map (at (λ n. requests_at n past)) xs)) ≡ true
+  at_x q xs true e h rest =
+      let here : list_any (λ p. p.seat == seat) (requests_at q past) ≡ true =
+      ap (λ (n : ℕ). list_any (λ p. p.seat == seat) (requests_at n past)) (eq_from q x.revision e) ∙ one_listed seat (open_requests past) x held in
+      rw here refl
+  at_x q xs false e h rest = either (list_any (λ p. p.seat == seat) (requests_at q past)) (rest h)
+
+  go : (xs : List ℕ) → list_any (λ n. n == x.revision) xs ≡ true → has_request seat (map (at (λ n. requests_at n past)) xs) ≡ true
+  go [] h = absurd (cc)
+  go (q ∷ xs) h = at_x q xs (q == x.revision) refl h (go xs)
+
+-- a revision at which none is open has no request in its list
+none_of : (qs : List Request) → map (λ q. q.number) qs ≡ [] → map listed qs ≡ []
+none_of [] h = refl
+none_of (q ∷ qs) h = absurd (cc)
+
+pub empty_list : (past : List Entry) (r : ℕ) → open_at r past ≡ [] → is_empty_at r (lists_of past) ≡ true
+empty_list past r none = go (existing past) where
+  here : (q : ℕ) (b : Bool) → (q == r) ≡ b → (not b || (length (requests_at q past) == 0)) ≡ true
+  here q true e =
+      let no : requests_at q past ≡ [] = ap (λ (n : ℕ). requests_at n past) (eq_from q r e) ∙ none_of (filter (λ p. p.revision == r) (open_requests past)) none in
+      rw no refl
+  here q false e = refl
+
+  go : (xs : List ℕ) → is_empty_at r (map (at (λ q. requests_at q past)) xs) ≡ true
+  go [] = refl
+  go (q ∷ xs) = and_both _ _ (here q (q == r) refl) (go xs)
 
 -- the lists after a revision was removed
 removed_cond : (b : Bool) (l : OpenAt) (rest lists : List OpenAt) → rest ≡ lists → cond b (l ∷ rest) rest ≡ cond b (l ∷ lists) lists
@@ -249,16 +244,8 @@ pub list_counts : (s : Strategy) (past : List Entry) (r : ℕ) → list_all (λ 
 list_counts s past r stand = sym (length_numbers (list_of r (lists_of past))) ∙ ap length (list_is s past r stand)
 
 -- an existing revision has a list
-place_in : (f : ℕ → List OpenRequest) (r : ℕ) (xs : List ℕ) → list_any (λ q. q == r) xs ≡ true → position_or_len (λ l. l.revision == r) (map (at f) xs) < length (map (at f) xs)
-place_in f r [] h = absurd (cc)
-place_in f r (x ∷ xs) h = go (x == r) h (place_in f r xs) where
-  go : (b : Bool) → (b || list_any (λ q. q == r) xs) ≡ true → (list_any (λ q. q == r) xs ≡ true → position_or_len (λ l. l.revision == r) (map (at f) xs) < length (map (at f) xs))
-      → cond (not b) (1 + position_or_len (λ l. l.revision == r) (map (at f) xs)) 0 < length (map (at f) (x ∷ xs))
-  go true here rest = omega arith
-  go false here rest = omega (arith, rest here)
-
-pub has_list : (past : List Entry) (lists : List OpenAt) (r : ℕ) → lists ≡ lists_of past → exists_in r past ≡ true → IsSome (position (λ l. l.revision == r) lists)
+pub has_list : (past : List Entry) (lists : List OpenAt) (r : ℕ) → lists ≡ lists_of past → exists_in r past ≡ true → IsSome (find (λ l. l.revision == r) lists)
 has_list past lists r is exists =
-    let within : position_or_len (λ (l : OpenAt). l.revision == r) (lists_of past) < length (lists_of past) = place_in (λ q. requests_at q past) r (existing past) exists in
-    let below : nat_lt (position_or_len (λ (l : OpenAt). l.revision == r) (lists_of past)) (length (lists_of past)) ≡ true = grind (arith, nat_tests) in
-    rw (is, below) refl
+    let found : find (λ l. l.revision == r) lists ≡ Some (at (λ q. requests_at q past) r) =
+    ap (find (λ l. l.revision == r)) is ∙ find_list (λ q. requests_at q past) r (existing past) ∙ ap (λ b. cond b (Some (at (λ q. requests_at q past) r)) None) exists in
+    rw found refl

@@ -1,5 +1,5 @@
 -- What the record of a seat says of the past.
-use Rattle.std.proofs.Common.{◌≡◌, ◌≢◌, ℕ, zero, suc, ◌+◌, ◌<◌, ◌≤◌, ◌^◌, Bool, true, false, cond, ◌==◌, List, [], ◌∷◌, length, slice_get, get_or, slice_index, sum, Option, Some, None, refl, sym, ap, ◌∙◌, arith}
+use Rattle.std.proofs.Common.{◌≡◌, ◌≢◌, ℕ, zero, suc, ◌+◌, ◌<◌, ◌≤◌, ◌^◌, Bool, true, false, cond, ◌==◌, nat_le, List, [], ◌∷◌, length, slice_get, get_or, slice_index, sum, Option, Some, None, refl, sym, ap, ◌∙◌, arith}
 use Rattle.std.proofs.lemmas.Bool.Decides.{nat_tests}
 use Rattle.std.proofs.lemmas.List.Sums.{sum_by-cons}
 use Rattle.std.proofs.lemmas.Option.{slice_get_within, get_or_from_slice_get, same_Some}
@@ -10,7 +10,7 @@ use Rattle.bg_ledger.specs.declared.holding.Holding.{Holding}
 use Rattle.bg_book.specs.Routing.{Routing}
 use Rattle.bg_book.specs.PastState.{seated, seat_of}
 use Rattle.bg_book.specs.Invariant.{RoutingStands, has_number}
-use Rattle.bg_book.proofs.Requests.{found_passes}
+use Rattle.bg_book.proofs.Requests.{and_parts, found_passes}
 
 -- the record of a seat is what the past says
 pub record Seated (b : Routing) (seat : Holding) : Type 0 where
@@ -21,6 +21,12 @@ pub seated_of : (b : Routing) (seat : Holding) → RoutingStands b → slice_get
 seated_of b seat stand known =
     let within : seat.index < b.opening.seats = omega (arith, slice_get_within b.seats seat.index seat known, stand.seats.count) in
     record { within = within; is = same_Some _ _ (sym (stand.seats.each seat.index within) ∙ known) }
+
+-- there are 8 seats at most
+pub few_seats : (b : Routing) → RoutingStands b → b.opening.seats ≤ 8
+few_seats b stand = at_most b.opening.seats (and_parts _ (nat_le b.opening.seats 8) stand.legal.opening).1 where
+  at_most : (n : ℕ) → nat_le n 8 ≡ true → n ≤ 8
+  at_most n h = grind (arith, nat_tests)
 
 pub held_number : (b : Routing) (i : ℕ) (x : Request) → RoutingStands b → held_by i b.past ≡ Some x → has_number (given b.closed b.past) x ≡ true
 held_number b i x stand held = found_passes (λ q. q.seat == i) (has_number (given b.closed b.past)) (open_requests b.past) x held stand.requests.given

@@ -12,7 +12,7 @@ use Rattle.bg_history.specs.Requests.{open_at}
 use Rattle.bg_history.specs.Steps.{IsLegal, is_settled}
 use Rattle.bg_pasts.specs.Reachable.{stands_scaled}
 use Rattle.bg_ledger.specs.declared.holding.Holding.{Holding}
-use Rattle.bg_book.specs.OpenLists.{list_of, lists_of}
+use Rattle.bg_book.specs.OpenLists.{list_of, lists_of, requests_at}
 use Rattle.bg_book.specs.Routing.{Routing}
 use Rattle.bg_book.specs.PastState.{SeatsStand}
 
@@ -50,6 +50,8 @@ pub record Headline (b : Routing) : Type 0 where
   pub preview : IsTrue (stands_scaled b.strategy (preview_of b.past) b.past)
   pub by_rule : IsTrue (is_reached_by_rule b.strategy b.past)
   pub lists : b.lists ≡ lists_of b.past
+  -- each request open at r stands in its list, at the node of its seat's index
+  pub nodes : (r : ℕ) → list_of r b.lists ≡ requests_at r b.past
   pub listed : (r : ℕ) → map (λ q. q.number) (list_of r b.lists) ≡ open_at r b.past
   pub counted : (r : ℕ) → length (list_of r b.lists) ≡ length (open_at r b.past)
   pub shares : (r : ℕ) → sum_by (share r) b.seats ≡ length (open_at r b.past)

@@ -1,6 +1,10 @@
 -- The list of open requests that the book keeps for each revision.
-use Rattle.std.specs.Prelude.{ℕ, ◌==◌, if◌then◌else◌, List, [], ◌∷◌, filter, find, map, Option, Some, None}
+use Rattle.std.specs.Prelude.{◌≡◌, ◌≤◌, ℕ, Bool, false, true, not, ◌==◌, ◌||◌, nat_lt, if◌then◌else◌, List, [], ◌∷◌, length, filter, find, map, Option, Some, None}
+use Rattle.std.specs.List.{list_all, list_any}
+use Rattle.bg_openlist.specs.Distinct.{Distinct}
+use Rattle.bg_openlist.specs.Family.{Family, IsFamily, list_at}
 use Rattle.bg_book.specs.declared.open_lists.OpenRequest.{OpenRequest}
+use Rattle.bg_book.specs.declared.open_lists.OwnList.{OwnList}
 use Rattle.bg_history.specs.declared.entry.Entry.{Entry}
 use Rattle.bg_history.specs.Requests.{Request, open_requests}
 use Rattle.bg_history.specs.Sizes.{existing}
@@ -24,6 +28,41 @@ changed r change [] = []
 changed r change (l ∷ rest) =
     if l.revision == r then record l { requests = change l.requests } ∷ rest
     else l ∷ changed r change rest
+
+-- the lists with the request of a seat left out
+abbrev pub without : ℕ → List OpenAt → List OpenAt
+without seat lists = map
+    (λ (l : OpenAt). record l { requests = filter (λ q. not (q.seat == seat)) l.requests }) lists
+
+-- some list has a request of the seat
+abbrev pub has_request : ℕ → List OpenAt → Bool
+has_request seat lists = list_any (λ l. list_any (λ q. q.seat == seat) l.requests) lists
+
+-- no list of revision r has a request
+abbrev pub is_empty_at : ℕ → List OpenAt → Bool
+is_empty_at r lists = list_all (λ l. not (l.revision == r) || (length l.requests == 0)) lists
+
+-- the request at a node: the node is its seat's index, the value its number
+abbrev pub request_at : ℕ × ℕ → OpenRequest
+request_at p = record { seat = p.0; number = p.1 }
+
+-- a revision and the requests at the nodes of the linked list that is its own
+abbrev pub shown_at : Family ℕ → OwnList → OpenAt
+shown_at f own = record { revision = own.revision; requests = map request_at (list_at f own.list) }
+
+-- the linked list is some revision's own
+abbrev pub is_owned : ℕ → List OwnList → Bool
+is_owned l owned = list_any (λ o. o.list == l) owned
+
+-- what holds of the linked lists: each revision has one of its own, one that is no revision's own is
+-- empty, and there is a node for each seat
+pub record HoldsLists (owned : List OwnList) (capacity : ℕ) (f : Family ℕ) : Type 0 where
+  pub room : 64 ≤ capacity
+  pub distinct : Distinct (map (λ o. o.list) owned)
+  pub below : list_all (λ o. nat_lt o.list 64) owned ≡ true
+  pub rest : (l : ℕ) → is_owned l owned ≡ false → list_at f l ≡ []
+  pub family : IsFamily f
+  pub nodes : f.nodes ≡ 8
 
 -- the seat and the number of a request
 abbrev pub listed : Request → OpenRequest

@@ -1,5 +1,5 @@
 //! How a request enters.
-ghost use Rattle.std.specs.Prelude.{◌≡◌, ◌≤◌, ◌+◌, ◌*◌, ◌∷◌, length, IfOk, OnOk, OnErr, Some, slice_get, slice_set, MatchResult, None};
+ghost use Rattle.std.specs.Prelude.{◌≡◌, ◌≤◌, ◌+◌, ◌*◌, ◌∷◌, length, IfOk, OnErr, Some, slice_get, slice_set, MatchResult, None};
 ghost use Rattle.bg_book.specs.Refusals.{all_open, enter_refusal, AnswersBy, IsTicket};
 ghost use Rattle.bg_book.specs.Changes.{Stepped, with_past, enter_entry, seat_in};
 ghost use Rattle.bg_book.specs.Meeting.{Meets};
@@ -20,7 +20,6 @@ use bg_pasts::laws::reachable;
 use bg_promotion::laws::neutral;
 use bg_revisions::Service;
 use bg_settling::laws::entering_settles;
-use std::alloc::AllocError;
 
 impl<N: Names> Book<N> {
     /// Lets a request enter at a service: it gets the next number, from 1, the revision that the service selects,
@@ -68,32 +67,25 @@ impl<N: Names> Book<N> {
         let ticket = self.rollout.offer(service)?;
         let reserved = 1 + self.rollout.places_kept() + PLACES_OF_A_REQUEST;
         self.rollout.reserve(reserved)?;
-        self.rollout.admit(seat, service, ticket)?;
+        self.rollout.admit(seat, service, ticket);
         Ok(ticket)
     }
 }
 
 impl<N: Names> Rollout<N> {
-    /// Lets a request enter that isn't refused; refused only where memory is.
-    fn admit(
-        &mut self,
-        seat: &mut Seat<N>,
-        service: Service,
-        ticket: Ticket,
-    ) -> Result<(), AllocError>
+    /// Lets a request enter that isn't refused. It takes no memory.
+    fn admit(&mut self, seat: &mut Seat<N>, service: Service, ticket: Ticket)
         requires known { slice_get self.old.routing.seats seat.old.index ≡ Some seat.old }
         requires out { seat.old.number ≡ 0 }
         requires accepted { enter_refusal self.old.routing service ≡ None }
         requires ticket { IsTicket self.old.routing service ticket }
         requires short { length self.old.routing.past ≤ 1000000 }
         requires spare { 1 ≤ self.old.spare }
-        ensures seat { OnOk result (seat.new ≡ seat_in seat.old ticket) }
-        ensures routing { OnOk result (self.new.routing ≡ with_past self.old.routing
+        ensures seat { seat.new ≡ seat_in seat.old ticket }
+        ensures routing { self.new.routing ≡ with_past self.old.routing
             (enter_entry seat.old.index service ticket ∷ self.old.routing.past)
-            (slice_set self.old.routing.seats seat.old.index (seat_in seat.old ticket))) }
-        ensures spare { OnOk result (self.new.spare + 1 ≡ self.old.spare) }
-        ensures unchanged { OnErr result (self.new ≡ self.old) }
-        ensures seat_unchanged { OnErr result (seat.new ≡ seat.old) }
+            (slice_set self.old.routing.seats seat.old.index (seat_in seat.old ticket)) }
+        ensures spare { self.new.spare + 1 ≡ self.old.spare }
     {
         existing_ascends();
         reachable();
@@ -105,7 +97,7 @@ impl<N: Names> Rollout<N> {
                 seat: index,
                 number: ticket.number,
             },
-        )?;
+        );
         self.given = ticket.number;
         self.open += 1;
         self.records[index as usize].enter(seat, ticket.number, ticket.revision, ticket.port);
@@ -116,7 +108,6 @@ impl<N: Names> Rollout<N> {
             revision: ticket.revision,
             port: ticket.port,
         });
-        Ok(())
     }
 
     /// The revision that a service selects; `NoPreview` where the service is the preview service and none is set.

@@ -10,9 +10,9 @@ use bg_pasts::laws::reachable;
 
 /// The headline: the book's history is legal, nothing allowed is left undone, both services select existing
 /// scaled revisions, the active one was reached only by the documented rule (Argo Rollouts, "BlueGreen
-/// Deployment Strategy"), the list of each revision has just its open requests, which are as many as the shares of
-/// the seats, the record of each seat is what the history says, and no revision that is scaled down holds an open
-/// request.
+/// Deployment Strategy"), the list of each revision has just its open requests, each at the node of its seat's index,
+/// and they are as many as the shares of the seats, the record of each seat is what the history says, and no revision
+/// that is scaled down holds an open request.
 pub fn headline<N: Names>(book: &Book<N>)
     ensures { Headline book.now }
 {

@@ -9,7 +9,6 @@ use crate::book::Book;
 use crate::calls::Left;
 use crate::rollout::Rollout;
 use bg_history::Entry;
-use bg_history::laws::existing_ascends;
 use bg_ledger::{Names, Seat};
 use bg_pasts::laws::reachable;
 use bg_promotion::laws::neutral;
@@ -70,13 +69,12 @@ impl<N: Names> Rollout<N> {
             (slice_set self.old.routing.seats seat.old.index (vacated seat.old)) }
         ensures spare { self.new.spare + 1 ≡ self.old.spare }
     {
-        existing_ascends();
         reachable();
         neutral(&self.core);
         let index = seat.index();
         let (number, revision) = self.records[index as usize].leave(seat);
         let left = Left { number, revision };
-        self.lists.take(left.revision, index);
+        self.lists.take(index);
         self.open -= 1;
         self.history.push_reserved(Entry::Leave {
             seat: index,

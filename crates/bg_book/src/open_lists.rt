@@ -1,7 +1,8 @@
 //! The lists of open requests.
-ghost use Rattle.std.specs.Prelude.{◌≡◌, ◌<◌, ◌==◌, ◌++◌, ◌∷◌, [], length, not, filter, OnOk, OnErr, IfOk, IsSome, find, position, option_copied};
-ghost use Rattle.bg_book.specs.OpenLists.{changed, list_of};
+ghost use Rattle.std.specs.Prelude.{◌≡◌, ◌<◌, ◌==◌, ◌++◌, ◌∷◌, [], false, true, length, not, filter, find, IfOk, IsSome, option_map};
+ghost use Rattle.bg_book.specs.OpenLists.{changed, has_request, is_empty_at, is_owned, list_of, without};
 
+use crate::limits::MOST_SEATS;
 use bg_revisions::MOST_REVISIONS;
 use std::alloc::{AllocError, Global};
 use std::marker::Model;
@@ -13,81 +14,47 @@ pub struct OpenRequest {
     pub(crate) number: u64,
 }
 
-/// The open requests of a revision, in the order of entering.
-#[derive(Drop)]
-struct OpenList {
+/// A revision that exists, and which of the linked lists is its own.
+#[derive(Clone, Copy, Drop)]
+struct OwnList {
     revision: u64,
-    requests: Vec<OpenRequest>,
-}
-
-impl Model for OpenList {
-    ghost use Rattle.bg_book.specs.OpenLists.{OpenAt};
-
-    ghost Value = { OpenAt };
-
-    ghost view = { λ l. record { revision = l.revision; requests = l.requests.items } };
-}
-
-impl OpenList {
-    /// How many requests are open.
-    fn len(&self) -> usize
-        ensures { result ≡ length self.now.requests }
-    {
-        self.requests.len()
-    }
-
-    /// Puts a request at the end; refused only where memory is, and then nothing changes.
-    fn append(&mut self, request: OpenRequest) -> Result<(), AllocError>
-        ensures ok { OnOk result (self.new ≡ record self.old {
-          requests = self.old.requests ++ request ∷ [];
-        }) }
-        ensures err { OnErr result (self.new ≡ self.old) }
-    {
-        self.requests.push(request)?;
-        Ok(())
-    }
-
-    /// Takes the request of a seat out of the list.
-    fn take(&mut self, seat: u32)
-        ensures { self.new ≡ record self.old {
-          requests = filter (λ q. not (q.seat == seat)) self.old.requests;
-        } }
-    {
-        self.requests.retain(|request| request.seat != seat);
-    }
+    list: usize,
 }
 
 /// A list of open requests for each revision that exists, in order of number.
+///
+/// The lists are linked by pointers. A request stands at the node of its seat's index, so that it
+/// leaves the middle of its list with no search and no memory.
 #[derive(Drop)]
 pub(crate) struct OpenLists {
-    alloc: Global,
-    lists: Vec<OpenList>,
+    owned: Vec<OwnList>,
+    linked: bg_openlist::OpenLists<u64>,
 }
 
 impl Model for OpenLists {
-    ghost use Rattle.std.specs.Prelude.{List};
-    ghost use Rattle.bg_book.specs.OpenLists.{OpenAt};
-    ghost use Rattle.std.specs.Prelude.{◌≤◌, vec_capacity};
+    ghost use Rattle.std.specs.Prelude.{List, map, vec_capacity};
+    ghost use Rattle.bg_book.specs.OpenLists.{OpenAt, HoldsLists, shown_at};
 
     ghost Value = { List OpenAt };
 
-    ghost view = { λ l. l.lists.items };
+    ghost view = { λ l. map (shown_at l.linked) l.owned.items };
 
-    ghost invariant = { λ l. 64 ≤ vec_capacity l.lists };
+    ghost invariant = { λ l. HoldsLists l.owned.items (vec_capacity l.owned) l.linked };
 }
 
 impl OpenLists {
-    /// The list of revision 1 alone, without requests, and room for as many as there can be
-    /// revisions; refused only where memory is.
+    /// The list of revision 1 alone, without requests, room for as many as there can be revisions,
+    /// and a node for each seat that there can be; refused only where memory is.
     pub(crate) fn new(alloc: Global) -> Result<OpenLists, AllocError>
         ensures { IfOk result (λ l. l ≡ record { revision = 1; requests = [] } ∷ []) }
     {
-        let mut lists = Vec::with_capacity(alloc, MOST_REVISIONS)?;
-        lists.push_reserved(OpenList {
+        let mut owned = Vec::with_capacity(alloc, MOST_REVISIONS)?;
+        let linked = bg_openlist::OpenLists::new(alloc, MOST_SEATS as usize)?;
+        owned.push_reserved(OwnList {
             revision: 1,
-            requests: Vec::new(alloc),
+            list: 0,
         });
-        Ok(OpenLists { alloc, lists })
+        Ok(OpenLists { owned, linked })
     }
 
     /// Adds a list without requests at the end, for a revision that has none yet; it takes no memory.
@@ -95,62 +62,76 @@ impl OpenLists {
         requires { length self.old < 64 }
         ensures { self.new ≡ self.old ++ record { revision = revision; requests = [] } ∷ [] }
     {
-        self.lists.push_reserved(OpenList {
-            revision,
-            requests: Vec::new(self.alloc),
-        });
+        let list = unowned(&self.owned);
+        self.owned.push_reserved(OwnList { revision, list });
     }
 
     /// How many requests are open at a revision; 0 where it has no list.
     pub(crate) fn count(&self, revision: u64) -> usize
         ensures { result ≡ length (list_of revision self.now) }
     {
-        match self.find(revision) {
-            Some(list) => list.len(),
+        match own_list(&self.owned, revision) {
+            Some(list) => self.linked.len(list),
             None => 0,
         }
     }
 
-    /// Puts a request at the end of its revision's list; refused only where memory is, and then
-    /// nothing changes.
-    pub(crate) fn append(&mut self, revision: u64, request: OpenRequest) -> Result<(), AllocError>
-        requires { IsSome (position (λ l. l.revision == revision) self.old) }
-        ensures ok { OnOk result (self.new ≡ changed revision
-            (λ requests. requests ++ request ∷ []) self.old) }
-        ensures err { OnErr result (self.new ≡ self.old) }
-    {
-        let place = self.place_of(revision).unwrap();
-        self.lists[place].append(request)
-    }
-
-    /// Takes the request of a seat out of its revision's list.
-    pub(crate) fn take(&mut self, revision: u64, seat: u32)
-        requires { IsSome (position (λ l. l.revision == revision) self.old) }
+    /// Puts a request of a seat that has none at the end of its revision's list. It takes no memory.
+    pub(crate) fn append(&mut self, revision: u64, request: OpenRequest)
+        requires revision { IsSome (find (λ l. l.revision == revision) self.old) }
+        requires seat { request.seat < 8 }
+        requires free { has_request request.seat self.old ≡ false }
         ensures { self.new ≡ changed revision
-            (λ requests. filter (λ q. not (q.seat == seat)) requests) self.old }
+            (λ requests. requests ++ request ∷ []) self.old }
     {
-        let place = self.place_of(revision).unwrap();
-        self.lists[place].take(seat);
+        let list = own_list(&self.owned, revision).unwrap();
+        let node = request.seat as usize;
+        self.linked.link(list, node, request.number);
     }
 
-    /// Drops the list of a revision.
+    /// Takes the request of a seat out of its list, by its node alone.
+    pub(crate) fn take(&mut self, seat: u32)
+        requires { has_request seat self.old ≡ true }
+        ensures { self.new ≡ without seat self.old }
+    {
+        self.linked.unlink(seat as usize);
+    }
+
+    /// Drops the list of a revision that has no request. The linked list that was its own may serve
+    /// a new revision.
     pub(crate) fn drop_list(&mut self, revision: u64)
+        requires { is_empty_at revision self.old ≡ true }
         ensures { self.new ≡ filter (λ l. not (l.revision == revision)) self.old }
     {
-        self.lists.retain(|list| list.revision != revision);
+        self.owned.retain(|own| own.revision != revision);
     }
+}
 
-    /// A revision's list, if it has one.
-    fn find(&self, revision: u64) -> Option<&OpenList>
-        ensures { option_copied result ≡ find (λ l. l.revision == revision) self.now }
-    {
-        self.lists.iter().find(|list| list.revision == revision)
-    }
+/// The linked list that is a revision's own, if it has one.
+fn own_list(owned: &[OwnList], revision: u64) -> Option<usize>
+    ensures { result ≡ option_map (λ o. o.list) (find (λ o. o.revision == revision) owned.now) }
+{
+    let own = owned.iter().find(|own| own.revision == revision)?;
+    Some(own.list)
+}
 
-    /// The place of a revision's list.
-    fn place_of(&self, revision: u64) -> Option<usize>
-        ensures { result ≡ position (λ l. l.revision == revision) self.now }
-    {
-        self.lists.iter().position(|list| list.revision == revision)
+/// A linked list that is no revision's own.
+fn unowned(owned: &[OwnList]) -> usize
+    requires { length owned.now < 64 }
+    ensures below { result < 64 }
+    ensures free { is_owned result owned.now ≡ false }
+{
+    for list in 0..MOST_REVISIONS {
+        if !has_owner(owned, list) {
+            return list;
+        }
     }
+    unreachable!()
+}
+
+/// Whether a linked list is some revision's own.
+fn has_owner(owned: &[OwnList], list: usize) -> bool
+    ensures { result ≡ is_owned list owned.now }
+{
+    owned.iter().any(|own| own.list == list)
 }

@@ -126,15 +126,13 @@ fn work<N: Names, R: AllocGlobal + Print + Eprint>(
     Ok(end)
 }
 
-/// The first event and the first request take memory. After these the book has room, and a list of calls takes memory
-/// for its replies alone.
+/// The first event takes memory. After it the book has room, and a list of calls takes memory for its replies alone.
 fn make_calls_in<N: Names, R: Print + Eprint>(rt: &R, room: &mut Room<N>) -> Result<(), Stop> {
     say_made(rt, "Book::open")?;
     let event = RoomCall::Alone(Call::Control(available()));
-    let request = RoomCall::Alone(enter());
     let calls = RoomCall::Run([leave(), enter(), leave()]);
     change(rt, "Book::call of an event", room, &[event])?;
-    change(rt, "Book::call of a request", room, &[request])?;
+    room.call(&enter())?;
     change(rt, "Book::run", room, &[calls])?;
     show(rt, room)
 }

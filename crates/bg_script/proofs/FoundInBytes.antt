@@ -1,6 +1,6 @@
 -- What is found in a part is found in the bytes that it was taken from.
 use Rattle.std.proofs.Common.{◌≡◌, ◌≢◌, ◌≤◌, ◌⊎◌, inl, inr, ℕ, List, length, Option, None, Some, subst}
-use Rattle.std.specs.Prelude.{Result, Ok, Err, MatchResult, IfSome}
+use Rattle.std.specs.Prelude.{Result, Ok, Err, MatchResult, IfOk, IfSome}
 use Rattle.std.specs.Io.KnownBytes.{Appends}
 use Rattle.bg_strategy.specs.Reading.{IsStrategyIn, IsFaultIn}
 use Rattle.bg_strategy.specs.declared.fault.StrategyFault.{StrategyFault}
@@ -37,15 +37,21 @@ is_finding part.TooLarge (Means s) xs ys whole found = absurd found
 is_finding part.TooLarge (Refused e) xs ys whole found = absurd found
 is_finding part.TooLarge TooLarge xs ys whole found = whole
 
+-- what is found in the part that is the whole input is found in the input
+pub found_in_all : (known after : Option (List ℕ)) (p : StrategyPart) (r : Result Finding RunEnd) → Known known after (IsWhole p)
+    → MatchResult r (IsFoundIn p) (λ end. end ≡ run_end.OutOfMemory) → IfOk r (λ f. IfSome known (IsFinding f))
+found_in_all known after p (Err end) taken found = tt
+found_in_all None after p (Ok f) taken found = tt
+found_in_all (Some xs) None p (Ok f) taken found = absurd taken
+found_in_all (Some xs) (Some ys) p (Ok f) taken found = is_finding p f xs ys taken found
+
 -- the lines of what was found in the whole input were written
-pub checks_all : (known after first last : Option (List ℕ)) (p : StrategyPart) (f : Finding) (status : ℕ)
-    → Known known after (IsWhole p) → IsFoundIn p f → Appends first last (finding_text f) → status ≡ status_of f
-    → IfSome known (Checks first last status)
-checks_all None after first last p f status taken found written is = tt
-checks_all (Some xs) None first last p f status taken found written is = absurd taken
-checks_all (Some xs) (Some ys) first last p f status taken found written is = record {
+pub checks_all : (known first last : Option (List ℕ)) (f : Finding) (status : ℕ)
+    → IfSome known (IsFinding f) → Appends first last (finding_text f) → status ≡ status_of f → IfSome known (Checks first last status)
+checks_all None first last f status found written is = tt
+checks_all (Some xs) first last f status found written is = record {
   finding = f;
-  found = is_finding p f xs ys taken found;
+  found = found;
   written = written;
   status_is = is;
 }

@@ -1,4 +1,6 @@
 pub mod FoundInBytes
 pub mod ScriptSteps
+pub mod ControlSteps
+pub mod LongLines
 pub mod ReplayedBytes
 pub mod FreshBuffer

@@ -83,3 +83,7 @@ Known-both P Q S None old new f k l = tt
 Known-both P Q S (Some xs) None new f k l = absurd k
 Known-both P Q S (Some xs) (Some ys) None f k l = absurd l
 Known-both P Q S (Some xs) (Some ys) (Some zs) f k l = f xs ys zs k l
+
+pub Known-self : (P : List ℕ → List ℕ → Type 0) (known : Option (List ℕ)) → ((xs : List ℕ) → P xs xs) → Known known known P
+Known-self P None f = tt
+Known-self P (Some xs) f = f xs

@@ -4,7 +4,7 @@ use Rattle.bg_book.specs.FaultNames.{open_fault_name}
 use Rattle.bg_operator.specs.FaultNames.{line_fault_name}
 use Rattle.bg_report.specs.Replies.{refused, reply_text}
 use Rattle.bg_script.specs.declared.answer.Answer.{Answer}
-use Rattle.bg_script.specs.declared.answer.Answer.TheVariants.{Opened, OpenRefused, NotOpen, AlreadyOpen, Made, Unread}
+use Rattle.bg_script.specs.declared.answer.Answer.TheVariants.{Opened, OpenRefused, NotOpen, AlreadyOpen, Made, NotHere, OutOfMemory, Unread}
 
 -- the line of an answer
 abbrev pub answer_text : Answer → List ℕ
@@ -13,6 +13,8 @@ answer_text (OpenRefused fault) = refused (open_fault_name fault)
 answer_text NotOpen = refused (codes "NotOpen")
 answer_text AlreadyOpen = refused (codes "AlreadyOpen")
 answer_text (Made answer) = reply_text answer
+answer_text NotHere = refused (codes "NotHere")
+answer_text OutOfMemory = refused (codes "OutOfMemory")
 answer_text (Unread fault) = codes "fault " ++ line_fault_name fault ++ codes "\n"
 
 -- the answer is written as a fault, after which the exit status is 1

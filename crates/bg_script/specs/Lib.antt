@@ -3,3 +3,4 @@ pub mod Checks
 pub mod AnswerTexts
 pub mod Scripts
 pub mod Serving
+pub mod Connections

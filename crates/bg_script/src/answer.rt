@@ -1,4 +1,4 @@
-//! What a line of a script is answered, and how the answer is written.
+//! What a line of a script or of a control connection is answered, and how the answer is written.
 ghost use Rattle.std.specs.Prelude.{◌≡◌, OnOk};
 ghost use Rattle.std.specs.Io.KnownBytes.{Appends};
 ghost use Rattle.bg_script.specs.AnswerTexts.{answer_text, is_fault as is_fault_of};
@@ -8,7 +8,7 @@ use bg_operator::LineFault;
 use std::io;
 use std::io::Write;
 
-/// What a line of a script is answered, apart from the report.
+/// What a line of a script or of a control connection is answered, apart from the report.
 #[derive(Clone, Copy, PartialEq, Eq, Debug, Drop)]
 pub enum Answer {
     /// The book was opened.
@@ -21,6 +21,10 @@ pub enum Answer {
     AlreadyOpen,
     /// The book answered a call.
     Made(Reply),
+    /// Requests enter and leave elsewhere, by the workers.
+    NotHere,
+    /// Memory for the report was refused.
+    OutOfMemory,
     /// The line orders nothing.
     Unread(LineFault),
 }
@@ -36,7 +40,9 @@ impl Answer {
             | Answer::OpenRefused(_)
             | Answer::NotOpen
             | Answer::AlreadyOpen
-            | Answer::Made(_) => false,
+            | Answer::Made(_)
+            | Answer::NotHere
+            | Answer::OutOfMemory => false,
         }
     }
 }
@@ -52,6 +58,8 @@ pub fn write_answer<W: Write>(answer: &Answer, writer: &mut W) -> io::Result<()>
         Answer::NotOpen => writeln!(writer, "refused NotOpen"),
         Answer::AlreadyOpen => writeln!(writer, "refused AlreadyOpen"),
         Answer::Made(reply) => bg_report::reply(reply, writer),
+        Answer::NotHere => writeln!(writer, "refused NotHere"),
+        Answer::OutOfMemory => writeln!(writer, "refused OutOfMemory"),
         Answer::Unread(fault) => writeln!(writer, "fault {}", fault.name()),
     }
 }

@@ -1,8 +1,9 @@
 //! `check`: what a strategy means.
 ghost use Rattle.std.specs.Prelude.{IfOk, IfSome};
 ghost use Rattle.bg_script.specs.Checks.{Checks};
+ghost use Rattle.bg_script.specs.Findings.{IsFinding};
 
-use crate::finding::{finding_in, write_finding};
+use crate::finding::{Finding, finding_in, write_finding};
 use crate::run_end::RunEnd;
 use bg_operator::whole_input;
 use std::alloc::Global;
@@ -17,13 +18,21 @@ pub fn check<R: Read, W: Write>(alloc: Global, reader: &mut R, writer: &mut W) -
     ensures { IfOk result (λ status. IfSome (R.remaining reader.old)
         (Checks (W.contents writer.old) (W.contents writer.new) status)) }
 {
-    let Ok(mut input) = BufReader::new(alloc, reader) else {
-        return Err(RunEnd::OutOfMemory);
-    };
-    let part = whole_input(alloc, &mut input)?;
-    let finding = finding_in(alloc, &part)?;
+    let finding = finding_of_input(alloc, reader)?;
     match write_finding(&finding, writer) {
         Ok(()) => Ok(finding.status()),
         Err(_) => Err(RunEnd::WriteFailed),
     }
+}
+
+/// What the whole input turns out to be, read as the JSON text of a strategy. An input above 1,048,576
+/// bytes is too large, and is not read to its end.
+pub fn finding_of_input<R: Read>(alloc: Global, reader: &mut R) -> Result<Finding, RunEnd>
+    ensures { IfOk result (λ finding. IfSome (R.remaining reader.old) (IsFinding finding)) }
+{
+    let Ok(mut input) = BufReader::new(alloc, reader) else {
+        return Err(RunEnd::OutOfMemory);
+    };
+    let part = whole_input(alloc, &mut input)?;
+    finding_in(alloc, &part)
 }

@@ -1,17 +1,24 @@
-//! `check` and `replay` over any reader and writer.
+//! `check`, `replay` and the control side of `serve`, over any reader and writer.
 //!
 //! [`check`] says what a strategy means; [`replay`] answers the lines of a script by a book of that
 //! strategy. Both write exact texts and answer the exit status; a [`RunEnd`] says why a run ended
-//! before its end.
+//! before its end. [`answer_before_open`] and [`answer_at_desk`] answer the lines of a control
+//! connection while no book is open, and by a book that workers share.
 #![tactic(auto)]
 
 mod answer;
 mod checking;
+mod control_lines;
+mod control_side;
 mod finding;
 mod open_book;
 mod replaying;
 mod run_end;
 
-pub use checking::check;
+pub use answer::{Answer, write_answer};
+pub use checking::{check, finding_of_input};
+pub use control_lines::ControlLines;
+pub use control_side::{BeforeOpen, ControlEnd, answer_at_desk, answer_before_open};
+pub use finding::{Finding, write_finding};
 pub use replaying::replay;
 pub use run_end::RunEnd;

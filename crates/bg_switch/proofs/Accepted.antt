@@ -1,12 +1,15 @@
 -- What holds of words that the program takes.
-use Rattle.std.proofs.Common.{◌≡◌, ◌≢◌, ◌⊎◌, inl, inr, arith, slice_index, List, [], ◌∷◌, refl, sym, ◌∙◌, ap, subst}
-use Rattle.std.specs.Prelude.{Bool, true, false, ◌&&◌, not, Option, Some, None, is_some, find, cond, codes, fold, length, option_map}
+use Rattle.std.proofs.Common.{◌≡◌, ◌≢◌, ◌⊎◌, inl, inr, arith, slice_index, ℕ, List, [], ◌∷◌, refl, sym, ◌∙◌, ap, subst}
+use Rattle.std.specs.Prelude.{Bool, true, false, ◌&&◌, ◌||◌, not, Option, Some, None, is_some, find, cond, codes, fold, length, option_map, option_and_then, slice_get, bytes_eq}
+use Rattle.std.specs.List.{list_any}
 use Rattle.std.specs.Option.{option_map_or}
-use Rattle.clap.specs.Takes.{value_passes}
-use Rattle.clap.specs.Walk.{Row, Text, Rule, arg_by_id, walk, nothing_held, rows_after, stop_after, walk_from, settled, used, with_default, has_row, answers_to, default_rows, reading_by}
+use Rattle.clap.specs.Takes.{is_given, value_passes}
+use Rattle.clap.specs.Facts.{explicit_source}
+use Rattle.clap.specs.ValueTests.{accepts}
+use Rattle.clap.specs.Walk.{Row, Text, Rule, arg_by_id, first_of, walk, nothing_held, rows_after, stop_after, walk_from, settled, used, with_default, has_row, answers_to, default_rows, reading_by}
 use Rattle.clap.specs.Simple.{Shape, App, built, built_leaf, argument_words, names_of, entered, subcommand_of, rows_at, inherited, with_leaf_noted, marked_built, label_of, with_index, filled, help_rule}
 use Rattle.clap.specs.Kinds.{check_kinds, range_kinds}
-use Rattle.clap.specs.Faults.{fault_of, built_fault, level_fault, use_fault, walk_fault, entered_fault, repeat_fault}
+use Rattle.clap.specs.Faults.{fault_of, built_fault, level_fault, use_fault, walk_fault, settle_fault, defaults_fault, entered_fault, repeat_fault}
 use Rattle.clap.specs.Words.{HasMatchesOf, subcommand_name_of, is_simple, is_simple_and_free, subcommand_rows_of}
 use Rattle.clap.specs.declared.parser.matches.ArgMatches.{ArgMatches}
 use Rattle.clap.specs.declared.builder.value_parser.ValueParser.TheVariants as value_parser
@@ -15,9 +18,9 @@ use Rattle.clap.specs.declared.parser.matches.ValueSource.TheVariants as value_s
 use Rattle.clap.proofs.OnLiterals.{clap_on_literals}
 use Rattle.clap.proofs.ValueTestLemmas.{accepts-Accepts}
 use Rattle.bg_switch.specs.declared.orders.Order.{Order}
-use Rattle.bg_switch.specs.CommandLine.{IsOrderOf, IsIn, IsKnown, program, check_app, replay_app, seats_rule}
+use Rattle.bg_switch.specs.CommandLine.{IsOrderOf, IsIn, IsKnown, HasWordsOfServe, program, check_app, replay_app, serve_app, number_rule, required_rule}
 use Rattle.bg_switch.proofs.WordsTaken.{none_else, walk_keeps, settled_keeps}
-use Rattle.bg_switch.proofs.ValuesPass.{AreGood, first_passes, use_keeps}
+use Rattle.bg_switch.proofs.ValuesPass.{AreGood, has_none, first_passes, use_keeps}
 
 -- ---- the subcommand that is entered
 
@@ -87,15 +90,21 @@ found_each K p (x ∷ xs) a all e = go (p x) e (λ h. found_each K p xs a all.1 
     go true h rest = let same : x ≡ a = cc in subst K same all.0
     go false h rest = rest h
 
--- the rule of `--seats` as `clap` holds it in the built command
-abbrev seats : Rule
-seats = with_index 1 (filled seats_rule)
+-- the rule of an option as `clap` holds it in the built command
+abbrev held : Rule → Rule
+held r = with_index 1 (filled r)
 
-seats_keeps : (c : List Rule) → arg_by_id c (codes "seats") ≡ Some seats → Keeps c seats
-seats_keeps c own values rows g e =
+number_keeps : (c : List Rule) (name : Text) (most : ℕ) → arg_by_id c name ≡ Some (held (number_rule name most)) → Keeps c (held (number_rule name most))
+number_keeps c name most own values rows g e =
     let f = none_else (range_kinds 1 1 (length values)) _ e in
-    let h = none_else (repeat_fault false (codes "seats") rows) _ f.1 in
-    use_keeps c seats reading.AsWritten value_source.CommandLine values rows own f.0 h.1 g
+    let h = none_else (repeat_fault false name rows) _ f.1 in
+    use_keeps c (held (number_rule name most)) reading.AsWritten value_source.CommandLine values rows own f.0 h.1 g
+
+required_keeps : (c : List Rule) (name : Text) (most : ℕ) → arg_by_id c name ≡ Some (held (required_rule name most)) → Keeps c (held (required_rule name most))
+required_keeps c name most own values rows g e =
+    let f = none_else (range_kinds 1 1 (length values)) _ e in
+    let h = none_else (repeat_fault false name rows) _ f.1 in
+    use_keeps c (held (required_rule name most)) reading.AsWritten value_source.CommandLine values rows own f.0 h.1 g
 
 -- a use of `--help` adds no row
 help_keeps : (c : List Rule) → Keeps c (with_index 1 (filled help_rule))
@@ -134,26 +143,136 @@ abbrev replay : Shape
 replay = built_sub replay_app.top
 
 replay_keeps : Each (Keeps replay.rules) replay.rules
-replay_keeps = (seats_keeps replay.rules refl, (help_keeps replay.rules, tt))
+replay_keeps = (number_keeps replay.rules (codes "seats") 8 refl, (help_keeps replay.rules, tt))
+
+-- a number that is given to an option with this parser is in its range
+in_range : (c : List Rule) (r : Rule) (id : Text) (most : ℕ) (rows : List Row) → arg_by_id c id ≡ Some r → r.ignore_case ≡ false
+    → r.parser ≡ Some (value_parser.Unsigned 1 most) → AreGood c rows → IsIn 1 most id rows
+in_range c r id most rows own plain parser good t at =
+    let pass : option_map_or (λ a. value_passes a t) (arg_by_id c id) true ≡ true = first_passes c id rows t good at in
+    let own_pass : value_passes r t ≡ true = rw own at pass in
+    let test : accepts false (value_parser.Unsigned 1 most) t ≡ true = rw (plain, parser) at own_pass in
+    accepts-Accepts false (value_parser.Unsigned 1 most) t test
 
 -- `--seats` has a number from 1 to 8, where it is given
 replay_known : (words : List Text) → level_fault replay [] nothing_held words false [] ≡ [] → IsIn 1 8 (codes "seats") (rows_after replay.rules [] words)
-replay_known words e t at =
+replay_known words e =
     let rows = rows_after replay.rules [] words in
-    let good : AreGood replay.rules rows = leaf_good replay words refl replay_keeps (refl, (refl, tt)) e in
-    let pass : option_map_or (λ a. value_passes a t) (arg_by_id replay.rules (codes "seats")) true ≡ true = first_passes replay.rules (codes "seats") rows t good at in
-    accepts-Accepts false (value_parser.Unsigned 1 8) t pass
+    in_range replay.rules (held (number_rule (codes "seats") 8)) (codes "seats") 8 rows refl refl refl
+    (leaf_good replay words refl replay_keeps (refl, (refl, tt)) e)
+
+abbrev serve : Shape
+serve = built_sub serve_app.top
+
+serve_keeps : Each (Keeps serve.rules) serve.rules
+serve_keeps = (
+  required_keeps serve.rules (codes "active") 65535 refl,
+  (
+    number_keeps serve.rules (codes "preview") 65535 refl,
+    (
+      required_keeps serve.rules (codes "control") 65535 refl,
+      (
+        required_keeps serve.rules (codes "workers") 7 refl,
+        (required_keeps serve.rules (codes "count") 1000000 refl, (help_keeps serve.rules, tt)),
+      ),
+    ),
+  ),
+)
+
+first_some : (values : List Text) → has_none values ≡ false → is_some (slice_get values 0) ≡ true
+first_some [] e = cc
+first_some (v ∷ vs) e = refl
+
+-- an argument that was given has a first value
+given_has : (c : List Rule) (id : Text) (rows : List Row) → AreGood c rows → is_given id rows ≡ true → is_some (first_of id rows) ≡ true
+given_has c id [] g e = cc
+given_has c id (r ∷ rs) g e = go (bytes_eq r.id id) e (λ h. given_has c id rs g.1 h)
+  where
+    go : (b : Bool) → option_map_or (λ x. explicit_source x.source) (cond b (Some r) (find (λ x. bytes_eq x.id id) rs)) false ≡ true
+        → (is_given id rs ≡ true → is_some (first_of id rs) ≡ true)
+        → is_some (option_and_then (λ x. slice_get x.values 0) (cond b (Some r) (find (λ x. bytes_eq x.id id) rs))) ≡ true
+    go true h rest = first_some r.values g.0.0
+    go false h rest = rest h
+
+none_wanted : (help sub wanted : Bool) → check_kinds help sub wanted ≡ [] → wanted ≡ false
+none_wanted true sub wanted e = cc
+none_wanted false true wanted e = cc
+none_wanted false false true e = cc
+none_wanted false false false e = refl
+
+-- what is required is given
+all_given : (s : Shape) (words : List Text) → s.subcommand_negates_reqs ≡ false → level_fault s [] nothing_held words false [] ≡ []
+    → list_any (λ a. a.required && not (is_given a.id (rows_after s.rules [] words))) s.rules ≡ false
+all_given s words plain e =
+    let rows = rows_after s.rules [] words in
+    let end = (walk s.rules [] nothing_held words).held in
+    let f = none_else (walk_fault s [] (walk_from nothing_held) words) _ e in
+    let g = none_else (settle_fault s.rules s.args_override_self end) _ f.1 in
+    let h = none_else (defaults_fault (settled s.rules end).rows s.rules) _ g.1 in
+    let wanted : list_any (λ a. a.required && not (is_given a.id rows)) s.rules ≡ false = none_wanted
+    (not false && (s.arg_required_else_help && not (list_any (λ r. explicit_source r.source) rows)))
+    (not false && s.subcommand_required)
+    (list_any (λ a. a.required && not (is_given a.id rows)) s.rules)
+    (rw plain at h.1) in
+    wanted
+
+first_given : (given other : Bool) → (not given || other) ≡ false → (given ≡ true) × (other ≡ false)
+first_given true other e = (refl, e)
+first_given false other e = cc
+
+serve_known : (words : List Text) → level_fault serve [] nothing_held words false [] ≡ [] → HasWordsOfServe (rows_after serve.rules [] words)
+serve_known words e =
+    let rows = rows_after serve.rules [] words in
+    let good : AreGood serve.rules rows = leaf_good serve words refl serve_keeps (refl, (refl, (refl, (refl, (refl, (refl, tt)))))) e in
+    let active = first_given (is_given (codes "active") rows) _ (all_given serve words refl e) in
+    let control = first_given (is_given (codes "control") rows) _ active.1 in
+    let workers = first_given (is_given (codes "workers") rows) _ control.1 in
+    let count = first_given (is_given (codes "count") rows) _ workers.1 in
+    record {
+      active = (given_has serve.rules (codes "active") rows good active.0, in_range serve.rules (held (required_rule (codes "active") 65535)) (codes "active") 65535 rows refl refl refl good);
+      preview = in_range serve.rules (held (number_rule (codes "preview") 65535)) (codes "preview") 65535 rows refl refl refl good;
+      control = (given_has serve.rules (codes "control") rows good control.0, in_range serve.rules (held (required_rule (codes "control") 65535)) (codes "control") 65535 rows refl refl refl good);
+      workers = (given_has serve.rules (codes "workers") rows good workers.0, in_range serve.rules (held (required_rule (codes "workers") 7)) (codes "workers") 7 rows refl refl refl good);
+      count = (given_has serve.rules (codes "count") rows good count.0, in_range serve.rules (held (required_rule (codes "count") 1000000)) (codes "count") 1000000 rows refl refl refl good);
+    }
 
 -- ---- the matches
 
 differ : (xs ys : Text) → slice_index xs 0 ≢ slice_index ys 0 → xs ≡ ys → ⊥
 differ xs ys n e = n (ap (λ (t : Text). slice_index t 0) e)
 
+abbrev Not : Text → Text → Type 0
+Not a b = a ≡ b → ⊥
+
+check_is_no_replay : Not (codes "check") (codes "replay")
+check_is_no_replay e = differ (codes "check") (codes "replay") (omega arith) e
+
+check_is_no_serve : Not (codes "check") (codes "serve")
+check_is_no_serve e = differ (codes "check") (codes "serve") (omega arith) e
+
+replay_is_no_serve : Not (codes "replay") (codes "serve")
+replay_is_no_serve e = differ (codes "replay") (codes "serve") (omega arith) e
+
 check_known : (rows : List Row) → IsKnown (codes "check") rows
-check_known rows = record { is_replay = λ n. absurd (n refl); seats = λ e. absurd (differ (codes "check") (codes "replay") (omega arith) e) }
+check_known rows = record {
+  is_serve = λ n _. absurd (n refl);
+  seats = λ e. absurd (check_is_no_replay e);
+  words = λ e. absurd (check_is_no_serve e);
+}
 
 replay_is_known : (rows : List Row) → IsIn 1 8 (codes "seats") rows → IsKnown (codes "replay") rows
-replay_is_known rows h = record { is_replay = λ _. refl; seats = λ _. h }
+replay_is_known rows h = record {
+  is_serve = λ _ n. absurd (n refl);
+  seats = λ _. h;
+  words = λ e. absurd (replay_is_no_serve e);
+}
+
+serve_is_known : (rows : List Row) → HasWordsOfServe rows → IsKnown (codes "serve") rows
+serve_is_known rows h = record {
+  is_serve = λ _ _. refl;
+  seats = λ e. absurd (replay_is_no_serve (sym e));
+  words = λ _. h;
+}
 
 abbrev check : Shape
 check = built_sub check_app.top
@@ -161,12 +280,15 @@ check = built_sub check_app.top
 abbrev Knows : List Text → Shape → Type 0
 Knows rest s = level_fault s [] nothing_held rest false [] ≡ [] → IsKnown s.name (rows_after s.rules [] rest)
 
-known_of : (s : Shape) (rest : List Text) → Among s (check ∷ replay ∷ []) → Knows rest s
+known_of : (s : Shape) (rest : List Text) → Among s (check ∷ replay ∷ serve ∷ []) → Knows rest s
 known_of s rest among = elim among [
   | inl is ↦ subst (Knows rest) is (λ e. check_known (rows_after check.rules [] rest))
   | inr m ↦ elim m [
     | inl is ↦ subst (Knows rest) is (λ e. replay_is_known (rows_after replay.rules [] rest) (replay_known rest e))
-    | inr never ↦ absurd never
+    | inr l ↦ elim l [
+      | inl is ↦ subst (Knows rest) is (λ e. serve_is_known (rows_after serve.rules [] rest) (serve_known rest e))
+      | inr never ↦ absurd never
+    ]
   ]
 ]
 

@@ -1,21 +1,26 @@
 -- The program's command line, and the order that words give.
-use Rattle.std.specs.Prelude.{◌≡◌, ◌≢◌, ◌≤◌, ℕ, List, [], codes, Option, Some, true, option_map, unwrap_or}
+use Rattle.std.specs.Prelude.{◌≡◌, ◌≢◌, ◌≤◌, ℕ, List, [], codes, Option, Some, IfSome, is_some, true, option_map, unwrap_or}
 use Rattle.std.specs.Str.Parse.{digits_value, without_leading_plus}
-use Rattle.clap.specs.Words.{App, IsAmong, IsUnsignedIn, Row, Rule, Shape, Text, fault_of, first_of, kind_of, new_app, new_rule, subcommand_of, with_rule, with_subcommand}
+use Rattle.clap.specs.Words.{App, IsAmong, IsUnsignedIn, Row, Rule, Text, fault_of, first_of, kind_of, new_app, new_rule, subcommand_of, with_rule, with_subcommand}
 use Rattle.clap.specs.declared.error.Error.{Error}
 use Rattle.clap.specs.declared.error.kind.ErrorKind.TheVariants as kind
 use Rattle.clap.specs.declared.builder.value_parser.ValueParser.TheVariants as value_parser
 use Rattle.bg_switch.specs.declared.orders.Order.{Order}
-use Rattle.bg_switch.specs.declared.orders.Order.TheVariants.{Check, Replay}
+use Rattle.bg_switch.specs.declared.orders.Order.TheVariants.{Check, Replay, Serve}
 use Rattle.bg_switch.specs.declared.orders.OrderFault.{OrderFault}
 use Rattle.bg_switch.specs.declared.orders.OrderFault.TheVariants.{Words, OutOfMemory}
 
--- `--seats N`, N from 1 to 8
-abbrev pub seats_rule : Rule
-seats_rule = record (new_rule (codes "seats")) {
-  long = Some (codes "seats");
-  parser = Some (value_parser.Unsigned 1 8);
+-- `--NAME N`, N from 1 to `most`
+abbrev pub number_rule : Text → ℕ → Rule
+number_rule name most = record (new_rule name) {
+  long = Some name;
+  value_names = 1;
+  parser = Some (value_parser.Unsigned 1 most);
 }
+
+-- `--NAME N`, N from 1 to `most`, which has to be given
+abbrev pub required_rule : Text → ℕ → Rule
+required_rule name most = record (number_rule name most) { required = true }
 
 -- `check`
 abbrev pub check_app : App
@@ -23,20 +28,32 @@ check_app = new_app (codes "check")
 
 -- `replay [--seats N]`
 abbrev pub replay_app : App
-replay_app = with_rule (new_app (codes "replay")) seats_rule
+replay_app = with_rule (new_app (codes "replay")) (number_rule (codes "seats") 8)
+
+-- `--active P [--preview P] --control P`
+abbrev pub with_port_rules : App → App
+with_port_rules a = with_rule (with_rule (with_rule a (required_rule (codes "active") 65535))
+    (number_rule (codes "preview") 65535)) (required_rule (codes "control") 65535)
+
+-- `serve --active P [--preview P] --control P --workers N --count K`
+abbrev pub serve_app : App
+serve_app = with_rule (with_rule (with_port_rules (new_app (codes "serve")))
+    (required_rule (codes "workers") 7)) (required_rule (codes "count") 1000000)
 
 -- `bg_switch`, which has to be followed by a subcommand; there is no subcommand `help`
-abbrev pub top : Shape
-top = record (new_app (codes "bg_switch")).top {
-  disable_help_subcommand = true;
-  subcommand_required = true;
+abbrev pub top_app : App
+top_app = record {
+  top = record (new_app (codes "bg_switch")).top {
+    disable_help_subcommand = true;
+    subcommand_required = true;
+  };
+  subs = [];
 }
 
 -- the whole command line
 abbrev pub program : App
-program =
-    with_subcommand (with_subcommand (record { top = top; subs = [] }) check_app.top)
-    replay_app.top
+program = with_subcommand (with_subcommand (with_subcommand top_app check_app.top) replay_app.top)
+    serve_app.top
 
 -- the number that a text of digits is
 abbrev pub number : Text → ℕ
@@ -50,11 +67,27 @@ number_of id rows = option_map number (first_of id rows)
 abbrev pub IsBetween : ℕ → ℕ → ℕ → Type 0
 IsBetween least most n = (least ≤ n) × (n ≤ most)
 
+-- the argument is given, and the number is its own, in this range
+abbrev pub IsGiven : ℕ → ℕ → Text → List Row → ℕ → Type 0
+IsGiven least most id rows n = (number_of id rows ≡ Some n) × IsBetween least most n
+
+-- what `serve` is given
+pub record IsServe (rows : List Row) (active : ℕ) (preview : Option ℕ) (control workers count : ℕ)
+    : Type 0 where
+  pub active_is : IsGiven 1 65535 (codes "active") rows active
+  pub preview_is : preview ≡ number_of (codes "preview") rows
+  pub preview_range : IfSome preview (IsBetween 1 65535)
+  pub control_is : IsGiven 1 65535 (codes "control") rows control
+  pub workers_is : IsGiven 1 7 (codes "workers") rows workers
+  pub count_is : IsGiven 1 1000000 (codes "count") rows count
+
 -- the order is the subcommand of this name with these matches; 4 seats where no number is given
 abbrev pub IsOrderOf : Text → List Row → Order → Type 0
 IsOrderOf name rows Check = name ≡ codes "check"
 IsOrderOf name rows (Replay seats) = (name ≡ codes "replay")
     × (seats ≡ unwrap_or (number_of (codes "seats") rows) 4) × IsBetween 1 8 seats
+IsOrderOf name rows (Serve active preview control workers count) =
+    (name ≡ codes "serve") × IsServe rows active preview control workers count
 
 -- `clap` accepts the words, and the order is the subcommand of its matches
 abbrev pub IsOrderIn : List Text → Order → Type 0
@@ -77,7 +110,21 @@ IsFaultFrom e (Words x) = (x ≡ e) × (kind_of e ≢ kind.OutOfMemory)
 abbrev pub IsIn : ℕ → ℕ → Text → List Row → Type 0
 IsIn least most id rows = (t : Text) → first_of id rows ≡ Some t → IsUnsignedIn least most t
 
+-- the argument is given, as a number in this range
+abbrev pub IsNumber : ℕ → ℕ → Text → List Row → Type 0
+IsNumber least most id rows =
+    (is_some (first_of id rows) ≡ true) × IsIn least most id rows
+
+-- the words of `serve` are numbers in their ranges
+pub record HasWordsOfServe (rows : List Row) : Type 0 where
+  pub active : IsNumber 1 65535 (codes "active") rows
+  pub preview : IsIn 1 65535 (codes "preview") rows
+  pub control : IsNumber 1 65535 (codes "control") rows
+  pub workers : IsNumber 1 7 (codes "workers") rows
+  pub count : IsNumber 1 1000000 (codes "count") rows
+
 -- what the name of a subcommand that was taken says of its matches
 pub record IsKnown (name : Text) (rows : List Row) : Type 0 where
-  pub is_replay : name ≢ codes "check" → name ≡ codes "replay"
+  pub is_serve : name ≢ codes "check" → name ≢ codes "replay" → name ≡ codes "serve"
   pub seats : name ≡ codes "replay" → IsIn 1 8 (codes "seats") rows
+  pub words : name ≡ codes "serve" → HasWordsOfServe rows

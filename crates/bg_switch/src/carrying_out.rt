@@ -1,45 +1,60 @@
-//! Carries an order out.
-ghost use Rattle.std.specs.Prelude.{IfOk, IfSome};
-ghost use Rattle.bg_switch.specs.Orders.{CarriesOut};
+//! Carries `check` and `replay` out over a writer that is given a buffer.
+ghost use Rattle.std.specs.Prelude.{◌≡◌, [], IfOk, IfSome};
+ghost use Rattle.std.specs.Io.Buffered.{writer_buffer, writer_contents, writer_inner};
+ghost use Rattle.std.specs.Io.KnownBytes.{Keeps};
+ghost use Rattle.bg_script.specs.Checks.{Checks};
+ghost use Rattle.bg_script.specs.Scripts.{Replays};
 
-use crate::orders::Order;
 use bg_script::{RunEnd, check, replay};
 use std::alloc::Global;
 use std::io::{BufWriter, Read, Write};
 
-/// Carries an order out over a writer that is given a buffer. Answers the exit status, and the
-/// writer once all is written.
-pub fn carry_out_buffered<R: Read, W: Write + Drop>(
+/// [`check`] over a writer that is given a buffer. Answers the exit status, and the writer once all
+/// is written.
+pub fn check_buffered<R: Read, W: Write + Drop>(
     alloc: Global,
-    order: Order,
     reader: &mut R,
     writer: W,
 ) -> Result<(u8, W), RunEnd>
     ensures { IfOk result (λ done. IfSome (R.remaining reader.old)
-        (CarriesOut order (W.contents writer) (W.contents done.1) done.0)) }
+        (Checks (W.contents writer) (W.contents done.1) done.0)) }
 {
-    let Ok(mut buffered) = BufWriter::new(alloc, writer) else {
-        return Err(RunEnd::OutOfMemory);
-    };
-    let status = carry_out(alloc, order, reader, &mut buffered)?;
-    match buffered.into_inner() {
-        Ok(writer) => Ok((status, writer)),
-        Err(_) => Err(RunEnd::WriteFailed),
+    let mut buffered = buffered(alloc, writer)?;
+    let status = check(alloc, reader, &mut buffered)?;
+    Ok((status, written_out(buffered)?))
+}
+
+/// [`replay`] over a writer that is given a buffer. Answers the exit status, and the writer once all
+/// is written.
+pub fn replay_buffered<R: Read, W: Write + Drop>(
+    alloc: Global,
+    seats: u8,
+    reader: &mut R,
+    writer: W,
+) -> Result<(u8, W), RunEnd>
+    ensures { IfOk result (λ done. IfSome (R.remaining reader.old)
+        (Replays seats (W.contents writer) (W.contents done.1) done.0)) }
+{
+    let mut buffered = buffered(alloc, writer)?;
+    let status = replay(alloc, seats, reader, &mut buffered)?;
+    Ok((status, written_out(buffered)?))
+}
+
+fn buffered<W: Write + Drop>(alloc: Global, writer: W) -> Result<BufWriter<W>, RunEnd>
+    ensures inner { IfOk result (λ made. writer_inner made ≡ writer) }
+    ensures empty { IfOk result (λ made. writer_buffer made ≡ []) }
+{
+    match BufWriter::new(alloc, writer) {
+        Ok(made) => Ok(made),
+        Err(_) => Err(RunEnd::OutOfMemory),
     }
 }
 
-/// Carries an order out. Answers the exit status.
-fn carry_out<R: Read, W: Write>(
-    alloc: Global,
-    order: Order,
-    reader: &mut R,
-    writer: &mut W,
-) -> Result<u8, RunEnd>
-    ensures { IfOk result (λ status. IfSome (R.remaining reader.old)
-        (CarriesOut order (W.contents writer.old) (W.contents writer.new) status)) }
+fn written_out<W: Write + Drop>(buffered: BufWriter<W>) -> Result<W, RunEnd>
+    ensures { IfOk result (λ w. Keeps (writer_contents W.contents buffered) (W.contents w)) }
 {
-    match order {
-        Order::Check => check(alloc, reader, writer),
-        Order::Replay { seats } => replay(alloc, seats, reader, writer),
+    match buffered.into_inner() {
+        Ok(writer) => Ok(writer),
+        Err(_) => Err(RunEnd::WriteFailed),
     }
 }

@@ -3,11 +3,18 @@
 
 mod carrying_out;
 mod command_line;
+mod links;
+mod listeners;
+mod opening;
+mod operators;
 mod orders;
+mod serving;
 mod words;
+mod working;
 
-use crate::carrying_out::carry_out_buffered;
+use crate::carrying_out::{check_buffered, replay_buffered};
 use crate::orders::{Order, OrderFault};
+use crate::serving::{Site, serve};
 use bg_script::RunEnd;
 use std::env;
 use std::io::ErrorKind;
@@ -19,21 +26,56 @@ use std::rt::Env;
 /// The exit status is 0, or 1 after a fault; 2 after words that are no order, and after `--help`,
 /// whose text goes to standard error; 1 where the run ends before its end, whose reason goes there.
 fn main(rt: HostRuntime) -> ExitCode {
-    let run = match process_order(&rt) {
-        Ok(order) => carry_out_buffered(rt.alloc(), order, &mut rt.stdin(), rt.stdout()),
+    let order = match process_order(&rt) {
+        Ok(order) => order,
         Err(OrderFault::Words(error)) => {
             let _ = eprint!(rt; "{error}");
             return ExitCode::from(2);
         }
-        Err(OrderFault::OutOfMemory) => Err(RunEnd::OutOfMemory),
+        Err(OrderFault::OutOfMemory) => return ended(&rt, RunEnd::OutOfMemory),
     };
-    match run {
-        Ok((status, _stdout)) => ExitCode::from(status),
-        Err(end) => {
-            let _ = eprintln!(rt; "{end:?}");
-            ExitCode::FAILURE
+    let done = match order {
+        Order::Check => checked(&rt),
+        Order::Replay { seats } => replayed(&rt, seats),
+        Order::Serve {
+            active,
+            preview,
+            control,
+            workers,
+            count,
+        } => {
+            let site = Site {
+                active,
+                preview,
+                control,
+                workers,
+                count,
+            };
+            serve(&rt, rt.alloc(), site, &mut rt.stdin(), &mut rt.stdout())
         }
+    };
+    match done {
+        Ok(status) => ExitCode::from(status),
+        Err(end) => ended(&rt, end),
     }
+}
+
+/// Does what `check` orders. Answers the exit status.
+fn checked(rt: &HostRuntime) -> Result<u8, RunEnd> {
+    let (status, _stdout) = check_buffered(rt.alloc(), &mut rt.stdin(), rt.stdout())?;
+    Ok(status)
+}
+
+/// Does what `replay` orders. Answers the exit status.
+fn replayed(rt: &HostRuntime, seats: u8) -> Result<u8, RunEnd> {
+    let (status, _stdout) = replay_buffered(rt.alloc(), seats, &mut rt.stdin(), rt.stdout())?;
+    Ok(status)
+}
+
+/// Tells why a run ended before its end.
+fn ended(rt: &HostRuntime, end: RunEnd) -> ExitCode {
+    let _ = eprintln!(rt; "{end:?}");
+    ExitCode::FAILURE
 }
 
 /// The order that the words of the process are. Words that are not UTF-8 are judged as U+FFFD.

@@ -1,4 +1,5 @@
 //! The routing book.
 
+mod limits;
 mod runs;
 pub(crate) mod samples;

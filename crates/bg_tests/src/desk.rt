@@ -3,4 +3,5 @@
 mod calls;
 mod gathering;
 mod rows;
+mod scripts;
 mod threads;

@@ -38,11 +38,17 @@ entered_from : (rollout reserved new : Midway) (service : Service) (t : Ticket) 
 entered_from rollout reserved new service t seat same made =
     made ∙ ap (λ (v : Routing). with_past v (enter_entry seat.index service t ∷ v.past) (slice_set v.seats seat.index (seat_in seat t))) same
 
+pub invariant_of-self : goal.invariant_of-self
+invariant_of-self g c = subst (λ (m : Midway). AtRest g.N.Names.seats m) (sym c.in_err-reserve.ensures.err) c.self.invariant
+
+pub admit-requires-clause-ticket : goal.admit-requires-clause-ticket
+admit-requires-clause-ticket g c = subst (λ (v : Routing). IsTicket v c.args.service c.in_ok-ticket.ticket) (sym c.reserve.ensures.routing) c.in_ok-ticket.ensures.1
+
 pub invariant_of-self-2 : goal.invariant_of-self-2
 invariant_of-self-2 g c =
     at_rest c.self.inside.rollout c.admit.new.self c.args.service c.in_ok-ticket.ticket c.args.seat.now c.self.invariant c.in_ok-ticket.ensures.0 c.in_ok-ticket.ensures.1
-    (entered_from c.self.inside.rollout c.reserve.new.self c.admit.new.self c.args.service c.in_ok-ticket.ticket c.args.seat.now c.reserve.ensures.routing c.in_ok-admit.ensures.routing)
-    (omega (arith, c.in_ok-reserve.ensures.ok, c.in_ok-admit.ensures.spare, c.places_kept.ensures)) c.entering_settles.ensures
+    (entered_from c.self.inside.rollout c.reserve.new.self c.admit.new.self c.args.service c.in_ok-ticket.ticket c.args.seat.now c.reserve.ensures.routing c.admit.ensures.routing)
+    (omega (arith, c.in_ok-reserve.ensures.ok, c.admit.ensures.spare, c.places_kept.ensures)) c.entering_settles.ensures
 
 -- the entering, which allows no outcome
 stepped : (b now new : Routing) (seat : Holding) (service : Service) (t : Ticket) → b ≡ now
@@ -59,7 +65,22 @@ stepped b now new seat service t is made settled =
 pub returns-clause-step : goal.returns-clause-step
 returns-clause-step g c =
     let rest = at_rest c.self.inside.rollout c.admit.new.self c.args.service c.in_ok-ticket.ticket c.args.seat.now c.self.invariant c.in_ok-ticket.ensures.0 c.in_ok-ticket.ensures.1
-    (entered_from c.self.inside.rollout c.reserve.new.self c.admit.new.self c.args.service c.in_ok-ticket.ticket c.args.seat.now c.reserve.ensures.routing c.in_ok-admit.ensures.routing)
-    (omega (arith, c.in_ok-reserve.ensures.ok, c.in_ok-admit.ensures.spare, c.places_kept.ensures)) c.entering_settles.ensures in
+    (entered_from c.self.inside.rollout c.reserve.new.self c.admit.new.self c.args.service c.in_ok-ticket.ticket c.args.seat.now c.reserve.ensures.routing c.admit.ensures.routing)
+    (omega (arith, c.in_ok-reserve.ensures.ok, c.admit.ensures.spare, c.places_kept.ensures)) c.entering_settles.ensures in
     stepped _ _ _ c.args.seat.now c.args.service c.in_ok-ticket.ticket c.self.view_is
-    (entered_from c.self.inside.rollout c.reserve.new.self c.admit.new.self c.args.service c.in_ok-ticket.ticket c.args.seat.now c.reserve.ensures.routing c.in_ok-admit.ensures.routing) rest.settled
+    (entered_from c.self.inside.rollout c.reserve.new.self c.admit.new.self c.args.service c.in_ok-ticket.ticket c.args.seat.now c.reserve.ensures.routing c.admit.ensures.routing) rest.settled
+
+-- the book after it, with the seat as it is then
+book_after : (b now new : Routing) (seat v : Holding) (service : Service) (t : Ticket) → b ≡ now
+    → new ≡ with_past b (enter_entry seat.index service t ∷ b.past) (slice_set b.seats seat.index (seat_in seat t)) → v ≡ seat_in seat t
+    → new ≡ with_past now new.past (slice_set now.seats seat.index v)
+book_after b now new seat v service t is made seated =
+    made
+    ∙ ap (λ (p : List Entry). with_past b p (slice_set b.seats seat.index (seat_in seat t))) (sym (ap (λ (r : Routing). r.past) made))
+    ∙ ap (λ (w : Holding). with_past b new.past (slice_set b.seats seat.index w)) (sym seated)
+    ∙ ap (λ (r : Routing). with_past r new.past (slice_set r.seats seat.index v)) is
+
+pub returns-clause-book : goal.returns-clause-book
+returns-clause-book g c =
+    book_after _ _ _ c.args.seat.now _ c.args.service c.in_ok-ticket.ticket c.self.view_is
+    (entered_from c.self.inside.rollout c.reserve.new.self c.admit.new.self c.args.service c.in_ok-ticket.ticket c.args.seat.now c.reserve.ensures.routing c.admit.ensures.routing) c.admit.ensures.seat

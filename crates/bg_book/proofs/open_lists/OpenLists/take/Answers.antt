@@ -1,14 +1,17 @@
-use Rattle.std.proofs.Common.{◌≡◌, ◌==◌, not, filter, Some, position, sym, ap, ◌∙◌}
-use Rattle.bg_book.specs.OpenLists.{OpenAt, changed}
-use Rattle.bg_book.proofs.Lists.{changed_at}
+use Rattle.std.proofs.Common.{ap, ◌∙◌}
+use Rattle.bg_book.specs.OpenLists.{has_request, without}
+use Rattle.bg_book.proofs.Linked.{holds_unlinked, linked_node, list_without, shown_without}
 use Rattle.bg_book.proofs.open_lists.OpenLists.take.Goals as goal
 
-pub unwrap-place-requires : goal.unwrap-place-requires
-unwrap-place-requires c = rw (c.place_of.ensures) c.requires
+pub unlink-requires : goal.unlink-requires
+unlink-requires c = linked_node c.self.inside.owned.items c.self.inside.linked c.args.seat c.self.invariant.family (ap (has_request c.args.seat) c.self.view_is ∙ c.requires)
+
+pub invariant_of-self : goal.invariant_of-self
+invariant_of-self c =
+    holds_unlinked c.self.inside.owned.items _ c.self.inside.linked c.unlink.new.self c.args.seat c.self.invariant
+    (list_without c.self.inside.linked c.unlink.new.self c.args.seat c.unlink.ensures.lists) c.unlink.ensures.nodes c.unlink.ensures.family
 
 pub returns : goal.returns
 returns c =
-    let place : position (λ (l : OpenAt). l.revision == c.args.revision) c.args.self.now ≡ Some c.unwrap-place.result = sym c.place_of.ensures ∙ c.unwrap-place.ensures in
-    changed_at c.args.revision (λ requests. filter (λ q. not (q.seat == c.args.seat)) requests) c.self.inside.lists.items c.unwrap-place.result c.index_mut.result.now c.take.new.self
-    (ap (position (λ (l : OpenAt). l.revision == c.args.revision)) c.self.view_is ∙ place) c.index_mut.ensures.value c.take.ensures
-    ∙ ap (changed c.args.revision (λ requests. filter (λ q. not (q.seat == c.args.seat)) requests)) c.self.view_is
+    shown_without c.self.inside.linked c.unlink.new.self c.args.seat c.self.inside.owned.items (list_without c.self.inside.linked c.unlink.new.self c.args.seat c.unlink.ensures.lists)
+    ∙ ap (without c.args.seat) c.self.view_is

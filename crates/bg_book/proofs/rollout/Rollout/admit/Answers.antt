@@ -1,18 +1,18 @@
-use Rattle.std.proofs.Common.{◌≡◌, ◌≤◌, ◌+◌, ◌∷◌, ◌++◌, [], ℕ, None, length, slice_set, refl, subst, sym, ap, ◌∙◌}
+use Rattle.std.proofs.Common.{◌≡◌, ◌≤◌, ◌+◌, ◌∷◌, ◌++◌, [], ℕ, None, length, slice_set, refl, subst, sym, ap, ◌∙◌, arith}
 use Rattle.bg_revisions.specs.declared.revision.Service.{Service}
 use Rattle.bg_pasts.specs.Reachable.{Reachable}
 use Rattle.bg_book.specs.declared.calls.Ticket.{Ticket}
 use Rattle.bg_ledger.specs.declared.holding.Holding.{Holding}
-use Rattle.bg_book.specs.OpenLists.{changed}
+use Rattle.bg_book.specs.OpenLists.{changed, has_request}
 use Rattle.bg_book.specs.Changes.{enter_entry, seat_in, with_past}
 use Rattle.bg_book.specs.Refusals.{enter_refusal, IsTicket}
 use Rattle.bg_book.specs.Routing.{Routing}
 use Rattle.bg_book.specs.Invariant.{Midway, Stands, midway_of, running_of}
-use Rattle.bg_book.proofs.Lists.{has_list}
+use Rattle.bg_book.proofs.Lists.{has_list, no_request}
 use Rattle.bg_book.proofs.Entering.{lists_entered, stands_entered}
 use Rattle.bg_book.proofs.Offers.{selected_exists}
 use Rattle.bg_book.proofs.Seated.{known_inside, routing_seated}
-use Rattle.bg_book.proofs.Seating.{few_calls}
+use Rattle.bg_book.proofs.Seating.{few_calls, few_seats, out_holds_none, seated_of}
 use Rattle.bg_book.proofs.rollout.Rollout.admit.Given.{Over}
 use Rattle.bg_book.proofs.rollout.Rollout.admit.Goals as goal
 use Rattle.bg_book.proofs.rollout.Rollout.admit.Goals.{After-push_reserved}
@@ -25,13 +25,27 @@ accepted_inside : (inside now : Midway) (service : Service) (t : Ticket) → ins
     → (enter_refusal inside.routing service ≡ None) × IsTicket inside.routing service t
 accepted_inside inside now service t is none ticket = subst (λ (m : Midway). (enter_refusal m.routing service ≡ None) × IsTicket m.routing service t) (sym is) (none, ticket)
 
-pub append-requires : goal.append-requires
-append-requires g c =
+pub append-requires-clause-revision : goal.append-requires-clause-revision
+append-requires-clause-revision g c =
     let b = (midway_of c.self.inside).routing in
     let stand : Stands b (running_of c.self.inside) = c.self.invariant in
     let reach : Reachable b.strategy b.opening b.past = c.reachable.ensures b.strategy b.opening b.past stand.routing.legal.allowed in
     let ok = accepted_inside _ _ c.args.service c.args.ticket c.self.view_is c.requires.accepted c.requires.ticket in
     has_list b.past c.self.inside.lists _ stand.routing.lists (selected_exists b.strategy b.opening b.past c.args.service c.args.ticket.revision reach ok.1.revision_is)
+
+pub append-requires-clause-seat : goal.append-requires-clause-seat
+append-requires-clause-seat g c =
+    let b = (midway_of c.self.inside).routing in
+    let stand : Stands b (running_of c.self.inside) = c.self.invariant in
+    let mine = seated_of b c.args.seat.now stand.routing (known_inside _ _ c.args.seat.now c.self.view_is c.requires.known) in
+    omega (arith, c.index-index.ensures.index, mine.within, few_seats b stand.routing)
+
+pub append-requires-clause-free : goal.append-requires-clause-free
+append-requires-clause-free g c =
+    let b = (midway_of c.self.inside).routing in
+    let stand : Stands b (running_of c.self.inside) = c.self.invariant in
+    let none = out_holds_none b c.args.seat.now stand.routing (known_inside _ _ c.args.seat.now c.self.view_is c.requires.known) c.requires.out in
+    ap (λ (n : ℕ). has_request n b.lists) c.index-index.ensures.index ∙ ap (has_request c.args.seat.now.index) stand.routing.lists ∙ no_request b.past c.args.seat.now.index none
 
 pub enter-requires-clause-calls : goal.enter-requires-clause-calls
 enter-requires-clause-calls g c =
@@ -59,14 +73,14 @@ entered g c =
     let pushed : c.push_reserved.new.self ≡ record c.self.inside.history { past = enter_entry seat.index c.args.service t ∷ b.past; spare = c.push_reserved.new.self.spare } =
     subst (λ (n : ℕ). c.push_reserved.new.self ≡ record c.self.inside.history { past = enter_entry n c.args.service t ∷ b.past; spare = c.push_reserved.new.self.spare }) at c.push_reserved.ensures.entry in
     let held : c.enter.new.self ≡ seat_in seat t = c.enter.ensures.own ∙ c.enter.ensures.seat in
-    let appended : c.append.new.self ≡ changed t.revision (λ requests. requests ++ record { seat = c.index-index.result; number = t.number } ∷ []) b.lists = c.in_ok-append.ensures.ok in
+    let appended : c.append.new.self ≡ changed t.revision (λ requests. requests ++ record { seat = c.index-index.result; number = t.number } ∷ []) b.lists = c.append.ensures in
     routing_seated b (enter_entry seat.index c.args.service t) _ _ _ c.push_reserved.new.self c.self.inside.history refl pushed
     (lists_entered b seat c.args.service t _ stand.routing (c.existing_ascends.ensures b.past)
     (appended ∙ ap (λ (n : ℕ). changed t.revision (λ requests. requests ++ record { seat = n; number = t.number } ∷ []) b.lists) at))
     (ap (λ (n : ℕ). slice_set b.seats n c.enter.new.self) at ∙ ap (λ (v : Holding). slice_set b.seats seat.index v) held)
 
-pub invariant_of-self-2 : goal.invariant_of-self-2
-invariant_of-self-2 g c =
+pub invariant_of-self : goal.invariant_of-self
+invariant_of-self g c =
     let b = (midway_of c.self.inside).routing in
     let k = running_of c.self.inside in
     let stand : Stands b k = c.self.invariant in

@@ -18,7 +18,7 @@ use Rattle.bg_promotion.specs.Answers.{is_step}
 use Rattle.bg_scaledown.specs.Tables.{Table}
 use Rattle.bg_listing.specs.Listed.{revision_of, revisions_of}
 use Rattle.bg_pasts.specs.Reachable.{Reachable}
-use Rattle.bg_book.specs.OpenLists.{OpenAt, lists_of}
+use Rattle.bg_book.specs.OpenLists.{OpenAt, is_empty_at, lists_of}
 use Rattle.bg_book.specs.declared.rollout.Rollout.TheInside.{Inside}
 use Rattle.bg_book.specs.Invariant.{Midway, Stands, midway_of, running_of}
 use Rattle.bg_book.proofs.Events.{found_there, wants}
@@ -26,7 +26,7 @@ use Rattle.std.proofs.lemmas.Bool.Decides.{nat_tests}
 use Rattle.bg_history.specs.Allowed.{is_allowed}
 use Rattle.bg_history.specs.Deadlines.{exists_in}
 use Rattle.bg_book.proofs.Requests.{and_parts}
-use Rattle.bg_book.proofs.Lists.{lists-Removed}
+use Rattle.bg_book.proofs.Lists.{empty_list, lists-Removed}
 use Rattle.bg_book.proofs.Outcomes.{first_is_allowed, step_is_first, no_step_is_neutral, resumed_is_newest, scaled_down_exists, removed_was}
 use Rattle.bg_book.proofs.Carrying.{Carries, stands_recorded, recorded_by, recorded_left}
 use Rattle.bg_book.proofs.rollout.Rollout.record_outcome.Given.{Over}
@@ -80,6 +80,16 @@ remove-requires g c =
     let may = first_is_allowed b.strategy b.opening b.past c.args.outcome (first_inside _ _ c.args.outcome c.self.view_is c.requires.first) in
     let was = removed_was b.strategy b.opening b.past r (subst (λ (x : Outcome). is_allowed b.strategy b.opening (entry.Outcome x) b.past ≡ true) c.in-Removed.is may) in
     no_size _ b.strategy b.opening b.past r (found_there b.strategy b.opening b.past r _ stand.revisions (c.finds.ensures.number b.strategy b.opening b.past r) was.0) was.1
+
+pub drop_list-requires : goal.drop_list-requires
+drop_list-requires g c =
+    let b = (midway_of c.self.inside).routing in
+    let stand : Stands b (running_of c.self.inside) = c.self.invariant in
+    let reach : Reachable b.strategy b.opening b.past = c.reachable.ensures b.strategy b.opening b.past stand.routing.legal.allowed in
+    let r = c.in-Removed.revision in
+    let may = first_is_allowed b.strategy b.opening b.past c.args.outcome (first_inside _ _ c.args.outcome c.self.view_is c.requires.first) in
+    let was = removed_was b.strategy b.opening b.past r (subst (λ (x : Outcome). is_allowed b.strategy b.opening (entry.Outcome x) b.past ≡ true) c.in-Removed.is may) in
+    ap (is_empty_at r) stand.routing.lists ∙ empty_list b.past r (reach.unscaled_empty r was.1)
 
 -- the roster and the lists after the outcome
 record Followed {N : Type 0} (inside : Inside N) (x : Outcome) (roster : Listing) (kept : List OpenAt) : Type 0 where

@@ -1,16 +1,14 @@
-use Rattle.std.proofs.Common.{◌≡◌, ◌-◌, ◌∷◌, ◌==◌, not, ℕ, filter, slice_set, refl, subst, sym, ap, ◌∙◌, arith}
+use Rattle.std.proofs.Common.{◌≡◌, ◌-◌, ◌∷◌, ℕ, slice_set, refl, subst, sym, ap, ◌∙◌, arith}
 use Rattle.bg_history.specs.declared.entry.Entry.{Entry}
 use Rattle.bg_history.specs.declared.entry.Entry.TheVariants.{Leave}
-use Rattle.bg_history.specs.Deadlines.{exists_in}
 use Rattle.bg_pasts.specs.Reachable.{Reachable}
 use Rattle.bg_ledger.specs.declared.holding.Holding.{Holding}
 use Rattle.bg_ledger.specs.Holdings.{vacated}
-use Rattle.bg_book.specs.OpenLists.{changed}
+use Rattle.bg_book.specs.OpenLists.{has_request, without}
 use Rattle.bg_book.specs.Changes.{with_past}
 use Rattle.bg_book.specs.Routing.{Routing}
 use Rattle.bg_book.specs.Invariant.{Midway, Stands, midway_of, running_of}
-use Rattle.bg_book.proofs.Lists.{has_list}
-use Rattle.bg_book.proofs.Leaving.{is_held, one_open, held_exists, lists_left, stands_left}
+use Rattle.bg_book.proofs.Leaving.{is_held, has_held, one_open, lists_left, stands_left}
 use Rattle.bg_book.proofs.Seated.{known_inside, routing_seated}
 use Rattle.bg_book.proofs.rollout.Rollout.release.Given.{Over}
 use Rattle.bg_book.proofs.rollout.Rollout.release.Goals as goal
@@ -21,8 +19,8 @@ take-requires g c =
     let b = (midway_of c.self.inside).routing in
     let stand : Stands b (running_of c.self.inside) = c.self.invariant in
     let reach : Reachable b.strategy b.opening b.past = c.reachable.ensures b.strategy b.opening b.past stand.routing.legal.allowed in
-    has_list b.past c.self.inside.lists _ stand.routing.lists
-    (ap (λ (p : ℕ × ℕ). exists_in p.1 b.past) c.leave-number.ensures.answer ∙ held_exists b c.args.seat.now stand.routing reach.open_scaled (known_inside _ _ c.args.seat.now c.self.view_is c.requires.known) (is_held _ c.requires.within))
+    ap (λ (n : ℕ). has_request n b.lists) c.index-index.ensures.index
+    ∙ has_held b c.args.seat.now stand.routing reach.open_scaled (known_inside _ _ c.args.seat.now c.self.view_is c.requires.known) (is_held _ c.requires.within)
 
 pub overflow_sub-self : goal.overflow_sub-self
 overflow_sub-self g c =
@@ -51,11 +49,9 @@ left g c =
     let pushed : c.push_reserved.new.self ≡ record c.self.inside.history { past = Leave seat.index seat.number seat.revision ∷ b.past; spare = c.push_reserved.new.self.spare } =
     subst (λ (e : Entry). c.push_reserved.new.self ≡ record c.self.inside.history { past = e ∷ b.past; spare = c.push_reserved.new.self.spare }) was c.push_reserved.ensures.entry in
     let held : c.leave-number.new.self ≡ vacated seat = c.leave-number.ensures.own ∙ c.leave-number.ensures.seat in
-    let taken : c.take.new.self ≡ changed seat.revision (λ requests. filter (λ q. not (q.seat == seat.index)) requests) b.lists =
-    c.take.ensures ∙ ap (λ (p : ℕ × ℕ). changed p.1 (λ requests. filter (λ q. not (q.seat == c.index-index.result)) requests) b.lists) c.leave-number.ensures.answer
-    ∙ ap (λ (n : ℕ). changed seat.revision (λ requests. filter (λ q. not (q.seat == n)) requests) b.lists) at in
+    let taken : c.take.new.self ≡ without seat.index b.lists = c.take.ensures ∙ ap (λ (n : ℕ). without n b.lists) at in
     routing_seated b (Leave seat.index seat.number seat.revision) _ _ _ c.push_reserved.new.self c.self.inside.history refl pushed
-    (lists_left b seat _ stand.routing (c.existing_ascends.ensures b.past) known (is_held _ c.requires.within) taken)
+    (lists_left b seat _ stand.routing known (is_held _ c.requires.within) taken)
     (ap (λ (n : ℕ). slice_set b.seats n c.leave-number.new.self) at ∙ ap (λ (v : Holding). slice_set b.seats seat.index v) held)
 
 pub invariant_of-self : goal.invariant_of-self

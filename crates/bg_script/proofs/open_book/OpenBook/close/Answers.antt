@@ -1,4 +1,4 @@
-use Rattle.std.proofs.Common.{List, length, subst}
+use Rattle.std.proofs.Common.{length, subst}
 use Rattle.bg_book.specs.Runs.{LeavesAll}
 use Rattle.bg_script.specs.Serving.{OpenState}
 use Rattle.bg_script.proofs.open_book.OpenBook.close.Goals as goal

@@ -1,0 +1,7 @@
+use Rattle.std.proofs.Common.{arith}
+use Rattle.bg_book.proofs.Linked.{all_owned}
+use Rattle.bg_book.proofs.open_lists.unowned.Goals as goal
+
+pub unreachable-requires : goal.unreachable-requires
+unreachable-requires c =
+    absurd (omega (arith, c.requires, all_owned 64 c.args.owned.now (λ l low. c.loop-list.invariant l (omega (arith, low, c.loop-list-test.false)))))

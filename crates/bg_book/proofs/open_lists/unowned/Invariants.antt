@@ -1,0 +1,7 @@
+use Rattle.std.proofs.Common.{◌≡◌, ◌<◌, ℕ, true}
+use Rattle.bg_book.specs.OpenLists.{is_owned}
+use Rattle.bg_book.proofs.open_lists.unowned.Given as goal
+
+-- each list before the counter is some revision's own
+abbrev pub invariant-loop-list : goal.invariant-loop-list
+invariant-loop-list l = (k : ℕ) → k < l.list → is_owned k l.owned ≡ true

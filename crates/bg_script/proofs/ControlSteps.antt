@@ -1,0 +1,109 @@
+-- Lemmas on the lines of a control connection.
+use Rattle.std.proofs.Common.{◌≡◌, ℕ, List, [], ◌∷◌, refl, sym, subst, Option}
+use Rattle.std.specs.Prelude.{Result, Ok, OnOk}
+use Rattle.std.proofs.lemmas.Result.{on_ok_weaker}
+use Rattle.bg_book.specs.Headline.{Headline}
+use Rattle.bg_book.specs.Routing.{Routing}
+use Rattle.bg_report.specs.Reports.{report_text}
+use Rattle.bg_script.specs.declared.run_end.RunEnd.{RunEnd}
+use Rattle.std.specs.Io.KnownBytes.{Appends}
+use Rattle.std.proofs.KnownBytes.{Appends-trans, Appends-nil}
+use Rattle.bg_operator.specs.declared.command.Command.{Command}
+use Rattle.bg_operator.specs.declared.command.Command.TheVariants as command
+use Rattle.bg_operator.specs.declared.line_fault.LineFault.{LineFault}
+use Rattle.bg_operator.specs.Commands.{IsReadAs, line_reading}
+use Rattle.bg_operator.specs.Lines.{lines_of}
+use Rattle.bg_script.specs.declared.answer.Answer.{Answer}
+use Rattle.bg_script.specs.declared.answer.Answer.TheVariants as answer
+use Rattle.bg_book.specs.declared.calls.Control.{Control}
+use Rattle.bg_book.specs.declared.calls.Reply.{Reply}
+use Rattle.bg_script.specs.declared.control_lines.NextLine.TheVariants as next_line
+use Rattle.bg_script.specs.declared.control_side.BeforeOpen.TheVariants as before_open
+use Rattle.bg_script.specs.declared.control_side.ControlEnd.TheVariants as control_end
+use Rattle.bg_script.specs.AnswerTexts.{answer_text}
+use Rattle.bg_script.specs.Scripts.{Written, Said, Reported, text_of, written_text}
+use Rattle.bg_script.specs.Connections.{AnsweredBy, AnswersAtDesk, AnswersBeforeOpen, ClosedAnswer, ClosedStep, DeskStep, EventAnswer, HasNext, MayBeAsked, Wrote, WroteAtDesk, WroteReport}
+
+abbrev pub Step : Type 1
+Step = Result Command LineFault → Written → Type 0
+
+-- What was written since first, with answers still to be written for the bytes ys, is answers to the
+-- bytes xs.
+abbrev pub Goes : Step → Option (List ℕ) → Option (List ℕ) → List ℕ → List ℕ → Type 0
+Goes step first now xs ys =
+    (last : Option (List ℕ)) (rest : List (List ℕ)) (later : List Written) → AnsweredBy step (lines_of ys) rest later
+    → Appends now last (text_of later) → Wrote step first last (lines_of xs) rest
+
+-- nothing was written yet
+pub goes_nowhere : (step : Step) (first : Option (List ℕ)) (xs : List ℕ) → Goes step first first xs xs
+goes_nowhere step first xs = λ last rest later answers appended. record { all = later; answers = answers; appended = appended }
+
+-- one more line is answered
+goes_on : (step : Step) (first now new : Option (List ℕ)) (read : Result Command LineFault) (written : Written) (xs ys zs : List ℕ)
+    → Goes step first now xs ys → HasNext (next_line.Read read) ys zs → (MayBeAsked read → step read written) → Appends now new (written_text written)
+    → Goes step first new xs zs
+goes_on step first now new read written xs ys zs p line s wrote = λ last rest later answers appended.
+    let more : AnsweredBy step (lines_of ys) rest (written ∷ later) =
+    subst (λ ls. AnsweredBy step ls rest (written ∷ later)) (sym line.1) ((read, line.2.0, s line.2.1), answers) in
+    p last rest (written ∷ later) more (Appends-trans now new last _ _ wrote appended)
+
+pub goes_on_closed : (first now new : Option (List ℕ)) (read : Result Command LineFault) (said : Answer) (xs ys zs : List ℕ)
+    → Goes ClosedStep first now xs ys → HasNext (next_line.Read read) ys zs → (MayBeAsked read → ClosedAnswer read said) → Appends now new (answer_text said)
+    → Goes ClosedStep first new xs zs
+goes_on_closed first now new read said xs ys zs p line s wrote = goes_on ClosedStep first now new read (Said said) xs ys zs p line s wrote
+
+pub goes_on_at_desk : (first now new : Option (List ℕ)) (read : Result Command LineFault) (xs ys zs : List ℕ)
+    → Goes DeskStep first now xs ys → HasNext (next_line.Read read) ys zs → WroteAtDesk read now new → Goes DeskStep first new xs zs
+goes_on_at_desk first now new read xs ys zs p line w = goes_on DeskStep first now new read w.written xs ys zs p line w.step w.appended
+
+-- no further line is answered
+stops : (step : Step) (first now : Option (List ℕ)) (xs ys : List ℕ) → Goes step first now xs ys → Wrote step first now (lines_of xs) (lines_of ys)
+stops step first now xs ys p = p now (lines_of ys) [] refl (Appends-nil now)
+
+pub opens : (first now : Option (List ℕ)) (read : Result Command LineFault) (name ports : List ℕ) (xs ys zs : List ℕ) → Goes ClosedStep first now xs ys
+    → HasNext (next_line.Read read) ys zs → read ≡ Ok (command.Open name ports) → AnswersBeforeOpen (before_open.Open name ports) first now xs zs
+opens first now read name ports xs ys zs p line is = record {
+  rest = lines_of ys;
+  wrote = stops ClosedStep first now xs ys p;
+  ends = (line.0, line.1, subst (λ r. IsReadAs (line_reading line.0) r) is line.2.0);
+}
+
+pub quits_before_open : (first now : Option (List ℕ)) (xs ys zs : List ℕ) → Goes ClosedStep first now xs ys → HasNext next_line.Quit ys zs
+    → AnswersBeforeOpen before_open.Quit first now xs zs
+quits_before_open first now xs ys zs p line = record { rest = lines_of ys; wrote = stops ClosedStep first now xs ys p; ends = line }
+
+pub ends_before_open : (first now : Option (List ℕ)) (xs ys zs : List ℕ) → Goes ClosedStep first now xs ys → HasNext next_line.End ys zs
+    → AnswersBeforeOpen before_open.End first now xs zs
+ends_before_open first now xs ys zs p line = record { rest = lines_of ys; wrote = stops ClosedStep first now xs ys p; ends = line }
+
+pub quits_at_desk : (first now : Option (List ℕ)) (xs ys zs : List ℕ) → Goes DeskStep first now xs ys → HasNext next_line.Quit ys zs
+    → AnswersAtDesk control_end.Quit first now xs zs
+quits_at_desk first now xs ys zs p line = record { rest = lines_of ys; wrote = stops DeskStep first now xs ys p; ends = line }
+
+pub ends_at_desk : (first now : Option (List ℕ)) (xs ys zs : List ℕ) → Goes DeskStep first now xs ys → HasNext next_line.End ys zs
+    → AnswersAtDesk control_end.End first now xs zs
+ends_at_desk first now xs ys zs p line = record { rest = lines_of ys; wrote = stops DeskStep first now xs ys p; ends = line }
+
+-- a line was answered
+pub said_at_desk : (read : Result Command LineFault) (said : Answer) (first last : Option (List ℕ)) (r : Result Unit RunEnd) → (MayBeAsked read → DeskStep read (Said said))
+    → OnOk r (Appends first last (answer_text said)) → OnOk r (WroteAtDesk read first last)
+said_at_desk read said first last r step wrote = on_ok_weaker r (λ a. record { written = Said said; step = step; appended = a }) wrote
+
+-- the report was asked for, and was written
+pub report_at_desk : (read : Result Command LineFault) (first last : Option (List ℕ)) (r : Result Unit RunEnd) → (MayBeAsked read → read ≡ Ok command.Report)
+    → OnOk r (WroteReport first last) → OnOk r (WroteAtDesk read first last)
+report_at_desk read first last r is wrote = on_ok_weaker r
+    (λ w. record { written = w.written; step = λ ask. subst (λ x. DeskStep x w.written) (sym (is ask)) w.step; appended = w.appended }) wrote
+
+pub event_at_desk : (read : Result Command LineFault) (event : Control) (reply : Reply) → read ≡ Ok (command.Control event) → EventAnswer event reply
+    → DeskStep read (Said (answer.Made reply))
+event_at_desk read event reply is told = subst (λ x. DeskStep x (Said (answer.Made reply))) (sym is) told
+
+-- the report of a book was written
+pub report_written : (bytes : List ℕ) (first last : Option (List ℕ)) (r : Result Unit RunEnd) (book : Routing) → Headline book → bytes ≡ report_text book
+    → OnOk r (Appends first last bytes) → OnOk r (WroteReport first last)
+report_written bytes first last r book headline text wrote = on_ok_weaker r
+    (λ a. record { written = Reported book; step = headline; appended = subst (λ (t : List ℕ). Appends first last t) text a }) wrote
+
+pub no_memory_written : (first last : Option (List ℕ)) (r : Result Unit RunEnd) → OnOk r (Appends first last (answer_text answer.OutOfMemory)) → OnOk r (WroteReport first last)
+no_memory_written first last r wrote = on_ok_weaker r (λ a. record { written = Said answer.OutOfMemory; step = refl; appended = a }) wrote

@@ -1,0 +1,149 @@
+-- What the lines of a control connection are answered.
+use Rattle.std.specs.Prelude.{◌≡◌, ◌≢◌, ◌≤◌, ℕ, List, [], ◌∷◌, Option, None, Result, Ok, Err}
+use Rattle.std.specs.Io.KnownBytes.{Appends}
+use Rattle.bg_book.specs.declared.calls.Control.{Control}
+use Rattle.bg_book.specs.declared.calls.Reply.{Reply}
+use Rattle.bg_book.specs.declared.calls.Reply.TheVariants.{Done, ControlRefused}
+use Rattle.bg_book.specs.declared.control_fault.ControlFault.TheVariants as control_fault
+use Rattle.bg_book.specs.Headline.{Headline}
+use Rattle.bg_book.specs.Refusals.{control_refusal, IsRefusedBy}
+use Rattle.bg_book.specs.Routing.{Routing}
+use Rattle.bg_operator.specs.declared.command.Command.{Command}
+use Rattle.bg_operator.specs.declared.command.Command.TheVariants as command
+use Rattle.bg_operator.specs.declared.line_fault.LineFault.{LineFault}
+use Rattle.bg_operator.specs.Commands.{IsReadAs, line_reading}
+use Rattle.bg_operator.specs.Lines.{lines_of}
+use Rattle.bg_operator.specs.ScriptLines.{IsRead}
+use Rattle.bg_script.specs.declared.answer.Answer.{Answer}
+use Rattle.bg_script.specs.declared.answer.Answer.TheVariants as answer
+use Rattle.bg_script.specs.declared.control_lines.NextLine.{NextLine}
+use Rattle.bg_script.specs.declared.control_lines.NextLine.TheVariants as next_line
+use Rattle.bg_script.specs.declared.control_side.Asked.{Asked}
+use Rattle.bg_script.specs.declared.control_side.Asked.TheVariants as asked
+use Rattle.bg_script.specs.declared.control_side.BeforeOpen.{BeforeOpen}
+use Rattle.bg_script.specs.declared.control_side.BeforeOpen.TheVariants as before_open
+use Rattle.bg_script.specs.declared.control_side.ControlEnd.{ControlEnd}
+use Rattle.bg_script.specs.declared.control_side.ControlEnd.TheVariants as control_end
+use Rattle.bg_script.specs.Scripts.{Written, Said, Reported, text_of, written_text}
+
+-- the first line is `quit`, and the later ones are unread
+abbrev pub IsQuit : List (List ℕ) → List (List ℕ) → Type 0
+IsQuit lines later =
+    (line : List ℕ) × (lines ≡ line ∷ later) × (line_reading line ≡ Ok command.Quit)
+
+-- the next line of the bytes xs, where ys are unread then
+abbrev pub HasNext : NextLine → List ℕ → List ℕ → Type 0
+HasNext (next_line.Read read) xs ys =
+    (line : List ℕ) × (lines_of xs ≡ line ∷ lines_of ys) × IsRead line read
+HasNext next_line.Quit xs ys = IsQuit (lines_of xs) (lines_of ys)
+HasNext next_line.End xs ys = lines_of xs ≡ []
+
+-- a line that was read so is one to be answered
+abbrev pub MayBeAsked : Result Command LineFault → Type 0
+MayBeAsked read = read ≢ Ok command.Quit
+
+-- what a line that was read so is answered while no book is open
+abbrev pub ClosedAnswer : Result Command LineFault → Answer → Type 0
+ClosedAnswer (Err fault) said = said ≡ answer.Unread fault
+ClosedAnswer (Ok (command.Open name ports)) said = ⊥
+ClosedAnswer (Ok (command.Control event)) said = said ≡ answer.NotOpen
+ClosedAnswer (Ok (command.Enter seat service)) said = said ≡ answer.NotHere
+ClosedAnswer (Ok (command.Leave seat)) said = said ≡ answer.NotHere
+ClosedAnswer (Ok command.Report) said = said ≡ answer.NotOpen
+ClosedAnswer (Ok command.Quit) said = ⊥
+
+-- while no book is open a line that was read so is answered so; it opens none
+abbrev pub ClosedStep : Result Command LineFault → Written → Type 0
+ClosedStep read (Said said) = ClosedAnswer read said
+ClosedStep read (Reported book) = ⊥
+
+-- what an event is answered by a book
+abbrev pub EventReply : Routing → Control → Reply → Type 0
+EventReply book event (Done outcomes) =
+    (control_refusal book event ≡ None) × (outcomes ≤ 140)
+EventReply book event (ControlRefused fault) =
+    IsRefusedBy (control_refusal book event) control_fault.OutOfMemory fault
+EventReply book event _ = ⊥
+
+-- what an event is answered at a desk: by a book that has what the headline says
+abbrev pub EventAnswer : Control → Reply → Type 0
+EventAnswer event reply = (book : Routing) × Headline book × EventReply book event reply
+
+-- an event was answered
+abbrev pub EventStep : Control → Written → Type 0
+EventStep event (Said (answer.Made reply)) = EventAnswer event reply
+EventStep event _ = ⊥
+
+-- the report of such a book was written, or memory for it was refused
+abbrev pub ReportStep : Written → Type 0
+ReportStep (Reported book) = Headline book
+ReportStep (Said said) = said ≡ answer.OutOfMemory
+
+-- what a line that was read so is answered at a desk
+abbrev pub DeskStep : Result Command LineFault → Written → Type 0
+DeskStep (Err fault) written = written ≡ Said (answer.Unread fault)
+DeskStep (Ok (command.Open name ports)) written = written ≡ Said answer.AlreadyOpen
+DeskStep (Ok (command.Control event)) written = EventStep event written
+DeskStep (Ok (command.Enter seat service)) written = written ≡ Said answer.NotHere
+DeskStep (Ok (command.Leave seat)) written = written ≡ Said answer.NotHere
+DeskStep (Ok command.Report) written = ReportStep written
+DeskStep (Ok command.Quit) written = ⊥
+
+-- what a line that was read so asks of an open book, or what it is answered without one
+abbrev pub Asks : Result Command LineFault → Asked → Type 0
+Asks read (asked.Event event) = read ≡ Ok (command.Control event)
+Asks read asked.Report = read ≡ Ok command.Report
+Asks read (asked.Nothing said) = DeskStep read (Said said)
+
+-- from first to last the report was written, or that memory for it was refused
+pub record WroteReport (first last : Option (List ℕ)) : Type 0 where
+  pub written : Written
+  pub step : ReportStep written
+  pub appended : Appends first last (written_text written)
+
+-- such an answer to a line that was read so was written
+pub record WroteAtDesk (read : Result Command LineFault) (first last : Option (List ℕ)) : Type 0 where
+  pub written : Written
+  pub step : MayBeAsked read → DeskStep read written
+  pub appended : Appends first last (written_text written)
+
+-- The lines may be answered so by this step, one after the other, and the rest is not answered.
+abbrev pub AnsweredBy : (Result Command LineFault → Written → Type 0) → List (List ℕ)
+    → List (List ℕ) → List Written → Type 0
+AnsweredBy step lines rest [] = lines ≡ rest
+AnsweredBy step [] rest (written ∷ later) = ⊥
+AnsweredBy step (line ∷ lines) rest (written ∷ later) = ((read : Result Command LineFault)
+    × IsReadAs (line_reading line) read × step read written) × AnsweredBy step lines rest later
+
+-- from first to last such answers were written to the lines of xs before those of ys
+pub record Wrote (step : Result Command LineFault → Written → Type 0)
+    (first last : Option (List ℕ)) (lines rest : List (List ℕ)) : Type 0 where
+  pub all : List Written
+  pub answers : AnsweredBy step lines rest all
+  pub appended : Appends first last (text_of all)
+
+-- why lines are not answered any more while no book is open, where these are unread then
+abbrev pub EndsBeforeOpen : BeforeOpen → List (List ℕ) → List (List ℕ) → Type 0
+EndsBeforeOpen (before_open.Open name ports) rest later = (line : List ℕ) × (rest ≡ line ∷ later)
+    × IsReadAs (line_reading line) (Ok (command.Open name ports))
+EndsBeforeOpen before_open.Quit rest later = IsQuit rest later
+EndsBeforeOpen before_open.End rest later = rest ≡ []
+
+-- why lines are not answered any more at a desk, where these are unread then
+abbrev pub EndsAtDesk : ControlEnd → List (List ℕ) → List (List ℕ) → Type 0
+EndsAtDesk control_end.Quit rest later = IsQuit rest later
+EndsAtDesk control_end.End rest later = rest ≡ []
+
+-- from first to last the lines of xs were answered while no book is open; ys are unread
+pub record AnswersBeforeOpen (end : BeforeOpen) (first last : Option (List ℕ)) (xs ys : List ℕ)
+    : Type 0 where
+  pub rest : List (List ℕ)
+  pub wrote : Wrote ClosedStep first last (lines_of xs) rest
+  pub ends : EndsBeforeOpen end rest (lines_of ys)
+
+-- from first to last the lines of xs were answered at a desk; ys are unread
+pub record AnswersAtDesk (end : ControlEnd) (first last : Option (List ℕ)) (xs ys : List ℕ)
+    : Type 0 where
+  pub rest : List (List ℕ)
+  pub wrote : Wrote DeskStep first last (lines_of xs) rest
+  pub ends : EndsAtDesk end rest (lines_of ys)

@@ -1,0 +1,228 @@
+//! What the lines of a control connection are answered.
+//!
+//! They are read and answered as those of a script are, but requests enter and leave by the workers,
+//! and so not here. Each answer is flushed before the next line is read.
+ghost use Rattle.std.specs.Prelude.{◌≡◌, Ok, IfOk, IfErr, OnOk, IfSome};
+ghost use Rattle.std.specs.Io.KnownBytes.{Appends, Keeps};
+ghost use Rattle.bg_operator.specs.Reading.{Known};
+ghost use Rattle.bg_report.specs.Reports.{report_text};
+ghost use Rattle.bg_script.specs.AnswerTexts.{answer_text};
+ghost use Rattle.bg_script.specs.Connections.{AnswersAtDesk, AnswersBeforeOpen, Asks, ClosedAnswer, EventAnswer, MayBeAsked, WroteAtDesk, WroteReport};
+
+use crate::answer::{Answer, write_answer};
+use crate::control_lines::{ControlLines, NextLine};
+use crate::run_end::RunEnd;
+use bg_book::{Book, Control, Desk, Question, Reply};
+use bg_ledger::Names;
+use bg_operator::{Command, LineFault};
+use bg_revisions::{Name, Ports};
+use std::alloc::Global;
+use std::io::{BufRead, Write};
+use std::sync::Wait;
+
+/// After so many lines a control connection is given up.
+const MOST_LINES: u32 = 1 << 24;
+
+/// Why the lines of a control connection are no longer answered while no book is open.
+#[derive(Debug, Drop)]
+pub enum BeforeOpen {
+    /// A line orders that a book is opened. It is not yet answered.
+    Open { name: Name, ports: Ports },
+    /// The line is `quit`.
+    Quit,
+    /// The connection has no further line.
+    End,
+}
+
+/// Why the lines of a control connection are no longer answered by an open book.
+#[derive(Clone, Copy, Debug, Drop, PartialEq, Eq)]
+pub enum ControlEnd {
+    /// The line is `quit`.
+    Quit,
+    /// The connection has no further line.
+    End,
+}
+
+/// Answers each line while no book is open, up to an `open`, which is left to the caller, to `quit`,
+/// which is not answered, or to the end of the connection.
+///
+/// `enter` and `leave` are answered `refused NotHere`, other calls `refused NotOpen`, and a line that
+/// orders nothing its fault. A `RunEnd` comes where a read or a write fails, where memory for a line
+/// is refused, and after 2^24 lines.
+pub fn answer_before_open<B: BufRead, W: Write>(
+    lines: &mut ControlLines,
+    reader: &mut B,
+    writer: &mut W,
+) -> Result<BeforeOpen, RunEnd>
+    ensures { IfOk result (λ end. Known (B.remaining reader.old) (B.remaining reader.new)
+        (AnswersBeforeOpen end (W.contents writer.old) (W.contents writer.new))) }
+{
+    for _ in 0..MOST_LINES {
+        let read = match lines.next(reader)? {
+            NextLine::Read(read) => read,
+            NextLine::Quit => return Ok(BeforeOpen::Quit),
+            NextLine::End => return Ok(BeforeOpen::End),
+        };
+        match opening(read) {
+            Ok((name, ports)) => return Ok(BeforeOpen::Open { name, ports }),
+            Err(answer) => tell(&answer, writer)?,
+        }
+    }
+    Err(RunEnd::ReadFailed)
+}
+
+/// The name and the ports of an `open`, or what another line is answered while no book is open.
+fn opening(read: Result<Command, LineFault>) -> Result<(Name, Ports), Answer>
+    ensures ok { IfOk result (λ order. read ≡ Ok (Command.Open order.0 order.1)) }
+    ensures err { IfErr result (λ answer. MayBeAsked read → ClosedAnswer read answer) }
+{
+    match read {
+        Ok(Command::Open { name, ports }) => Ok((name, ports)),
+        Ok(Command::Enter { .. } | Command::Leave { .. }) => Err(Answer::NotHere),
+        Ok(Command::Control(_) | Command::Report | Command::Quit) => Err(Answer::NotOpen),
+        Err(fault) => Err(Answer::Unread(fault)),
+    }
+}
+
+/// Answers each line by the book of a desk, up to `quit`, which is not answered, or to the end of
+/// the connection.
+///
+/// An event is answered as [`Desk::control`] answers it, and `report` the report; `open` is answered
+/// `refused AlreadyOpen`, `enter` and `leave` `refused NotHere`, and a line that orders nothing its
+/// fault. Nothing is written while the desk is locked. A `RunEnd` comes where a read or a write
+/// fails, where memory for a line is refused, and after 2^24 lines.
+pub fn answer_at_desk<N: Names, R: Wait, B: BufRead, W: Write>(
+    rt: &R,
+    alloc: Global,
+    desk: &Desk<N>,
+    lines: &mut ControlLines,
+    reader: &mut B,
+    writer: &mut W,
+) -> Result<ControlEnd, RunEnd>
+    ensures { IfOk result (λ end. Known (B.remaining reader.old) (B.remaining reader.new)
+        (AnswersAtDesk end (W.contents writer.old) (W.contents writer.new))) }
+{
+    for _ in 0..MOST_LINES {
+        let read = match lines.next(reader)? {
+            NextLine::Read(read) => read,
+            NextLine::Quit => return Ok(ControlEnd::Quit),
+            NextLine::End => return Ok(ControlEnd::End),
+        };
+        answer_line(rt, alloc, desk, read, writer)?;
+    }
+    Err(RunEnd::ReadFailed)
+}
+
+/// Answers a line by the book of a desk.
+fn answer_line<N: Names, R: Wait, W: Write>(
+    rt: &R,
+    alloc: Global,
+    desk: &Desk<N>,
+    read: Result<Command, LineFault>,
+    writer: &mut W,
+) -> Result<(), RunEnd>
+    ensures { OnOk result (WroteAtDesk read (W.contents writer.old) (W.contents writer.new)) }
+{
+    match what_is_asked(read) {
+        Asked::Event(event) => tell(&Answer::Made(event_reply(rt, desk, &event)), writer),
+        Asked::Report => tell_report(rt, alloc, desk, writer),
+        Asked::Nothing(answer) => tell(&answer, writer),
+    }
+}
+
+/// What a line asks of an open book.
+#[derive(Debug, Drop)]
+enum Asked {
+    /// That this event is given to it.
+    Event(Control),
+    /// The report.
+    Report,
+    /// Nothing; the line is answered so.
+    Nothing(Answer),
+}
+
+fn what_is_asked(read: Result<Command, LineFault>) -> Asked
+    ensures { MayBeAsked read → Asks read result }
+{
+    match read {
+        Ok(Command::Control(event)) => Asked::Event(event),
+        Ok(Command::Report) => Asked::Report,
+        Ok(Command::Open { .. } | Command::Quit) => Asked::Nothing(Answer::AlreadyOpen),
+        Ok(Command::Enter { .. } | Command::Leave { .. }) => Asked::Nothing(Answer::NotHere),
+        Err(fault) => Asked::Nothing(Answer::Unread(fault)),
+    }
+}
+
+/// What the book of a desk answers to an event.
+fn event_reply<N: Names, R: Wait>(rt: &R, desk: &Desk<N>, event: &Control) -> Reply
+    ensures { EventAnswer event.now result }
+{
+    match desk.control(rt, event) {
+        Ok(outcomes) => Reply::Done(outcomes),
+        Err(fault) => Reply::ControlRefused(fault),
+    }
+}
+
+/// Writes the report, from a text that was made while the desk was locked.
+fn tell_report<N: Names, R: Wait, W: Write>(
+    rt: &R,
+    alloc: Global,
+    desk: &Desk<N>,
+    writer: &mut W,
+) -> Result<(), RunEnd>
+    ensures { OnOk result
+        (WroteReport (W.contents writer.old) (W.contents writer.new)) }
+{
+    match desk.look(rt, ReportText { alloc }) {
+        Some(text) => write_through(&text, writer),
+        None => tell(&Answer::OutOfMemory, writer),
+    }
+}
+
+/// Asks for the text of the report. None where memory for it is refused.
+#[derive(Drop)]
+struct ReportText {
+    alloc: Global,
+}
+
+impl Question<Option<Vec<u8>>> for ReportText {
+    ghost gives = { λ _ book text. IfSome text (λ bytes. bytes.items ≡ report_text book) };
+
+    fn ask<N: Names>(self, book: &Book<N>) -> Option<Vec<u8>> {
+        let mut text = Vec::new(self.alloc);
+        match bg_report::report(book, &mut text) {
+            Ok(()) => Some(text),
+            Err(_) => None,
+        }
+    }
+}
+
+/// Writes an answer, and flushes it.
+fn tell<W: Write>(answer: &Answer, writer: &mut W) -> Result<(), RunEnd>
+    ensures { OnOk result (Appends (W.contents writer.old) (W.contents writer.new)
+        (answer_text answer.now)) }
+{
+    match write_answer(answer, writer) {
+        Ok(()) => flushed(writer),
+        Err(_) => Err(RunEnd::WriteFailed),
+    }
+}
+
+/// Writes a text, and flushes it.
+fn write_through<W: Write>(text: &[u8], writer: &mut W) -> Result<(), RunEnd>
+    ensures { OnOk result (Appends (W.contents writer.old) (W.contents writer.new) text.now) }
+{
+    match writer.write_all(text) {
+        Ok(()) => flushed(writer),
+        Err(_) => Err(RunEnd::WriteFailed),
+    }
+}
+
+fn flushed<W: Write>(writer: &mut W) -> Result<(), RunEnd>
+    ensures { Keeps (W.contents writer.old) (W.contents writer.new) }
+{
+    match writer.flush() {
+        Ok(()) => Ok(()),
+        Err(_) => Err(RunEnd::WriteFailed),
+    }
+}

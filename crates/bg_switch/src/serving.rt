@@ -1,0 +1,80 @@
+//! `serve`: workers at the ports of clients, beside the operators at the control port.
+
+use crate::listeners::Listeners;
+use crate::opening::{Scene, await_open};
+use bg_script::{Finding, RunEnd, finding_of_input, write_finding};
+use std::alloc::Global;
+use std::io;
+use std::io::{Read, Write};
+use std::net::{Net, TcpListener, TcpStream};
+use std::sync::Wait;
+use std::thread::Threads;
+use std::time::Clock;
+
+/// The words of `serve`.
+#[derive(Clone, Copy, Debug, Drop)]
+pub struct Site {
+    /// The port of the active service.
+    pub active: u16,
+    /// The port of the preview service, where it is given.
+    pub preview: Option<u16>,
+    /// The port of operators.
+    pub control: u16,
+    /// How many workers the active service has. The preview service has one.
+    pub workers: u8,
+    /// How many connections each worker takes.
+    pub count: u32,
+}
+
+/// Serves clients by the strategy that the whole input is the JSON text of, and by the lines of
+/// operators. Answers the exit status: 1 where the strategy has a fault or a port can't be bound,
+/// whose line is written, and else 0.
+///
+/// Once the ports are bound, `listening` is written. An `open` of an operator opens the book; each
+/// worker then takes its connections, while operators are answered up to `quit`. When all are done
+/// the report and the number of the workers' calls are written. Nothing more is written where no book
+/// was opened.
+pub fn serve<R, I: Read, W: Write>(
+    rt: &R,
+    alloc: Global,
+    site: Site,
+    input: &mut I,
+    output: &mut W,
+) -> Result<u8, RunEnd>
+where
+    R: Net<Listener = TcpListener, Stream = TcpStream> + Threads + Wait + Clock + Sync,
+{
+    let finding = finding_of_input(alloc, input)?;
+    let Finding::Means(strategy) = &finding else {
+        written(write_finding(&finding, output))?;
+        return Ok(finding.status());
+    };
+    let Ok(listeners) = Listeners::bind(rt, site.active, site.preview, site.control) else {
+        written(writeln!(output, "fault Bind"))?;
+        return Ok(1);
+    };
+    written(tell_listening(output))?;
+    let scene = Scene {
+        alloc,
+        strategy,
+        listeners: &listeners,
+        seats: u32::from(site.workers) + u32::from(site.preview.is_some()),
+        count: site.count,
+    };
+    await_open(rt, &scene, output)?;
+    Ok(0)
+}
+
+/// Says that the ports are bound, at once.
+fn tell_listening<W: Write>(output: &mut W) -> io::Result<()> {
+    writeln!(output, "listening")?;
+    output.flush()
+}
+
+/// The end of the run where a write failed.
+pub(crate) fn written(outcome: io::Result<()>) -> Result<(), RunEnd> {
+    match outcome {
+        Ok(()) => Ok(()),
+        Err(_) => Err(RunEnd::WriteFailed),
+    }
+}

@@ -1,0 +1,111 @@
+//! The lines of a control connection, over memory.
+ghost use Rattle.std.specs.Prelude.{◌≡◌};
+ghost use Rattle.bg_ledger.specs.Blanks.{AreAllFor};
+
+use crate::book::samples::strategy;
+use bg_book::{Book, Desk, Limits};
+use bg_ledger::{Blanks, Names};
+use bg_script::{BeforeOpen, ControlEnd, ControlLines, RunEnd, answer_at_desk, answer_before_open};
+use std::alloc::Global;
+use std::marker::Brand;
+use std::sync::Wait;
+use std::test::Fail;
+
+const BEFORE: &str =
+    "tick 1\nenter 0 active\nleave 0\njump\nreport\nopen\nopen v1 9001 9002\ntick 2\n";
+
+const BEFORE_ANSWERS: &str =
+    "refused NotOpen\nrefused NotHere\nrefused NotHere\nfault UnknownWord\nrefused NotOpen\nfault WrongCount\n";
+
+const AT_DESK: &str =
+    "open v1 9001 9002\nenter 0 active\nleave 0\navailable 1 2\ntick 3\ntick 2\ntick\nreport\r\nquit now\nquit\nreport\n";
+
+const AT_DESK_ANSWERS: &str =
+    "refused AlreadyOpen\nrefused NotHere\nrefused NotHere\nok 0\nok 0\nrefused MomentBack\nfault WrongCount
+moment 3
+phase steady
+active 1
+preview 1
+stable 1
+newest 1
+revision 1 v1 desired 2 available 2 open 0 deadline none
+end
+fault WrongCount
+";
+
+#[test]
+fn leaves_an_open_to_the_caller(rt: HostRuntime) -> Result<(), Fail> {
+    let mut reader = BEFORE.as_bytes();
+    let mut answers = Vec::new(rt.alloc());
+    let mut lines = ControlLines::new(rt.alloc());
+    match answer_before_open(&mut lines, &mut reader, &mut answers) {
+        Ok(BeforeOpen::Open { name, ports }) => {
+            assert_eq!(rt; name.get(), "v1");
+            assert_eq!(rt; ports.get(), [9001u16, 9002].as_slice());
+        }
+        _ => panic!(rt; "no book is asked for"),
+    }
+    assert_eq!(rt; answers.as_slice(), BEFORE_ANSWERS.as_bytes());
+    assert_eq!(rt; reader, b"tick 2\n".as_slice());
+    Ok(())
+}
+
+/// How the lines ended, and what they were answered.
+#[derive(Drop)]
+struct Answered {
+    end: Result<ControlEnd, RunEnd>,
+    answers: Vec<u8>,
+}
+
+fn answer<N: Names, R: Wait>(
+    rt: &R,
+    alloc: Global,
+    lines: &mut &[u8],
+    blanks: Blanks,
+) -> Result<Answered, Fail>
+    requires blanks { AreAllFor N.Names blanks }
+    requires seats { N.seats ≡ 1 }
+{
+    let strategy = strategy(alloc)?;
+    let mut answers = Vec::new(alloc);
+    let mut taken = ControlLines::new(alloc);
+    let (book, seats) = Book::<N>::open(
+        alloc,
+        &strategy,
+        "v1",
+        &[9001, 9002],
+        1,
+        Limits::usual(),
+        blanks,
+    )?;
+    let desk = Desk::new(book);
+    let end = answer_at_desk(rt, alloc, &desk, &mut taken, lines, &mut answers);
+    let _history = desk.into_book().close(seats);
+    Ok(Answered { end, answers })
+}
+
+fn answer_lines<R: Wait>(rt: &R, alloc: Global, lines: &mut &[u8]) -> Result<Answered, Fail> {
+    answer::<Brand, R>(rt, alloc, lines, Blanks::new())
+}
+
+#[test]
+fn answers_at_a_desk_up_to_quit(rt: HostRuntime) -> Result<(), Fail> {
+    let mut lines = AT_DESK.as_bytes();
+    let answered = answer_lines(&rt, rt.alloc(), &mut lines)?;
+    assert_eq!(rt; answered.end, Ok(ControlEnd::Quit));
+    assert_eq!(rt; answered.answers.as_slice(), AT_DESK_ANSWERS.as_bytes());
+    assert_eq!(rt; lines, b"report\n".as_slice());
+    Ok(())
+}
+
+#[test]
+fn a_control_connection_may_end_in_a_line(rt: HostRuntime) -> Result<(), Fail> {
+    let mut lines = "available 1 2\navailable 1".as_bytes();
+    let answered = answer_lines(&rt, rt.alloc(), &mut lines)?;
+    assert_eq!(rt; answered.end, Ok(ControlEnd::End));
+    assert_eq!(rt;
+        answered.answers.as_slice(),
+        b"ok 0\nfault WrongCount\n".as_slice()
+    );
+    Ok(())
+}
