@@ -66,9 +66,24 @@ replay --seats 0
 replay --seats 9
 replay --seats four
 replay --seats 2 --seats 3
+serve --active 1 --control 2 --workers 3
+serve --active 1 --control 2 --count 4
+serve --active 1 --workers 3 --count 4
+serve --control 2 --workers 3 --count 4
+serve --active 0 --control 2 --workers 3 --count 4
+serve --active 65536 --control 2 --workers 3 --count 4
+serve --active 1 --preview 0 --control 2 --workers 3 --count 4
+serve --active 1 --preview 65536 --control 2 --workers 3 --count 4
+serve --active 1 --control 0 --workers 3 --count 4
+serve --active 1 --control 65536 --workers 3 --count 4
+serve --active 1 --control 2 --workers 0 --count 4
+serve --active 1 --control 2 --workers 8 --count 4
+serve --active 1 --control 2 --workers 3 --count 0
+serve --active 1 --control 2 --workers 3 --count 1000001
 END
 expect 2 /dev/null '?*' "$(printf '\377')" < /dev/null
 expect 2 /dev/null '?*--seats*' replay --help < /dev/null
+expect 2 /dev/null '?*--active*' serve --help < /dev/null
 
 # As many seats as the words ask for, and 4 where they ask for none: a request at each of nine places.
 {

@@ -15,14 +15,14 @@ use std::sync::Wait;
 use std::thread::{Threads, join_mut};
 use std::time::Clock;
 
-/// The service of each of so many workers. That of the preview service comes first, so that it is not
-/// left to the end where no threads can be had and the workers take turns.
+/// The service of each of so many workers. That of the preview service comes last: where no threads can
+/// be had, std works the seats one after the other from the last one on.
 pub fn services_of(alloc: Global, seats: u32, has_preview: bool) -> Result<Vec<Service>, AllocError>
     ensures { IfOk result (λ services. length services.items ≡ seats) }
 {
     let mut services = vec![in alloc; Service::Active; seats as usize]?;
-    if has_preview && !services.is_empty() {
-        services[0] = Service::Preview;
+    if has_preview && let Some(last) = services.last_mut() {
+        *last = Service::Preview;
     }
     Ok(services)
 }
