@@ -7,6 +7,7 @@ import concurrent.futures
 import http.client
 import http.server
 import os
+import resource
 import shutil
 import socket
 import subprocess
@@ -19,6 +20,8 @@ SWITCH = "bin/bg_switch"
 ROLLOUT = """{"spec": {"replicas": 1, "strategy": {"blueGreen": {"activeService": "web", "previewService": "web-preview",
 "autoPromotionEnabled": false}}}}"""
 NO_PREVIEW = '{"spec": {"strategy": {"blueGreen": {"activeService": "web"}}}}'
+# The C library gives each thread a stack of the limit, and of this size there is none.
+NO_STACK = 1 << 48
 passed = failed = 0
 
 
@@ -102,7 +105,7 @@ def free_ports(count):
 class Switch:
     """A running `serve`."""
 
-    def __init__(self, rollout, workers, count, preview=True):
+    def __init__(self, rollout, workers, count, preview=True, before=None):
         self.active, self.preview, self.control = free_ports(3)
         self.left = {self.active: workers * count, self.preview: count if preview else 0}
         self.lock = threading.Lock()
@@ -110,7 +113,7 @@ class Switch:
                  "--count", str(count)]
         if preview:
             words += ["--preview", str(self.preview)]
-        self.process = subprocess.Popen(words, stdin=subprocess.PIPE, stdout=subprocess.PIPE, text=True)
+        self.process = subprocess.Popen(words, stdin=subprocess.PIPE, stdout=subprocess.PIPE, text=True, preexec_fn=before)
         self.process.stdin.write(rollout)
         self.process.stdin.close()
         self.first = self.process.stdout.readline()
@@ -304,6 +307,50 @@ def without_preview():
     check("the last report's end", (printed.endswith("end\ncalls 2\n"), status), (True, 0))
 
 
+def without_descriptors():
+    """No file descriptor is free: no endpoint is reached, and an accept that fails is tried again for nearly a second; after
+    that it counts as one of the connections."""
+    switch = Switch(NO_PREVIEW, workers=1, count=3, preview=False)
+    operator = Operator(switch)
+    operator.check(f"open one {start_backend('one')}", "ok 0")
+    operator.check("available 1 1", "ok 0")
+    process = switch.process.pid
+    most = resource.prlimit(process, resource.RLIMIT_NOFILE)
+    # the place of the connection that the worker waits for is taken already
+    resource.prlimit(process, resource.RLIMIT_NOFILE, (1 + max(map(int, os.listdir(f"/proc/{process}/fd"))), most[1]))
+    check("no descriptor for an endpoint", switch.get(switch.active), (502, b""))
+    with switch.connect(switch.active) as client:
+        client.sendall(b"GET / HTTP/1.1\r\nHost: x\r\n\r\n")
+        # one accept fails in this time, and the next one is tried again
+        time.sleep(1.4)
+        resource.prlimit(process, resource.RLIMIT_NOFILE, most)
+        check("an accept that is tried again", client.recv(65536).startswith(b"HTTP/1.1 200 OK\r\n"), True)
+    switch.left = {}
+    operator.connection.sendall(b"quit\n")
+    printed, status = switch.end()
+    check("calls, with an accept that failed", (printed.endswith("end\ncalls 4\n"), status), (True, 0))
+
+
+def without_threads():
+    """No thread can be had: the operator is answered up to `quit`, and then the seats are worked in turn."""
+    hard = resource.getrlimit(resource.RLIMIT_STACK)[1]
+    if hard != resource.RLIM_INFINITY and hard < NO_STACK:
+        print("live: the limit on stacks is fixed here, so a run without threads is passed over")
+        return
+    switch = Switch(ROLLOUT, workers=2, count=2, before=lambda: resource.setrlimit(resource.RLIMIT_STACK, (NO_STACK, hard)))
+    operator = Operator(switch)
+    operator.check(f"open one {start_backend('one')}", "ok 0")
+    with concurrent.futures.ThreadPoolExecutor(6) as clients:
+        answers = [clients.submit(switch.get, port) for port in (switch.active, switch.active, switch.preview) * 2]
+        time.sleep(0.2)
+        check("none is answered beside the operator", [answer.done() for answer in answers], [False] * 6)
+        operator.check("available 1 1", "ok 0")
+        operator.connection.sendall(b"quit\n")
+        check("each is answered after it", [answer.result() for answer in answers], [(200, b"one")] * 6)
+    printed, status = switch.end()
+    check("calls, without threads", (printed.endswith("end\ncalls 12\n"), status), (True, 0))
+
+
 def ends_before_a_book():
     """`quit` before a good `open`, faults of the strategy, and ports that are taken."""
     switch = Switch(NO_PREVIEW, workers=1, count=1, preview=False)
@@ -329,6 +376,8 @@ def ends_before_a_book():
 def main():
     whole_run()
     without_preview()
+    without_descriptors()
+    without_threads()
     ends_before_a_book()
     print(f"live: {passed} passed, {failed} failed")
     sys.exit(failed != 0)

@@ -12,7 +12,7 @@ use bg_history::Entry;
 use bg_ledger::{Names, Seat};
 use bg_pasts::laws::reachable;
 use bg_promotion::laws::neutral;
-use bg_settling::laws::leaving_allows_two;
+use bg_settling::laws::{leaving_allows_two, leaving_settles};
 
 impl<N: Names> Book<N> {
     /// Lets the seat's request leave, and answers its number and revision. It takes no memory and is never
@@ -48,9 +48,10 @@ impl<N: Names> Book<N> {
             (slice_set self.old.seats seat.old.index seat.new) }
     {
         leaving_allows_two();
+        leaving_settles();
         self.rollout.stands();
         let left = self.rollout.release(seat);
-        self.rollout.settle();
+        self.rollout.settle_at(left.revision);
         left
     }
 }

@@ -1,6 +1,6 @@
 //! Which outcomes the past allows, and how they are recorded.
-ghost use Rattle.std.specs.Prelude.{◌≡◌, ◌≤◌, ◌+◌, List, length, Some, IsTrue, find, filter, option_copied};
-ghost use Rattle.bg_history.specs.Deadlines.{may_remove, is_empty};
+ghost use Rattle.std.specs.Prelude.{◌≡◌, ◌≤◌, ◌+◌, false, List, length, Some, IsTrue, find, filter, option_copied};
+ghost use Rattle.bg_history.specs.Deadlines.{may_remove, may_scale_down, is_empty};
 ghost use Rattle.bg_history.specs.Requests.{open_at};
 ghost use Rattle.bg_history.specs.Selections.{selectors_of};
 ghost use Rattle.bg_history.specs.Sizes.{existing};
@@ -66,6 +66,35 @@ impl<N: Names> Rollout<N> {
             Some(revision) => Some(Outcome::Removed(revision)),
             None => None,
         }
+    }
+
+    /// Settles where nothing is allowed unless this revision may be scaled down, which a look at the
+    /// revision alone tells.
+    pub(crate) fn settle_at(&mut self, revision: u64) -> u64
+        requires room { (outcomes : List Outcome) → Follows self.old.routing.strategy outcomes
+            self.old.routing.past → length outcomes ≤ self.old.spare }
+        requires alone { may_scale_down self.old.routing.strategy revision self.old.routing.past ≡ false
+            → IsTrue (is_settled self.old.routing.strategy self.old.routing.past) }
+        ensures reached { Reached self.old.routing self.new.routing result }
+        ensures settled { IsTrue (is_settled self.new.routing.strategy self.new.routing.past) }
+        ensures spare { self.new.spare + result ≡ self.old.spare }
+    {
+        self.stands();
+        if self.may_scale_down(revision) {
+            self.settle()
+        } else {
+            0
+        }
+    }
+
+    /// Whether a revision may be scaled down now: it is due, and holds no open request.
+    fn may_scale_down(&self, revision: u64) -> bool
+        ensures { result ≡ may_scale_down self.now.routing.strategy revision self.now.routing.past }
+    {
+        reachable();
+        self.deadlines
+            .is_due(revision, self.moment, self.core.selectors())
+            && self.is_empty_at(revision)
     }
 
     /// Whether a revision holds no open request.

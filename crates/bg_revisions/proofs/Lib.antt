@@ -1,1 +1,2 @@
 pub mod Listings
+mod Searched

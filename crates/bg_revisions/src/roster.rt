@@ -151,9 +151,13 @@ impl Roster {
     pub fn find_number(&self, number: u64) -> Option<&Revision>
         ensures { option_copied result ≡ numbered number self.now.revisions }
     {
-        self.revisions
-            .iter()
-            .find(|revision| revision.number == number)
+        let searched = self
+            .revisions
+            .binary_search_by_key(&number, |revision| revision.number);
+        match searched {
+            Ok(place) => Some(&self.revisions[place]),
+            Err(_) => None,
+        }
     }
 
     /// How many revisions exist, at most 64.

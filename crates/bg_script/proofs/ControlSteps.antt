@@ -22,7 +22,7 @@ use Rattle.bg_script.specs.declared.control_side.BeforeOpen.TheVariants as befor
 use Rattle.bg_script.specs.declared.control_side.ControlEnd.TheVariants as control_end
 use Rattle.bg_script.specs.AnswerTexts.{answer_text}
 use Rattle.bg_script.specs.Scripts.{Written, Said, Reported, text_of, written_text}
-use Rattle.bg_script.specs.Connections.{AnsweredBy, AnswersAtDesk, AnswersBeforeOpen, ClosedAnswer, ClosedStep, DeskStep, EventAnswer, HasNext, MayBeAsked, Wrote, WroteAtDesk, WroteReport}
+use Rattle.bg_script.specs.Connections.{AnsweredBy, AnswersAtDesk, AnswersBeforeOpen, ClosedAnswer, StepBeforeOpen, DeskStep, EventAnswer, HasNext, MayBeAsked, WroteAnswers, WroteAtDesk, WroteReport}
 
 abbrev pub Step : Type 1
 Step = Result Command LineFault → Written → Type 0
@@ -32,7 +32,7 @@ Step = Result Command LineFault → Written → Type 0
 abbrev pub Goes : Step → Option (List ℕ) → Option (List ℕ) → List ℕ → List ℕ → Type 0
 Goes step first now xs ys =
     (last : Option (List ℕ)) (rest : List (List ℕ)) (later : List Written) → AnsweredBy step (lines_of ys) rest later
-    → Appends now last (text_of later) → Wrote step first last (lines_of xs) rest
+    → Appends now last (text_of later) → WroteAnswers step first last (lines_of xs) rest
 
 -- nothing was written yet
 pub goes_nowhere : (step : Step) (first : Option (List ℕ)) (xs : List ℕ) → Goes step first first xs xs
@@ -48,33 +48,33 @@ goes_on step first now new read written xs ys zs p line s wrote = λ last rest l
     p last rest (written ∷ later) more (Appends-trans now new last _ _ wrote appended)
 
 pub goes_on_closed : (first now new : Option (List ℕ)) (read : Result Command LineFault) (said : Answer) (xs ys zs : List ℕ)
-    → Goes ClosedStep first now xs ys → HasNext (next_line.Read read) ys zs → (MayBeAsked read → ClosedAnswer read said) → Appends now new (answer_text said)
-    → Goes ClosedStep first new xs zs
-goes_on_closed first now new read said xs ys zs p line s wrote = goes_on ClosedStep first now new read (Said said) xs ys zs p line s wrote
+    → Goes StepBeforeOpen first now xs ys → HasNext (next_line.Read read) ys zs → (MayBeAsked read → ClosedAnswer read said) → Appends now new (answer_text said)
+    → Goes StepBeforeOpen first new xs zs
+goes_on_closed first now new read said xs ys zs p line s wrote = goes_on StepBeforeOpen first now new read (Said said) xs ys zs p line s wrote
 
 pub goes_on_at_desk : (first now new : Option (List ℕ)) (read : Result Command LineFault) (xs ys zs : List ℕ)
     → Goes DeskStep first now xs ys → HasNext (next_line.Read read) ys zs → WroteAtDesk read now new → Goes DeskStep first new xs zs
 goes_on_at_desk first now new read xs ys zs p line w = goes_on DeskStep first now new read w.written xs ys zs p line w.step w.appended
 
 -- no further line is answered
-stops : (step : Step) (first now : Option (List ℕ)) (xs ys : List ℕ) → Goes step first now xs ys → Wrote step first now (lines_of xs) (lines_of ys)
+stops : (step : Step) (first now : Option (List ℕ)) (xs ys : List ℕ) → Goes step first now xs ys → WroteAnswers step first now (lines_of xs) (lines_of ys)
 stops step first now xs ys p = p now (lines_of ys) [] refl (Appends-nil now)
 
-pub opens : (first now : Option (List ℕ)) (read : Result Command LineFault) (name ports : List ℕ) (xs ys zs : List ℕ) → Goes ClosedStep first now xs ys
+pub opens : (first now : Option (List ℕ)) (read : Result Command LineFault) (name ports : List ℕ) (xs ys zs : List ℕ) → Goes StepBeforeOpen first now xs ys
     → HasNext (next_line.Read read) ys zs → read ≡ Ok (command.Open name ports) → AnswersBeforeOpen (before_open.Open name ports) first now xs zs
 opens first now read name ports xs ys zs p line is = record {
   rest = lines_of ys;
-  wrote = stops ClosedStep first now xs ys p;
+  wrote = stops StepBeforeOpen first now xs ys p;
   ends = (line.0, line.1, subst (λ r. IsReadAs (line_reading line.0) r) is line.2.0);
 }
 
-pub quits_before_open : (first now : Option (List ℕ)) (xs ys zs : List ℕ) → Goes ClosedStep first now xs ys → HasNext next_line.Quit ys zs
+pub quits_before_open : (first now : Option (List ℕ)) (xs ys zs : List ℕ) → Goes StepBeforeOpen first now xs ys → HasNext next_line.Quit ys zs
     → AnswersBeforeOpen before_open.Quit first now xs zs
-quits_before_open first now xs ys zs p line = record { rest = lines_of ys; wrote = stops ClosedStep first now xs ys p; ends = line }
+quits_before_open first now xs ys zs p line = record { rest = lines_of ys; wrote = stops StepBeforeOpen first now xs ys p; ends = line }
 
-pub ends_before_open : (first now : Option (List ℕ)) (xs ys zs : List ℕ) → Goes ClosedStep first now xs ys → HasNext next_line.End ys zs
+pub ends_before_open : (first now : Option (List ℕ)) (xs ys zs : List ℕ) → Goes StepBeforeOpen first now xs ys → HasNext next_line.End ys zs
     → AnswersBeforeOpen before_open.End first now xs zs
-ends_before_open first now xs ys zs p line = record { rest = lines_of ys; wrote = stops ClosedStep first now xs ys p; ends = line }
+ends_before_open first now xs ys zs p line = record { rest = lines_of ys; wrote = stops StepBeforeOpen first now xs ys p; ends = line }
 
 pub quits_at_desk : (first now : Option (List ℕ)) (xs ys zs : List ℕ) → Goes DeskStep first now xs ys → HasNext next_line.Quit ys zs
     → AnswersAtDesk control_end.Quit first now xs zs

@@ -53,9 +53,9 @@ ClosedAnswer (Ok command.Report) said = said ≡ answer.NotOpen
 ClosedAnswer (Ok command.Quit) said = ⊥
 
 -- while no book is open a line that was read so is answered so; it opens none
-abbrev pub ClosedStep : Result Command LineFault → Written → Type 0
-ClosedStep read (Said said) = ClosedAnswer read said
-ClosedStep read (Reported book) = ⊥
+abbrev pub StepBeforeOpen : Result Command LineFault → Written → Type 0
+StepBeforeOpen read (Said said) = ClosedAnswer read said
+StepBeforeOpen read (Reported book) = ⊥
 
 -- what an event is answered by a book
 abbrev pub EventReply : Routing → Control → Reply → Type 0
@@ -116,7 +116,7 @@ AnsweredBy step (line ∷ lines) rest (written ∷ later) = ((read : Result Comm
     × IsReadAs (line_reading line) read × step read written) × AnsweredBy step lines rest later
 
 -- from first to last such answers were written to the lines of xs before those of ys
-pub record Wrote (step : Result Command LineFault → Written → Type 0)
+pub record WroteAnswers (step : Result Command LineFault → Written → Type 0)
     (first last : Option (List ℕ)) (lines rest : List (List ℕ)) : Type 0 where
   pub all : List Written
   pub answers : AnsweredBy step lines rest all
@@ -138,12 +138,12 @@ EndsAtDesk control_end.End rest later = rest ≡ []
 pub record AnswersBeforeOpen (end : BeforeOpen) (first last : Option (List ℕ)) (xs ys : List ℕ)
     : Type 0 where
   pub rest : List (List ℕ)
-  pub wrote : Wrote ClosedStep first last (lines_of xs) rest
+  pub wrote : WroteAnswers StepBeforeOpen first last (lines_of xs) rest
   pub ends : EndsBeforeOpen end rest (lines_of ys)
 
 -- from first to last the lines of xs were answered at a desk; ys are unread
 pub record AnswersAtDesk (end : ControlEnd) (first last : Option (List ℕ)) (xs ys : List ℕ)
     : Type 0 where
   pub rest : List (List ℕ)
-  pub wrote : Wrote DeskStep first last (lines_of xs) rest
+  pub wrote : WroteAnswers DeskStep first last (lines_of xs) rest
   pub ends : EndsAtDesk end rest (lines_of ys)

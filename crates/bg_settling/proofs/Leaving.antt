@@ -61,6 +61,28 @@ one-after_leave s past seat number r done at = record {
   few_old = done.few_old;
 }
 
+-- so all is done where r may not be scaled down either
+pub leaving-settles : (s : Strategy) (past : List Entry) (seat number r : ℕ) → is_settled s past ≡ true → are_at number r (open_requests past) ≡ true
+    → may_scale_down s r (Leave seat number r ∷ past) ≡ false → is_settled s (Leave seat number r ∷ past) ≡ true
+leaving-settles s past seat number r settled at stays =
+    settled-from_done s after
+    (record {
+      no_step = one.no_step;
+      no_lowering = λ q. by-number q (r == q) refl;
+      few_old = one.few_old;
+    }) where
+      after : List Entry
+      after = Leave seat number r ∷ past
+
+      one : OneLeft s r after
+      one = one-after_leave s past seat number r (done-from_settled s past settled) at
+
+      by-number : (q : ℕ) (b : Bool) → (r == q) ≡ b → may_scale_down s q after ≡ false
+      by-number q true is =
+          let e : q ≡ r = grind (arith, nat_tests) in
+          ap (λ t. may_scale_down s t after) e ∙ stays
+      by-number q false is = one.no_other q is
+
 -- then the first outcome scales r down
 first-is_lowering : (s : Strategy) (r : ℕ) (past : List Entry) (x : outcome.Outcome) → OneLeft s r past → first_allowed s past ≡ Some x
     → (x ≡ ScaledDown r) × (may_scale_down s r past ≡ true)

@@ -1,5 +1,5 @@
 //! How outcomes come to an end.
-ghost use Rattle.std.specs.Prelude.{◌≡◌, ◌<◌, ◌≤◌, ℕ, true, not, if◌then◌else◌, ◌==◌, ◌||◌, nat_lt, List, ◌∷◌, length, find, Option, Some, None, IsTrue};
+ghost use Rattle.std.specs.Prelude.{◌≡◌, ◌<◌, ◌≤◌, ℕ, false, true, not, if◌then◌else◌, ◌==◌, ◌||◌, nat_lt, List, ◌∷◌, length, find, Option, Some, None, IsTrue};
 ghost use Rattle.std.specs.List.{list_all};
 ghost use Rattle.bg_strategy.specs.declared.strategy.Strategy.{Strategy};
 ghost use Rattle.bg_revisions.specs.declared.revision.Service.{Service};
@@ -8,7 +8,7 @@ ghost use Rattle.bg_history.specs.declared.entry.Entry.TheVariants.{Enter, Leave
 ghost use Rattle.bg_history.specs.declared.entry.Outcome.{Outcome};
 ghost use Rattle.bg_history.specs.Sizes.{existing};
 ghost use Rattle.bg_history.specs.Requests.{open_requests};
-ghost use Rattle.bg_history.specs.Deadlines.{old_revisions, may_remove};
+ghost use Rattle.bg_history.specs.Deadlines.{old_revisions, may_remove, may_scale_down};
 ghost use Rattle.bg_history.specs.Steps.{first_allowed, is_settled, Follows};
 ghost use Rattle.bg_settling.specs.Removals.{first_of};
 ghost use Rattle.bg_settling.specs.Work.{work};
@@ -49,6 +49,16 @@ pub fn leaving_allows_two()
 {
     existing_ascends();
 }
+
+/// Where nothing is left undone, a request that leaves allows no outcome if its own revision may not be
+/// scaled down then. This asks that each open request of its number is at its revision.
+pub fn leaving_settles()
+    ensures { (s : Strategy) (past : List Entry) (seat number r : ℕ)
+        → IsTrue (is_settled s past)
+        → list_all (λ q. not (q.number == number) || (q.revision == r)) (open_requests past) ≡ true
+        → may_scale_down s r (Leave seat number r ∷ past) ≡ false
+        → IsTrue (is_settled s (Leave seat number r ∷ past)) }
+{}
 
 /// The next revision to remove is the first of the old ones, where there are more of them than are
 /// kept, and none otherwise (Argo Rollouts, "Specification", `revisionHistoryLimit`).

@@ -174,6 +174,23 @@ fn work<N: Names + Send + Sync, R: Threads + Wait + Sync>(
     run_workers(rt, alloc, &door, seats, &services, &clients, &endpoint, 1);
 }
 
+/// Works no seat of them.
+fn work_none<N: Names + Send + Sync, R: Threads + Wait + Sync>(
+    rt: &R,
+    alloc: Global,
+    desk: &Desk<N>,
+    seats: &mut [Seat<N>],
+    course: &Course,
+)
+    ensures { indices seats.new ≡ indices seats.old }
+{
+    same_order();
+    let door = Door::new(rt, desk);
+    let clients = Clients { alloc, course };
+    let endpoint = Endpoint { alloc, course };
+    run_workers(rt, alloc, &door, &mut seats[..0], &[], &clients, &endpoint, 1);
+}
+
 /// Makes the ticks.
 fn tick<N: Names, R: Wait>(rt: &R, desk: &Desk<N>) {
     for moment in 1..=TICKS {
@@ -214,6 +231,8 @@ fn calls_of_both<N: Names>(seats: &[Seat<N>]) -> [u64; 2] {
 /// What the test looks at.
 #[derive(Clone, Copy, PartialEq, Eq, Debug, Drop)]
 struct Worked {
+    /// How many connections to endpoints were opened while no seat was worked.
+    dialled_by_none: u64,
     calls: [u64; 2],
     entries: u64,
 }
@@ -244,11 +263,14 @@ fn open_and_work<N: Names + Send + Sync, R: Threads + Wait + Sync>(
     )?;
     let desk = Desk::new(book);
     let told = desk.control(rt, &available);
+    work_none(rt, alloc, &desk, seats.as_mut_slice(), course);
+    let dialled_by_none = course.dialled.load(Ordering::SeqCst);
     work_and_tick(rt, alloc, &desk, seats.as_mut_slice(), course);
     let calls = calls_of_both(&seats);
     let history = desk.into_book().close(seats);
     let _outcomes = told?;
     Ok(Worked {
+        dialled_by_none,
         calls,
         entries: history.len(),
     })
@@ -270,6 +292,7 @@ fn two_at_once(rt: HostRuntime) -> Result<(), Fail> {
     };
     let worked = with_new_names(&rt, rt.alloc(), &course)?;
     assert_eq!(rt; course.answered.load(Ordering::SeqCst), 2);
+    assert_eq!(rt; worked.dialled_by_none, 0);
     assert_eq!(rt; worked.calls, [2, 2]);
     assert_eq!(rt; worked.entries, 105);
     Ok(())

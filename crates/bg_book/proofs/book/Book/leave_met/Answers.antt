@@ -1,4 +1,4 @@
-use Rattle.std.proofs.Common.{◌≡◌, ◌≢◌, ◌≤◌, ◌+◌, ◌∷◌, ◌==◌, ◌||◌, not, ℕ, true, List, length, Some, slice_get, slice_set, sym, ap, ◌∙◌, subst, arith}
+use Rattle.std.proofs.Common.{◌≡◌, ◌≢◌, ◌≤◌, ◌+◌, ◌∷◌, ◌==◌, ◌||◌, not, ℕ, false, true, List, length, Some, slice_get, slice_set, sym, ap, ◌∙◌, subst, arith}
 use Rattle.std.specs.List.{list_all}
 use Rattle.bg_strategy.specs.declared.strategy.Strategy.{Strategy}
 use Rattle.bg_history.specs.Requests.{open_requests}
@@ -6,6 +6,8 @@ use Rattle.bg_history.specs.declared.entry.Entry.{Entry}
 use Rattle.bg_history.specs.declared.entry.Outcome.{Outcome}
 use Rattle.bg_history.specs.declared.entry.Entry.TheVariants.{Leave}
 use Rattle.bg_history.specs.Steps.{Follows, is_settled}
+use Rattle.bg_history.specs.Deadlines.{may_scale_down}
+use Rattle.bg_book.specs.declared.calls.Left.{Left}
 use Rattle.bg_ledger.specs.declared.holding.Holding.{Holding}
 use Rattle.bg_ledger.specs.Holdings.{vacated}
 use Rattle.bg_book.specs.declared.limits.Limits.{Limits}
@@ -18,7 +20,7 @@ use Rattle.bg_book.proofs.Leaving.{is_held, one_open, alone, one_left}
 use Rattle.bg_book.proofs.Reaching.{stepped_by, open_after, length_after, limits_after}
 use Rattle.bg_book.proofs.book.Book.leave_met.Given.{Over}
 use Rattle.bg_book.proofs.book.Book.leave_met.Goals as goal
-use Rattle.bg_book.proofs.book.Book.leave_met.Goals.{After-settle}
+use Rattle.bg_book.proofs.book.Book.leave_met.Goals.{After-settle_at}
 
 known_inside : (b now : Routing) (seat : Holding) → b ≡ now → slice_get now.seats seat.index ≡ Some seat → slice_get b.seats seat.index ≡ Some seat
 known_inside b now seat is known = subst (λ (v : Routing). slice_get v.seats seat.index ≡ Some seat) (sym is) known
@@ -38,23 +40,45 @@ two_follow : (b left : Routing) (seat : Holding) (outcomes : List Outcome)
 two_follow b left seat outcomes two settled alone made follow =
     two b.strategy b.past seat.index seat.number seat.revision outcomes settled alone (subst (λ (v : Routing). Follows v.strategy outcomes v.past) made follow)
 
-pub settle-requires : goal.settle-requires
-settle-requires g c = λ outcomes follow.
+pub settle_at-requires-clause-room : goal.settle_at-requires-clause-room
+settle_at-requires-clause-room g c = λ outcomes follow.
     let b = c.self.inside.rollout.routing in
     let seat = c.args.seat.now in
     let known = known_inside _ _ seat c.self.view_is c.requires.known in
     let few = two_follow b _ seat outcomes c.leaving_allows_two.ensures c.self.invariant.settled (alone b seat c.stands.ensures known (is_held _ c.requires.within)) c.release-left.ensures.routing follow in
     omega (arith, few, c.release-left.ensures.spare, c.self.invariant.spare, one_open b seat c.stands.ensures known (is_held _ c.requires.within))
 
+-- nothing is allowed where the revision may not be scaled down
+none_follows : (b left : Routing) (seat : Holding) (r : ℕ)
+    → ((s : Strategy) (past : List Entry) (i number q : ℕ) → is_settled s past ≡ true
+    → list_all (λ o. not (o.number == number) || (o.revision == q)) (open_requests past) ≡ true
+    → may_scale_down s q (Leave i number q ∷ past) ≡ false → is_settled s (Leave i number q ∷ past) ≡ true)
+    → is_settled b.strategy b.past ≡ true → list_all (λ o. not (o.number == seat.number) || (o.revision == seat.revision)) (open_requests b.past) ≡ true
+    → left ≡ with_past b (Leave seat.index seat.number seat.revision ∷ b.past) (slice_set b.seats seat.index (vacated seat)) → r ≡ seat.revision
+    → may_scale_down left.strategy r left.past ≡ false → is_settled left.strategy left.past ≡ true
+none_follows b left seat r settles settled alone made at stays =
+    subst (λ (v : Routing). is_settled v.strategy v.past ≡ true) (sym made)
+    (settles b.strategy b.past seat.index seat.number seat.revision settled alone
+    (subst (λ (v : Routing). may_scale_down v.strategy seat.revision v.past ≡ false) made
+    (subst (λ (n : ℕ). may_scale_down left.strategy n left.past ≡ false) at stays)))
+
+pub settle_at-requires-clause-alone : goal.settle_at-requires-clause-alone
+settle_at-requires-clause-alone g c = λ stays.
+    let b = c.self.inside.rollout.routing in
+    let seat = c.args.seat.now in
+    let known = known_inside _ _ seat c.self.view_is c.requires.known in
+    none_follows b _ seat _ c.leaving_settles.ensures c.self.invariant.settled (alone b seat c.stands.ensures known (is_held _ c.requires.within)) c.release-left.ensures.routing
+    (ap (λ (l : Left). l.revision) c.release-left.ensures.left) stays
+
 -- at most two outcomes followed
-few : (g : Over) (c : After-settle g) → c.settle.result ≤ 2
+few : (g : Over) (c : After-settle_at g) → c.settle_at.result ≤ 2
 few g c =
     let b = c.self.inside.rollout.routing in
     let seat = c.args.seat.now in
     let known = known_inside _ _ seat c.self.view_is c.requires.known in
-    let most = two_follow b _ seat c.settle.ensures.reached.outcomes c.leaving_allows_two.ensures c.self.invariant.settled (alone b seat c.stands.ensures known (is_held _ c.requires.within)) c.release-left.ensures.routing
-    c.settle.ensures.reached.follow in
-    omega (arith, most, c.settle.ensures.reached.count_is)
+    let most = two_follow b _ seat c.settle_at.ensures.reached.outcomes c.leaving_allows_two.ensures c.self.invariant.settled (alone b seat c.stands.ensures known (is_held _ c.requires.within)) c.release-left.ensures.routing
+    c.settle_at.ensures.reached.follow in
+    omega (arith, most, c.settle_at.ensures.reached.count_is)
 
 -- what holds after them
 at_rest : {count : ℕ} (rollout left settled : Midway) (seat : Holding) (n : ℕ) → AtRest count rollout → RoutingStands rollout.routing → slice_get rollout.routing.seats seat.index ≡ Some seat → seat.number ≢ 0
@@ -78,8 +102,8 @@ at_rest rollout left settled seat n rest stand known some made taken reached two
 
 pub invariant_of-self : goal.invariant_of-self
 invariant_of-self g c =
-    at_rest c.self.inside.rollout c.release-left.new.self c.settle.new.self c.args.seat.now c.settle.result c.self.invariant c.stands.ensures
-    (known_inside _ _ c.args.seat.now c.self.view_is c.requires.known) (is_held _ c.requires.within) c.release-left.ensures.routing c.release-left.ensures.spare c.settle.ensures.reached (few g c) c.settle.ensures.spare c.settle.ensures.settled
+    at_rest c.self.inside.rollout c.release-left.new.self c.settle_at.new.self c.args.seat.now c.settle_at.result c.self.invariant c.stands.ensures
+    (known_inside _ _ c.args.seat.now c.self.view_is c.requires.known) (is_held _ c.requires.within) c.release-left.ensures.routing c.release-left.ensures.spare c.settle_at.ensures.reached (few g c) c.settle_at.ensures.spare c.settle_at.ensures.settled
 
 -- the leaving, and the outcomes after it
 stepped : (b now left new : Routing) (seat : Holding) (n : ℕ) → b ≡ now
@@ -91,4 +115,4 @@ stepped b now left new seat n is made reached settled =
 
 pub returns-clause-step : goal.returns-clause-step
 returns-clause-step g c =
-    (c.settle.result, stepped _ _ _ _ c.args.seat.now c.settle.result c.self.view_is c.release-left.ensures.routing c.settle.ensures.reached c.settle.ensures.settled, few g c)
+    (c.settle_at.result, stepped _ _ _ _ c.args.seat.now c.settle_at.result c.self.view_is c.release-left.ensures.routing c.settle_at.ensures.reached c.settle_at.ensures.settled, few g c)
