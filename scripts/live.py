@@ -212,6 +212,8 @@ def messages(switch):
     check("an endpoint that closes in its body", switch.get(active, "/cut"), (502, b""))
     check("an expectation", switch.raw(active, b"POST / HTTP/1.1\r\nHost: x\r\nExpect: 100-continue\r\nContent-Length: 2\r\n\r\nhi")
           .startswith(b"HTTP/1.1 100 Continue\r\n\r\nHTTP/1.1 200 OK\r\n"), True)
+    answer = switch.raw(active, b"GET / HTTP/1.1\r\nHost: x\r\n\r\n" * 200)
+    check("bytes after a request", (answer.count(b"HTTP/1.1 "), answer.endswith(b"\r\n\r\none")), (1, True))
     if shutil.which("curl"):
         with switch.lock:
             switch.left[active] -= 1
@@ -219,7 +221,7 @@ def messages(switch):
         check("curl", (answer.startswith(b"HTTP/1.1 200 OK\r\n"), answer.endswith(b"\r\n\r\none")), (True, True))
     else:
         check("GET once more", switch.get(active), (200, b"one"))
-    return 10
+    return 11
 
 
 def refused_messages(switch):

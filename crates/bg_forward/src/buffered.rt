@@ -44,6 +44,14 @@ impl<S> Buffered<S> {
     {
         &self.stream
     }
+
+    /// The stream alone. What is held is lost.
+    pub fn into_inner(self) -> S
+        ensures { result ≡ stream_of self }
+    {
+        let Buffered { stream, held: _ } = self;
+        stream
+    }
 }
 
 impl<S: Write> Buffered<S> {

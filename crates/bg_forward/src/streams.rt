@@ -14,11 +14,15 @@ pub trait Dial {
     fn dial(&self, port: u16) -> io::Result<Self::Stream>;
 }
 
-/// Gives the connections of clients. All workers share it.
+/// Gives the connections of clients, and ends them. All workers share it.
 pub trait Accept {
-    /// A connection of a client. It is closed where it is dropped.
+    /// A connection of a client.
     type Stream: Duplex + Drop;
 
     /// Waits for the next client of a service.
     fn accept(&self, service: Service) -> io::Result<Self::Stream>;
+
+    /// Ends the connection of a client that was answered. Where its request wasn't read whole, which
+    /// `whole` says, the client may still be sending it.
+    fn close(&self, client: Self::Stream, whole: bool);
 }

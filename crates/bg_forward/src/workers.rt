@@ -72,7 +72,9 @@ fn work<N: Names, G: Gate<N>, A: Accept, D: Dial>(
     for _ in 0..count {
         if let Ok(stream) = accept.accept(service) {
             let mut client = Buffered::new(alloc, stream);
-            serve_one(alloc, gate, seat, service, &mut client, dial);
+            let served = serve_one(alloc, gate, seat, service, &mut client, dial);
+            // a request that entered was read whole
+            accept.close(client.into_inner(), served.entered.is_some());
         }
     }
 }

@@ -35,22 +35,18 @@ fn limit_waiting(stream: &TcpStream) -> io::Result<()> {
 }
 
 /// The connection of a client.
-///
-/// Where it is dropped its writing side is shut first, and what the client still sends is read and
-/// passed over for a while: a socket that is closed with bytes unread resets the connection, and the
-/// client may lose its answer (RFC 9112 section 9.6).
-pub struct Client<'a, C: Clock> {
+#[derive(Drop)]
+pub struct Client {
     stream: TcpStream,
-    clock: &'a C,
 }
 
-impl<C: Clock> Read for Client<'_, C> {
+impl Read for Client {
     fn read(&mut self, buf: &mut [u8]) -> io::Result<usize> {
         self.stream.read(buf)
     }
 }
 
-impl<C: Clock> Write for Client<'_, C> {
+impl Write for Client {
     fn write(&mut self, buf: &[u8]) -> io::Result<usize> {
         self.stream.write(buf)
     }
@@ -60,7 +56,7 @@ impl<C: Clock> Write for Client<'_, C> {
     }
 }
 
-impl<C: Clock> Duplex for Client<'_, C> {
+impl Duplex for Client {
     fn receive(&mut self, buf: &mut [u8]) -> io::Result<usize> {
         self.stream.read(buf)
     }
@@ -70,16 +66,17 @@ impl<C: Clock> Duplex for Client<'_, C> {
     }
 }
 
-impl<C: Clock> Drop for Client<'_, C> {
-    fn drop(mut self) {
-        let clock = self.clock;
-        // the connection ends here in either case
-        let _ = linger(&mut self.stream, clock);
-        let Client {
-            stream: _,
-            clock: _,
-        } = self;
+/// Whether a stream has no byte unread. Where it has none, its calls don't wait any more.
+fn is_drained(stream: &TcpStream) -> io::Result<bool> {
+    stream.set_nonblocking(true)?;
+    match stream.peek(&mut [0u8]) {
+        Ok(0) => return Ok(true),
+        Ok(_) => {}
+        Err(error) if error.kind() == ErrorKind::WouldBlock => return Ok(true),
+        Err(error) => return Err(error),
     }
+    stream.set_nonblocking(false)?;
+    Ok(false)
 }
 
 /// Shuts the writing side, and passes over what still comes, up to the bounds.
@@ -131,18 +128,27 @@ impl<'a, C: Clock> Clients<'a, C> {
 }
 
 impl<'a, C: Clock> Accept for Clients<'a, C> {
-    type Stream = Client<'a, C>;
+    type Stream = Client;
 
-    fn accept(&self, service: Service) -> io::Result<Client<'a, C>> {
+    fn accept(&self, service: Service) -> io::Result<Client> {
         let Some(listener) = self.listeners.of(service) else {
             return Err(io::Error::from(ErrorKind::NotFound));
         };
         let stream = self.next_stream(listener)?;
         limit_waiting(&stream)?;
-        Ok(Client {
-            stream,
-            clock: self.clock,
-        })
+        Ok(Client { stream })
+    }
+
+    /// A socket that is closed with bytes unread resets the connection, and the client may lose its
+    /// answer (RFC 9112 section 9.6). So where there are some, or more may come of a request, the
+    /// writing side is shut first, and what the client still sends is passed over for a while.
+    fn close(&self, client: Client, whole: bool) {
+        let Client { mut stream } = client;
+        if whole && is_drained(&stream).unwrap_or(false) {
+            return;
+        }
+        // the connection ends here in either case
+        let _ = linger(&mut stream, self.clock);
     }
 }
 

@@ -89,6 +89,8 @@ impl<'a> Accept for Clients<'a> {
             course: self.course,
         })
     }
+
+    fn close(&self, _client: Client<'a>, _whole: bool) {}
 }
 
 /// An endpoint whose first connection waits until a client was answered.

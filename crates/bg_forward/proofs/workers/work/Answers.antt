@@ -8,8 +8,8 @@ loop-preserved g c =
     let first = c.args.seat.now in
     let now = c.loop.seat in
     elim c.match-accept.branch [
-      | in-Ok w ↦ rw w.seat-is (round_served n first now w.serve_one.new.seat
-          w.serve_one.result.entered c.loop.invariant w.serve_one.ensures.out
-          w.serve_one.ensures.index w.serve_one.ensures.calls)
+      | in-Ok w ↦ rw w.seat-is (round_served n first now w.serve_one-served.new.seat
+          w.serve_one-served.result.entered c.loop.invariant w.serve_one-served.ensures.out
+          w.serve_one-served.ensures.index w.serve_one-served.ensures.calls)
       | in_default w ↦ rw w.seat-is (round_lost n first now c.loop.invariant)
     ]
