@@ -312,10 +312,13 @@ def without_preview():
 def without_descriptors():
     """No file descriptor is free: no endpoint is reached, and an accept that fails is tried again for nearly a second; after
     that it counts as one of the connections."""
-    switch = Switch(NO_PREVIEW, workers=1, count=3, preview=False)
+    switch = Switch(NO_PREVIEW, workers=1, count=4, preview=False)
     operator = Operator(switch)
     operator.check(f"open one {start_backend('one')}", "ok 0")
     operator.check("available 1 1", "ok 0")
+    check("descriptors for all", switch.get(switch.active), (200, b"one"))
+    # the worker waits for the next connection then
+    time.sleep(0.3)
     process = switch.process.pid
     most = resource.prlimit(process, resource.RLIMIT_NOFILE)
     # the place of the connection that the worker waits for is taken already
@@ -330,7 +333,7 @@ def without_descriptors():
     switch.left = {}
     operator.connection.sendall(b"quit\n")
     printed, status = switch.end()
-    check("calls, with an accept that failed", (printed.endswith("end\ncalls 4\n"), status), (True, 0))
+    check("calls, with an accept that failed", (printed.endswith("end\ncalls 6\n"), status), (True, 0))
 
 
 def without_threads():

@@ -1,8 +1,11 @@
 -- What the bytes so far tell of the head of a response.
-use Rattle.std.proofs.Common.{◌≡◌, ℕ, ◌<◌, ◌≤◌, List, [], ◌++◌, length, take, drop, map, ap, sym, ◌∙◌, arith, append_assoc, take-append-drop, take_all, min, subst, inl, inr}
+use Rattle.std.proofs.Common.{◌≡◌, ℕ, ◌<◌, ◌≤◌, List, [], ◌++◌, length, take, drop, map, ap, sym, ◌∙◌, arith, append_assoc, take-append-drop, take_all, min, subst, inl, inr, Result, Ok, Err, OnErr}
 use Rattle.std.proofs.lemmas.List.{length-map, length-take, length-append, drop-append-le, take-append-le}
 use Rattle.httparse.specs.Grammar as grammar
 use Rattle.httparse.specs.Spans.{IsResponseWithin, IsResponseAt, IsResponseOf, ResponseExceeds, header_bytes, name_and_value, span_bytes}
+use Rattle.httparse.specs.Outcome.{OnInvalid, OnTooManyHeaders}
+use Rattle.httparse.specs.declared.Error.{Error}
+use Rattle.httparse.specs.declared.Status.{Status}
 use Rattle.httparse.specs.declared.spans.HeaderSpan.{HeaderSpan}
 use Rattle.httparse.specs.declared.spans.ResponseSpans.{ResponseSpans}
 use Rattle.httparse.proofs.GrammarLemmas.{ReadsResponse-append}
@@ -85,6 +88,16 @@ no_crowded_response buf room short many (front, rest, whole, h, reads, above) =
     let all = length-append (grammar.print_response h) [] in
     let front_fits = length-append front rest in
     omega (arith, text, printed, ends, all, front_fits, ap length whole, short, many, above)
+
+-- in a room for each field that fits, an error says that the bytes are no head
+pub refused_response : (buf : List ℕ) (room : ℕ)
+    (parsed : Result (Status ResponseSpans) Error) → length buf ≤ 16384 → 5461 ≤ room
+    → OnInvalid parsed (grammar.NeverHasResponse buf)
+    → OnTooManyHeaders parsed (ResponseExceeds room buf)
+    → OnErr parsed (grammar.NeverHasResponse buf)
+refused_response buf room (Ok found) short many invalid crowded = tt
+refused_response buf room (Err e) short many invalid crowded =
+    invalid (λ same. no_crowded_response buf room short many (crowded (ap Err same)))
 
 -- where 16,384 bytes are the beginning of a head and hold none, it is too large
 pub full_response_head : (bytes : List ℕ) (m : ℕ) → m ≡ min (length bytes) 16384

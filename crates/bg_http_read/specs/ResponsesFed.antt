@@ -46,10 +46,9 @@ is_of_stream fault.TooLarge = false
 is_of_stream fault.Closed = true
 is_of_stream fault.OutOfMemory = false
 
--- no more interim responses were taken than may be, and there is room for the fields of a head
-pub record IsReady (search : HeadSearch) : Type 0 where
-  pub few : search.interim ≤ 16
-  pub room : 5461 ≤ length search.room.items
+-- no more interim responses were taken than may be
+abbrev pub IsReady : HeadSearch → Type 0
+IsReady search = search.interim ≤ 16
 
 -- what comes first of a body
 abbrev pub first_stage : ResponseFraming → Stage

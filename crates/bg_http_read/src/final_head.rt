@@ -1,16 +1,14 @@
 //! The head of the response that isn't interim, looked for as the bytes come.
-ghost use Rattle.std.specs.Prelude.{◌≡◌, ◌≤◌, List, ℕ, IfErr, IfOk, IfNone, IfSome, IsFalse};
+ghost use Rattle.std.specs.Prelude.{◌≡◌, List, ℕ, IfErr, IfOk, IfNone, IfSome, IsFalse};
 ghost use Rattle.bg_http_read.specs.ResponseHeads.{ResponseHeadIsCut};
 ghost use Rattle.bg_http_read.specs.Responses.{AfterInterim, IsFinalHead, SkipsInterim, names_another};
 ghost use Rattle.bg_http_read.specs.ResponsesFed.{IsReady, IsRefused, is_of_stream};
 ghost use Rattle.bg_http_read.specs.Streams.{waiting};
 
-use crate::head_limits::ROOM;
 use crate::intake::Intake;
 use crate::response_head::find_response_head;
 use bg_http::{Request, ResponseFault, ResponseFraming, ResponseHead, judge_response};
-use httparse::spans::{EMPTY_HEADER_SPAN, HeaderSpan};
-use std::alloc::{AllocError, Global};
+use std::alloc::Global;
 
 /// How many heads are read: one more than the interim responses that are taken.
 const MOST_HEADS: usize = 17;
@@ -31,18 +29,15 @@ fn names_another(framing: ResponseFraming) -> bool
 /// The search for the head of the response that isn't interim.
 #[derive(Drop)]
 pub(crate) struct HeadSearch {
-    room: Vec<HeaderSpan>,
     interim: usize,
 }
 
 impl HeadSearch {
-    /// Nothing is found; refused only where memory is.
-    pub(crate) fn new(alloc: Global) -> Result<HeadSearch, AllocError>
-        ensures ready { IfOk result (λ search. IsReady search) }
-        ensures none { IfOk result (λ search. search.interim ≡ 0) }
+    /// Nothing is found.
+    pub(crate) fn new() -> HeadSearch
+        ensures { result.interim ≡ 0 }
     {
-        let room = vec![in alloc; EMPTY_HEADER_SPAN; ROOM]?;
-        Ok(HeadSearch { room, interim: 0 })
+        HeadSearch { interim: 0 }
     }
 
     /// Takes interim responses and the head after them of the bytes that wait, and judges it; none
@@ -62,7 +57,8 @@ impl HeadSearch {
             → SkipsInterim request.now self.old.interim seen (waiting intake.old)
             → IfOk result (λ found. IfNone found
             (SkipsInterim request.now self.new.interim seen (waiting intake.new))) }
-        ensures cut_off { IfOk result (λ found. IfNone found (ResponseHeadIsCut (waiting intake.new))) }
+        ensures cut_off { IfOk result (λ found. IfNone found
+            (ResponseHeadIsCut (waiting intake.new))) }
         ensures ready { IfOk result (λ found. IfNone found (IsReady self.new)) }
         ensures refused { (seen : List ℕ)
             → SkipsInterim request.now self.old.interim seen (waiting intake.old)
@@ -70,7 +66,7 @@ impl HeadSearch {
         ensures fault { IfErr result (λ fault. IsFalse (is_of_stream fault)) }
     {
         while self.interim < MOST_HEADS {
-            let found = find_response_head(alloc, intake.get(), &mut self.room)?;
+            let found = find_response_head(alloc, intake.get())?;
             let Some((head, count)) = found else {
                 return Ok(None);
             };

@@ -13,14 +13,12 @@ ghost use Rattle.bg_http.specs.declared.request_rules.Framing.TheVariants as fra
 
 use crate::body::Body;
 use crate::body_read::read_body;
-use crate::head_limits::ROOM;
 use crate::intake::Intake;
 use crate::request_head_read::read_request_head;
 use bg_http::{
     Bytes, Duplex, Framing, Request, RequestFault, RequestHead, ResponseFault, judge_request,
     owes_continue,
 };
-use httparse::spans::EMPTY_HEADER_SPAN;
 use std::alloc::Global;
 
 /// The most bytes that a request's body may have.
@@ -112,10 +110,7 @@ fn read_judged_head<S: Duplex>(
         (λ input. HeadRefused input fault)) }
     ensures kept { Keeps (S.contents stream.old) (S.contents stream.new) }
 {
-    let Ok(mut room) = vec![in alloc; EMPTY_HEADER_SPAN; ROOM] else {
-        return Err(RequestFault::OutOfMemory);
-    };
-    match read_request_head(alloc, stream, intake, &mut room) {
+    match read_request_head(alloc, stream, intake) {
         Ok(head) => match judge_request(&head) {
             Ok(framing) => Ok((head, framing)),
             Err(fault) => Err(fault),

@@ -28,7 +28,7 @@ fn length_of_response(
         },
         ResponseFraming::Chunks | ResponseFraming::Length(_) | ResponseFraming::ToTheEnd => {
             let digits = body.get().len().to_string(alloc)?;
-            Ok(Some(Bytes::new(alloc, digits.as_bytes())?))
+            Ok(Some(Bytes::from_vec(digits.into_bytes())))
         }
     }
 }

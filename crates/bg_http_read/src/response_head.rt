@@ -1,34 +1,40 @@
 //! The head of a response, found at the front of bytes.
-ghost use Rattle.std.specs.Prelude.{◌≡◌, ◌≤◌, IfOk, IfErr, IfSome, IfNone, OnErr, length, drop};
-ghost use Rattle.httparse.specs.Grammar.{HasNoResponse, MayBecomeResponse};
+ghost use Rattle.std.specs.Prelude.{◌≤◌, IfOk, IfErr, IfSome, IfNone, OnErr, length, drop};
+ghost use Rattle.httparse.specs.Grammar.{HasNoResponse, MayBecomeResponse, NeverHasResponse};
+ghost use Rattle.httparse.specs.Outcome.{IfComplete, OnPartial};
+ghost use Rattle.httparse.specs.Spans.{IsResponseOf, IsResponseWithin};
 ghost use Rattle.bg_http_read.specs.HeadFaults.{ResponseHeadFails, of_head};
 ghost use Rattle.bg_http_read.specs.ResponseHeads.{ReadsResponseHead, ResponseHeadIsCut};
 
 use crate::head_fault::HeadFault;
 use crate::head_limits::{MOST_FIELDS, MOST_HEAD, ROOM, copy_fields};
 use bg_http::{Bytes, ResponseHead};
-use httparse::Status;
-use httparse::spans::{HeaderSpan, parse_response};
+use httparse::spans::{EMPTY_HEADER_SPAN, HeaderSpan, ResponseSpans, parse_response};
+use httparse::{Error, Status};
 use std::alloc::Global;
 
-/// The head at the front of at most 16,384 bytes, and how many of them it takes; none where there
-/// is none yet. The room holds each field that fits in so many bytes.
-fn parse_response_head(
+/// The head that the parser found in at most 16,384 bytes, and how many of them it takes; none
+/// where it wants more. An error of the parser says that the bytes are no head, whatever follows.
+fn response_head_of(
     alloc: Global,
     bytes: &[u8],
-    room: &mut [HeaderSpan],
+    room: &[HeaderSpan],
+    parsed: httparse::Result<ResponseSpans>,
 ) -> Result<Option<(ResponseHead, usize)>, HeadFault>
-    requires room { ROOM ≤ length room.old }
     requires size { length bytes.now ≤ MOST_HEAD }
+    requires spans { IfComplete parsed (IsResponseWithin bytes.now room.now) }
+    requires complete { IfComplete parsed (IsResponseOf bytes.now room.now) }
+    requires partial { OnPartial parsed (HasNoResponse bytes.now) }
+    requires unfinished { OnPartial parsed (MayBecomeResponse bytes.now) }
+    requires invalid { OnErr parsed (NeverHasResponse bytes.now) }
     ensures within { IfOk result (λ found. IfSome found (λ at. at.1 ≤ length bytes.now)) }
     ensures head { IfOk result (λ found. IfSome found (λ at.
         ReadsResponseHead bytes.now at.0 (drop at.1 bytes.now))) }
     ensures none_yet { IfOk result (λ found. IfNone found (
         HasNoResponse bytes.now × MayBecomeResponse bytes.now)) }
     ensures none { IfErr result (λ fault. ResponseHeadFails bytes.now (of_head fault)) }
-    ensures room_kept { length room.new ≡ length room.old }
 {
-    match parse_response(bytes, room) {
+    match parsed {
         Ok(Status::Complete(spans)) => {
             if spans.headers > MOST_FIELDS {
                 return Err(HeadFault::TooLarge);
@@ -48,23 +54,61 @@ fn parse_response_head(
     }
 }
 
+/// What `parse_response_head` gives for bytes of more fields than a head may have. Its room holds
+/// each field that fits in so many bytes, so that what comes after the first 64 is judged too.
+fn parse_crowded_response_head(
+    alloc: Global,
+    bytes: &[u8],
+) -> Result<Option<(ResponseHead, usize)>, HeadFault>
+    requires { length bytes.now ≤ MOST_HEAD }
+    ensures within { IfOk result (λ found. IfSome found (λ at. at.1 ≤ length bytes.now)) }
+    ensures head { IfOk result (λ found. IfSome found (λ at.
+        ReadsResponseHead bytes.now at.0 (drop at.1 bytes.now))) }
+    ensures none_yet { IfOk result (λ found. IfNone found (
+        HasNoResponse bytes.now × MayBecomeResponse bytes.now)) }
+    ensures none { IfErr result (λ fault. ResponseHeadFails bytes.now (of_head fault)) }
+{
+    let mut room = vec![in alloc; EMPTY_HEADER_SPAN; ROOM]?;
+    let spans = room.as_mut_slice();
+    let parsed = parse_response(bytes, spans);
+    response_head_of(alloc, bytes, spans, parsed)
+}
+
+/// The head at the front of at most 16,384 bytes, and how many of them it takes; none where there
+/// is none yet.
+fn parse_response_head(
+    alloc: Global,
+    bytes: &[u8],
+) -> Result<Option<(ResponseHead, usize)>, HeadFault>
+    requires { length bytes.now ≤ MOST_HEAD }
+    ensures within { IfOk result (λ found. IfSome found (λ at. at.1 ≤ length bytes.now)) }
+    ensures head { IfOk result (λ found. IfSome found (λ at.
+        ReadsResponseHead bytes.now at.0 (drop at.1 bytes.now))) }
+    ensures none_yet { IfOk result (λ found. IfNone found (
+        HasNoResponse bytes.now × MayBecomeResponse bytes.now)) }
+    ensures none { IfErr result (λ fault. ResponseHeadFails bytes.now (of_head fault)) }
+{
+    let mut room = [EMPTY_HEADER_SPAN; MOST_FIELDS];
+    match parse_response(bytes, &mut room) {
+        Err(Error::TooManyHeaders) => parse_crowded_response_head(alloc, bytes),
+        parsed => response_head_of(alloc, bytes, &room, parsed),
+    }
+}
+
 /// The head at the front, and how many bytes it takes; none where there is none yet. A head has at
 /// most 16,384 bytes and 64 fields.
 pub(crate) fn find_response_head(
     alloc: Global,
     bytes: &[u8],
-    room: &mut [HeaderSpan],
 ) -> Result<Option<(ResponseHead, usize)>, HeadFault>
-    requires room { ROOM ≤ length room.old }
     ensures within { IfOk result (λ found. IfSome found (λ at. at.1 ≤ length bytes.now)) }
     ensures head { IfOk result (λ found. IfSome found (λ at.
         ReadsResponseHead bytes.now at.0 (drop at.1 bytes.now))) }
     ensures none_yet { IfOk result (λ found. IfNone found (ResponseHeadIsCut bytes.now)) }
     ensures none { IfErr result (λ fault. ResponseHeadFails bytes.now (of_head fault)) }
-    ensures room_kept { length room.new ≡ length room.old }
 {
     let front = &bytes[..bytes.len().min(MOST_HEAD)];
-    match parse_response_head(alloc, front, room) {
+    match parse_response_head(alloc, front) {
         Ok(None) => {
             if bytes.len() < MOST_HEAD {
                 return Ok(None);

@@ -12,7 +12,7 @@ use crate::final_head::HeadSearch;
 use crate::intake::Intake;
 use crate::response_body::ResponseBody;
 use bg_http::{Request, Response, ResponseFault};
-use std::alloc::{AllocError, Global};
+use std::alloc::Global;
 use std::mem;
 
 /// What of a response is looked for.
@@ -37,18 +37,17 @@ pub(crate) struct ResponseParser<'a> {
 }
 
 impl<'a> ResponseParser<'a> {
-    /// The response to `request`, of which nothing came; refused only where memory is.
-    pub(crate) fn new(alloc: Global, request: &'a Request) -> Result<ResponseParser<'a>, AllocError>
-        ensures fed { IfOk result (λ parser. IsFed parser request.now []) }
-        ensures goes_on { IfOk result (λ parser. IsOpen parser) }
+    /// The response to `request`, of which nothing came.
+    pub(crate) fn new(alloc: Global, request: &'a Request) -> ResponseParser<'a>
+        ensures fed { IsFed result request.now [] }
+        ensures goes_on { IsOpen result }
     {
-        let search = HeadSearch::new(alloc)?;
-        Ok(ResponseParser {
+        ResponseParser {
             alloc,
             request,
             intake: Intake::new(alloc),
-            stage: ResponseStage::Heads(search),
-        })
+            stage: ResponseStage::Heads(HeadSearch::new()),
+        }
     }
 
     /// Adds bytes of the input, and gives the response where it is whole; none where more are

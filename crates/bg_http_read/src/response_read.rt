@@ -20,9 +20,7 @@ fn read_response_from<S: Duplex>(
     ensures fault { IfErr result (λ fault. IfSome (S.remaining stream.old)
         (λ input. ResponseFails request.now input fault)) }
 {
-    let Ok(mut parser) = ResponseParser::new(alloc, request) else {
-        return Err(ResponseFault::OutOfMemory);
-    };
+    let mut parser = ResponseParser::new(alloc, request);
     let mut piece = [0; PIECE];
     for _ in 0..MOST_TURNS {
         let Some(count) = read_piece(stream, &mut piece) else {

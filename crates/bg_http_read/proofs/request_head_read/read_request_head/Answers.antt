@@ -34,7 +34,6 @@ pub loop-preserved : goal.loop-preserved
 loop-preserved g c = record {
   kept = Keeps-trans _ (to_come c.loop.intake (g.S.Read.remaining c.loop.stream)) _ c.loop.invariant.kept c.in-Ok-true.ensures.to_come;
   contents = Keeps-trans _ (g.S.Write.contents c.loop.stream) _ c.loop.invariant.contents c.fill.ensures.kept;
-  room = c.find_request_head.ensures.room_kept ∙ c.loop.invariant.room;
 }
 
 pub returns-in-Err-fill-clause-fault : goal.returns-in-Err-fill-clause-fault

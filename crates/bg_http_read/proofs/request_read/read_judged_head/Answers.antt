@@ -8,18 +8,18 @@ pub returns-in-Ok-judge_request-clause-head : goal.returns-in-Ok-judge_request-c
 returns-in-Ok-judge_request-clause-head g c =
     judged_leaves (to_come c.args.intake.now (g.S.Read.remaining c.args.stream.now))
     (to_come c.read_request_head.new.intake (g.S.Read.remaining c.read_request_head.new.stream))
-    c.in-Ok-read_request_head.head c.in-Ok-judge_request.framing c.in-Ok-read_request_head.ensures.head
+    c.in-Ok.head c.in-Ok-judge_request.framing c.in-Ok.ensures.head
     (sym c.judge_request.ensures ∙ c.in-Ok-judge_request.is)
 
-pub returns-in-Ok-read_request_head-clause-fault : goal.returns-in-Ok-read_request_head-clause-fault
-returns-in-Ok-read_request_head-clause-fault g c =
+pub returns-in-Err-judge_request-clause-fault : goal.returns-in-Err-judge_request-clause-fault
+returns-in-Err-judge_request-clause-fault g c =
     rule_broken (to_come c.args.intake.now (g.S.Read.remaining c.args.stream.now))
     (to_come c.read_request_head.new.intake (g.S.Read.remaining c.read_request_head.new.stream))
-    c.in-Ok-read_request_head.head c.in-Err-judge_request.fault c.in-Ok-read_request_head.ensures.head
+    c.in-Ok.head c.in-Err-judge_request.fault c.in-Ok.ensures.head
     (sym c.judge_request.ensures ∙ c.in-Err-judge_request.is)
 
-pub returns-clause-fault : goal.returns-clause-fault
-returns-clause-fault g c =
+pub returns-in-Err-clause-fault : goal.returns-in-Err-clause-fault
+returns-in-Err-clause-fault g c =
     let first = to_come c.args.intake.now (g.S.Read.remaining c.args.stream.now) in
     subst (λ e. IfSome first (λ input. HeadRefused input e)) (sym c.as_request.ensures)
     (head_lacks first c.in-Err.fault c.in-Err.ensures.fault)

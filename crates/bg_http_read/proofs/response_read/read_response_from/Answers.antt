@@ -5,8 +5,8 @@ use Rattle.bg_http_read.proofs.ResponsePieces.{end_read, end_refused, machine_re
 use Rattle.bg_http_read.proofs.StreamFaults.{if_err_is}
 use Rattle.bg_http_read.proofs.response_read.read_response_from.Goals as goal
 
-pub returns-in_default-read_piece-clause-fault : goal.returns-in_default-read_piece-clause-fault
-returns-in_default-read_piece-clause-fault g c =
+pub returns-in_default-clause-fault : goal.returns-in_default-clause-fault
+returns-in_default-clause-fault g c =
     machine_reading c.args.request.now (g.S.Read.remaining c.args.stream.now)
 
 pub returns-clause-fault : goal.returns-clause-fault

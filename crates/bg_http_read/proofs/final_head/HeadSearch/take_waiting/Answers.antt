@@ -1,5 +1,4 @@
-use Rattle.std.proofs.Common.{rules, ◌≡◌, ◌+◌, suc, true, IsFalse, arith, ap, ◌++◌, drop, length, subst, sym}
-use Rattle.std.proofs.lemmas.List.{length-append, length-take}
+use Rattle.std.proofs.Common.{rules, ◌≡◌, ◌+◌, suc, true, IsFalse, arith, drop, subst, sym}
 use Rattle.bg_http_read.specs.ResponseHeads.{ReadsResponseHead}
 use Rattle.bg_http_read.specs.Responses.{SkipsInterim, names_another}
 use Rattle.bg_http_read.specs.ResponsesFed.{IsRefused, is_of_stream}
@@ -55,13 +54,4 @@ loop-self-preserved c =
           (skips_next c.args.request.now c.loop-self.self.interim seen w (drop c.in-Some.count w) c.in-Some.head
           c.in_ok-framing.framing (c.loop-self.invariant.skips seen skips) reads (sym c.in_ok-framing.ensures) another));
       few = omega (arith, c.loop-self-test.true);
-      room = omega (
-        arith,
-        c.deref_mut.ensures.len,
-        c.find_response_head.ensures.room_kept,
-        c.loop-self.invariant.room,
-        ap length c.deref_mut.ensures.value,
-        length-take c.loop-self.self.room.len (c.find_response_head.new.room ++ drop (length c.find_response_head.new.room) c.loop-self.self.room.items),
-        length-append c.find_response_head.new.room (drop (length c.find_response_head.new.room) c.loop-self.self.room.items),
-      );
     }

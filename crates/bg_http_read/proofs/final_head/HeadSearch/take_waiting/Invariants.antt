@@ -1,4 +1,4 @@
-use Rattle.std.proofs.Common.{ℕ, ◌-◌, ◌≤◌, List, length}
+use Rattle.std.proofs.Common.{ℕ, ◌-◌, ◌≤◌, List}
 use Rattle.bg_http_read.specs.Responses.{SkipsInterim}
 use Rattle.bg_http_read.specs.Streams.{waiting}
 use Rattle.bg_http_read.proofs.final_head.HeadSearch.take_waiting.Given as goal
@@ -9,7 +9,6 @@ invariant-loop-self l = record {
       → SkipsInterim l.request l.initial.self.interim seen (waiting l.initial.intake)
       → SkipsInterim l.request l.self.interim seen (waiting l.intake);
   few : l.self.interim ≤ 17;
-  room : 5461 ≤ length l.self.room.items;
 }
 
 abbrev pub decreases-loop-self : goal.decreases-loop-self
