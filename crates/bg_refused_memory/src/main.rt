@@ -9,6 +9,7 @@
 mod asking;
 mod desks;
 mod histories;
+mod messages;
 mod open_lists;
 mod page;
 mod rooms;
@@ -25,5 +26,6 @@ fn main(rt: HostRuntime) -> Result<(), Stop> {
     histories::make_calls(&rt)?;
     open_lists::make_calls(&rt)?;
     desks::make_calls(&rt)?;
-    rooms::make_calls(&rt)
+    rooms::make_calls(&rt)?;
+    messages::make_calls(&rt)
 }

@@ -1,6 +1,7 @@
 //! Why a call has no answer.
 
 use bg_book::{ControlFault, EnterFault, OpenFault, Reply, RunFault};
+use bg_http::{RequestFault, ResponseFault};
 use bg_revisions::RevisionFault;
 use bg_strategy::StrategyFault;
 use std::alloc::AllocError;
@@ -92,6 +93,24 @@ impl From<RunFault> for Stop {
     fn from(fault: RunFault) -> Stop {
         match fault {
             RunFault::OutOfMemory => Stop::OutOfMemory,
+        }
+    }
+}
+
+impl From<RequestFault> for Stop {
+    fn from(fault: RequestFault) -> Stop {
+        match fault {
+            RequestFault::OutOfMemory => Stop::OutOfMemory,
+            _ => Stop::OtherFault,
+        }
+    }
+}
+
+impl From<ResponseFault> for Stop {
+    fn from(fault: ResponseFault) -> Stop {
+        match fault {
+            ResponseFault::OutOfMemory => Stop::OutOfMemory,
+            _ => Stop::OtherFault,
         }
     }
 }
