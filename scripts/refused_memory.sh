@@ -1,7 +1,7 @@
 #!/bin/sh
 # Runs the built programs with each of their requests for memory refused, one in each run.
 #
-# `bg_refused_memory` makes each public call of the libraries that takes memory, and asks again where it was refused:
+# `bg_refused_memory` makes the calls of the libraries that take memory, and asks again where one was refused:
 # whichever request is refused, it writes the very same, and each call that it makes was refused in some run.
 #
 # `bg_switch` on each row of rows/ ends with `OutOfMemory` on standard error, or answers one line by `OutOfMemory` and

@@ -1,5 +1,5 @@
-//! Makes each public call of the libraries that takes memory. Where memory is refused, it looks at what the refused
-//! call has left, and asks again.
+//! Makes the calls up to `bg_book`, of `bg_http` and of `bg_http_read` that take memory. Where it is refused, it looks
+//! at what the refused call has left, and asks again.
 //!
 //! Standard output names each call that was made, with what came of it, and is the same whichever request for memory
 //! is refused, unless a refused call has changed something. Standard error names each call that was refused.

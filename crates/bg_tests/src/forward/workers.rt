@@ -190,7 +190,16 @@ fn work_none<N: Names + Send + Sync, R: Threads + Wait + Sync>(
     let door = Door::new(rt, desk);
     let clients = Clients { alloc, course };
     let endpoint = Endpoint { alloc, course };
-    run_workers(rt, alloc, &door, &mut seats[..0], &[], &clients, &endpoint, 1);
+    run_workers(
+        rt,
+        alloc,
+        &door,
+        &mut seats[..0],
+        &[],
+        &clients,
+        &endpoint,
+        1,
+    );
 }
 
 /// Makes the ticks.
