@@ -296,6 +296,39 @@ calls {2 * (entered + 2)}
 """)
 
 
+def loopback():
+    """Two clients in turn, byte for byte, before a backend that takes two connections."""
+    got = []
+
+    def answer_twice(listener):
+        for _ in range(2):
+            connection, _ = listener.accept()
+            with connection:
+                request = b""
+                while not request.endswith(b"\r\n\r\n"):
+                    request += connection.recv(65536)
+                got.append(request)
+                connection.sendall(b"HTTP/1.1 200 OK\r\nContent-Length: 2\r\n\r\nok")
+
+    with socket.create_server(("127.0.0.1", 0)) as listener:
+        port = listener.getsockname()[1]
+        backend = threading.Thread(target=answer_twice, args=(listener,), daemon=True)
+        backend.start()
+        switch = Switch(NO_PREVIEW, workers=1, count=2, preview=False)
+        operator = Operator(switch)
+        operator.check(f"open one {port}", "ok 0")
+        operator.check("available 1 1", "ok 0")
+        for _ in range(2):
+            check("an answer", switch.raw(switch.active, b"GET /a HTTP/1.1\r\nHost: web\r\nA: b\r\n\r\n"),
+                  b"HTTP/1.1 200 OK\r\nContent-Length: 2\r\nConnection: close\r\n\r\nok")
+        backend.join(20)
+        operator.connection.sendall(b"quit\n")
+        printed, status = switch.end()
+    check("what went to the backend", got,
+          [b"GET /a HTTP/1.1\r\nHost: web\r\nA: b\r\nVia: 1.1 bg-switch\r\nConnection: close\r\n\r\n"] * 2)
+    check("calls of two requests", (printed.endswith("end\ncalls 4\n"), status), (True, 0))
+
+
 def without_preview():
     """A preview port without a preview service, and a book that is opened late."""
     switch = Switch(NO_PREVIEW, workers=1, count=3)
@@ -380,6 +413,7 @@ def ends_before_a_book():
 
 def main():
     whole_run()
+    loopback()
     without_preview()
     without_descriptors()
     without_threads()
