@@ -8,8 +8,8 @@ use super::fakes::{Line, MANY};
 use super::messages::{CHUNKS, CHUNKS_ON, GET};
 use crate::book::samples::strategy;
 use bg_book::laws::{lent, same_order};
-use bg_book::{Book, Control, Desk, Limits};
-use bg_forward::{Accept, Dial, Door, run_workers};
+use bg_book::{Book, Control, Desk, EnterFault, Left, Limits, Ticket};
+use bg_forward::{Accept, Dial, Door, Gate, run_workers};
 use bg_http::Duplex;
 use bg_ledger::{Blanks, Names, Seat};
 use bg_revisions::Service;
@@ -35,6 +35,31 @@ struct Course {
     dialled: AtomicU64,
     /// How many clients were written their whole answer.
     answered: AtomicU64,
+    /// How many requests have left.
+    left: AtomicU64,
+    /// How many have left before as many clients were answered.
+    left_early: AtomicU64,
+}
+
+/// A gate that counts the requests that leave.
+#[derive(Drop)]
+struct Counted<'a, G> {
+    behind: &'a G,
+    course: &'a Course,
+}
+
+impl<N: Names, G: Gate<N>> Gate<N> for Counted<'_, G> {
+    fn enter(&self, seat: &mut Seat<N>, service: Service) -> Result<Ticket, EnterFault> {
+        self.behind.enter(seat, service)
+    }
+
+    fn leave(&self, seat: &mut Seat<N>) -> Left {
+        let left = self.course.left.fetch_add(1, Ordering::SeqCst);
+        if self.course.answered.load(Ordering::SeqCst) <= left {
+            self.course.left_early.fetch_add(1, Ordering::SeqCst);
+        }
+        self.behind.leave(seat)
+    }
 }
 
 /// Clients that all ask the same.
@@ -173,7 +198,11 @@ fn work<N: Names + Send + Sync, R: Threads + Wait + Sync>(
     let clients = Clients { alloc, course };
     let endpoint = Endpoint { alloc, course };
     let services = [Service::Active, Service::Active];
-    run_workers(rt, alloc, &door, seats, &services, &clients, &endpoint, 1);
+    let gate = Counted {
+        behind: &door,
+        course,
+    };
+    run_workers(rt, alloc, &gate, seats, &services, &clients, &endpoint, 1);
 }
 
 /// Works no seat of them.
@@ -300,9 +329,13 @@ fn two_at_once(rt: HostRuntime) -> Result<(), Fail> {
     let course = Course {
         dialled: AtomicU64::new(0),
         answered: AtomicU64::new(0),
+        left: AtomicU64::new(0),
+        left_early: AtomicU64::new(0),
     };
     let worked = with_new_names(&rt, rt.alloc(), &course)?;
     assert_eq!(rt; course.answered.load(Ordering::SeqCst), 2);
+    assert_eq!(rt; course.left.load(Ordering::SeqCst), 2);
+    assert_eq!(rt; course.left_early.load(Ordering::SeqCst), 0);
     assert_eq!(rt; worked.dialled, 2);
     assert_eq!(rt; worked.calls, [2, 2]);
     assert_eq!(rt; worked.entries, 105);
