@@ -172,10 +172,14 @@ class Operator:
 
     def order(self, line):
         self.connection.sendall(line.encode() + b"\n")
-        reply = self.replies.readline()
-        while line == "report" and not reply.endswith("end\n"):
-            reply += self.replies.readline()
-        return reply.rstrip("\n")
+        return self.replies.readline().rstrip("\n")
+
+    def report(self):
+        self.connection.sendall(b"report\n")
+        text = ""
+        while not text.endswith("end\n") and (line := self.replies.readline()):
+            text += line
+        return text
 
     def check(self, line, wanted):
         check(line, self.order(line), wanted)
@@ -196,6 +200,7 @@ def before_the_book(switch):
     operator.check("leave 0", "refused NotHere")
     operator.check("jump", "fault UnknownWord")
     operator.check("open V1 1", "refused BadName")
+    operator.check("tick 2", "refused NotOpen")
     # a connection that ends in the middle of a line
     operator.connection.sendall(b"open web")
     operator.close()
@@ -289,9 +294,13 @@ def whole_run():
     check("no endpoint listens", switch.get(switch.preview), (502, b""))
     second.check("abort", "ok 0")
     check("active after the abort", switch.get(switch.active), (200, b"two"))
+    # a request leaves after its client was answered
+    time.sleep(0.2)
+    told = second.report()
     second.connection.sendall(b"quit\n")
     printed, status = switch.end()
     check("status", status, 0)
+    check("the operator's report", printed.startswith(told) and told != "", True)
     check("the last report", printed, f"""moment 30
 phase aborted
 active 2
