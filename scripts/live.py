@@ -123,15 +123,15 @@ class Switch:
             self.left[port] -= 1
         return socket.create_connection(("127.0.0.1", port), timeout=20)
 
-    def raw(self, port, request, pieces=1):
-        """What a client that sends these bytes, in so many pieces, and ends its side, is answered, or None where the
+    def raw(self, port, request, *later):
+        """What a client that sends these bytes, and others later, and ends its side, is answered, or None where the
         connection is reset."""
-        size = -(-len(request) // pieces)
         with self.connect(port) as connection:
             try:
-                for start in range(0, len(request), size):
-                    connection.sendall(request[start:start + size])
-                    time.sleep(0.02 if pieces > 1 else 0)
+                connection.sendall(request)
+                for piece in later:
+                    time.sleep(0.05)
+                    connection.sendall(piece)
                 connection.shutdown(socket.SHUT_WR)
                 answer = b""
                 while piece := connection.recv(65536):
@@ -242,7 +242,7 @@ def refused_messages(switch):
     check("no Host", switch.raw(active, b"GET / HTTP/1.1\r\n\r\n"), refusal(b"400 Bad Request"))
     check("two lengths", switch.raw(active, b"GET / HTTP/1.1\r\nHost: x\r\nContent-Length: 1\r\nTransfer-Encoding: chunked\r\n\r\n"),
           refusal(b"400 Bad Request"))
-    check("too large", switch.raw(active, b"POST / HTTP/1.1\r\nHost: x\r\nContent-Length: 1048577\r\n\r\n" + b"x" * 600000, pieces=10),
+    check("too large", switch.raw(active, b"POST / HTTP/1.1\r\nHost: x\r\nContent-Length: 1048577\r\n\r\n", *[b"x" * 60000] * 10),
           refusal(b"413 Content Too Large"))
     check("a large head", switch.raw(active, b"GET / HTTP/1.1\r\n" + b"A: b\r\n" * 65 + b"\r\n"), refusal(b"431 Request Header Fields Too Large"))
     check("CONNECT", switch.raw(active, b"CONNECT / HTTP/1.1\r\nHost: x\r\n\r\n"), refusal(b"501 Not Implemented"))
