@@ -22,7 +22,7 @@ pub trait Accept {
     /// Waits for the next client of a service.
     fn accept(&self, service: Service) -> io::Result<Self::Stream>;
 
-    /// Ends the connection of a client that was answered. Where its request wasn't read whole, which
-    /// `whole` says, the client may still be sending it.
+    /// Ends the connection of a client, once its seat is out. `whole` is true only where its request
+    /// was read whole; else the client may still be sending it.
     fn close(&self, client: Self::Stream, whole: bool);
 }

@@ -15,8 +15,8 @@ use std::sync::Wait;
 use std::thread::{Threads, join_mut};
 use std::time::Clock;
 
-/// The service of each of so many workers. That of the preview service comes last: where no threads can
-/// be had, std works the seats one after the other from the last one on.
+/// The service of each of so many workers. That of the preview service comes last. Where no threads can
+/// be had, its worker takes its connections first: std works the seats from the last one on then.
 pub fn services_of(alloc: Global, seats: u32, has_preview: bool) -> Result<Vec<Service>, AllocError>
     ensures { IfOk result (λ services. length services.items ≡ seats) }
 {
