@@ -6,4 +6,4 @@ pub mod Words
 pub mod Shapes
 pub mod Commands
 pub mod FaultNames
-pub mod ScriptLines
+pub mod OperatorLines

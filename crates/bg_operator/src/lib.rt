@@ -1,16 +1,16 @@
 //! What an operator writes: the lines of any reader, the strategy before them, and what a line orders.
 //!
 //! [`part_before_script`] and [`whole_input`] take the bytes of a strategy from any buffered reader,
-//! [`ScriptLines`] takes one line after the other, and [`parse_line`] says what a line orders. A line
+//! [`OperatorLines`] takes one line after the other, and [`parse_line`] says what a line orders. A line
 //! of more than 4,096 bytes and a strategy of more than 1,048,576 are answered as such, and not kept.
 #![tactic(auto)]
 
 mod command;
 mod line_fault;
 mod lines;
+mod operator_lines;
 mod parsing;
 mod read_fault;
-mod script_lines;
 mod strategy_part;
 mod taking;
 mod vocabulary;
@@ -19,7 +19,7 @@ mod words;
 pub use command::Command;
 pub use line_fault::LineFault;
 pub use lines::{Found, next_line};
+pub use operator_lines::{NextLine, OperatorLines};
 pub use parsing::parse_line;
 pub use read_fault::ReadFault;
-pub use script_lines::ScriptLines;
 pub use strategy_part::{StrategyPart, part_before_script, whole_input};

@@ -13,16 +13,17 @@ use Rattle.bg_operator.specs.declared.command.Command.TheVariants as command
 use Rattle.bg_operator.specs.declared.line_fault.LineFault.{LineFault}
 use Rattle.bg_operator.specs.Commands.{IsReadAs, line_reading}
 use Rattle.bg_operator.specs.Lines.{lines_of}
+use Rattle.bg_operator.specs.declared.operator_lines.NextLine.TheVariants as next_line
+use Rattle.bg_operator.specs.OperatorLines.{NextIs}
 use Rattle.bg_script.specs.declared.answer.Answer.{Answer}
 use Rattle.bg_script.specs.declared.answer.Answer.TheVariants as answer
 use Rattle.bg_book.specs.declared.calls.Control.{Control}
 use Rattle.bg_book.specs.declared.calls.Reply.{Reply}
-use Rattle.bg_script.specs.declared.control_lines.NextLine.TheVariants as next_line
 use Rattle.bg_script.specs.declared.control_side.BeforeOpen.TheVariants as before_open
 use Rattle.bg_script.specs.declared.control_side.ControlEnd.TheVariants as control_end
 use Rattle.bg_script.specs.AnswerTexts.{answer_text}
 use Rattle.bg_script.specs.Scripts.{Written, Said, Reported, text_of, written_text}
-use Rattle.bg_script.specs.Connections.{AnsweredBy, AnswersAtDesk, AnswersBeforeOpen, ClosedAnswer, StepBeforeOpen, DeskStep, EventAnswer, HasNext, MayBeAsked, WroteAnswers, WroteAtDesk, WroteReport}
+use Rattle.bg_script.specs.Connections.{AnsweredBy, AnswersAtDesk, AnswersBeforeOpen, ClosedAnswer, StepBeforeOpen, DeskStep, EventAnswer, MayBeAsked, WroteAnswers, WroteAtDesk, WroteReport}
 
 abbrev pub Step : Type 1
 Step = Result Command LineFault → Written → Type 0
@@ -40,7 +41,7 @@ goes_nowhere step first xs = λ last rest later answers appended. record { all =
 
 -- one more line is answered
 goes_on : (step : Step) (first now new : Option (List ℕ)) (read : Result Command LineFault) (written : Written) (xs ys zs : List ℕ)
-    → Goes step first now xs ys → HasNext (next_line.Read read) ys zs → (MayBeAsked read → step read written) → Appends now new (written_text written)
+    → Goes step first now xs ys → NextIs (next_line.Read read) ys zs → (MayBeAsked read → step read written) → Appends now new (written_text written)
     → Goes step first new xs zs
 goes_on step first now new read written xs ys zs p line s wrote = λ last rest later answers appended.
     let more : AnsweredBy step (lines_of ys) rest (written ∷ later) =
@@ -48,12 +49,12 @@ goes_on step first now new read written xs ys zs p line s wrote = λ last rest l
     p last rest (written ∷ later) more (Appends-trans now new last _ _ wrote appended)
 
 pub goes_on_closed : (first now new : Option (List ℕ)) (read : Result Command LineFault) (said : Answer) (xs ys zs : List ℕ)
-    → Goes StepBeforeOpen first now xs ys → HasNext (next_line.Read read) ys zs → (MayBeAsked read → ClosedAnswer read said) → Appends now new (answer_text said)
+    → Goes StepBeforeOpen first now xs ys → NextIs (next_line.Read read) ys zs → (MayBeAsked read → ClosedAnswer read said) → Appends now new (answer_text said)
     → Goes StepBeforeOpen first new xs zs
 goes_on_closed first now new read said xs ys zs p line s wrote = goes_on StepBeforeOpen first now new read (Said said) xs ys zs p line s wrote
 
 pub goes_on_at_desk : (first now new : Option (List ℕ)) (read : Result Command LineFault) (xs ys zs : List ℕ)
-    → Goes DeskStep first now xs ys → HasNext (next_line.Read read) ys zs → WroteAtDesk read now new → Goes DeskStep first new xs zs
+    → Goes DeskStep first now xs ys → NextIs (next_line.Read read) ys zs → WroteAtDesk read now new → Goes DeskStep first new xs zs
 goes_on_at_desk first now new read xs ys zs p line w = goes_on DeskStep first now new read w.written xs ys zs p line w.step w.appended
 
 -- no further line is answered
@@ -61,26 +62,26 @@ stops : (step : Step) (first now : Option (List ℕ)) (xs ys : List ℕ) → Goe
 stops step first now xs ys p = p now (lines_of ys) [] refl (Appends-nil now)
 
 pub opens : (first now : Option (List ℕ)) (read : Result Command LineFault) (name ports : List ℕ) (xs ys zs : List ℕ) → Goes StepBeforeOpen first now xs ys
-    → HasNext (next_line.Read read) ys zs → read ≡ Ok (command.Open name ports) → AnswersBeforeOpen (before_open.Open name ports) first now xs zs
+    → NextIs (next_line.Read read) ys zs → read ≡ Ok (command.Open name ports) → AnswersBeforeOpen (before_open.Open name ports) first now xs zs
 opens first now read name ports xs ys zs p line is = record {
   rest = lines_of ys;
   wrote = stops StepBeforeOpen first now xs ys p;
   ends = (line.0, line.1, subst (λ r. IsReadAs (line_reading line.0) r) is line.2.0);
 }
 
-pub quits_before_open : (first now : Option (List ℕ)) (xs ys zs : List ℕ) → Goes StepBeforeOpen first now xs ys → HasNext next_line.Quit ys zs
+pub quits_before_open : (first now : Option (List ℕ)) (xs ys zs : List ℕ) → Goes StepBeforeOpen first now xs ys → NextIs next_line.Quit ys zs
     → AnswersBeforeOpen before_open.Quit first now xs zs
 quits_before_open first now xs ys zs p line = record { rest = lines_of ys; wrote = stops StepBeforeOpen first now xs ys p; ends = line }
 
-pub ends_before_open : (first now : Option (List ℕ)) (xs ys zs : List ℕ) → Goes StepBeforeOpen first now xs ys → HasNext next_line.End ys zs
+pub ends_before_open : (first now : Option (List ℕ)) (xs ys zs : List ℕ) → Goes StepBeforeOpen first now xs ys → NextIs next_line.End ys zs
     → AnswersBeforeOpen before_open.End first now xs zs
 ends_before_open first now xs ys zs p line = record { rest = lines_of ys; wrote = stops StepBeforeOpen first now xs ys p; ends = line }
 
-pub quits_at_desk : (first now : Option (List ℕ)) (xs ys zs : List ℕ) → Goes DeskStep first now xs ys → HasNext next_line.Quit ys zs
+pub quits_at_desk : (first now : Option (List ℕ)) (xs ys zs : List ℕ) → Goes DeskStep first now xs ys → NextIs next_line.Quit ys zs
     → AnswersAtDesk control_end.Quit first now xs zs
 quits_at_desk first now xs ys zs p line = record { rest = lines_of ys; wrote = stops DeskStep first now xs ys p; ends = line }
 
-pub ends_at_desk : (first now : Option (List ℕ)) (xs ys zs : List ℕ) → Goes DeskStep first now xs ys → HasNext next_line.End ys zs
+pub ends_at_desk : (first now : Option (List ℕ)) (xs ys zs : List ℕ) → Goes DeskStep first now xs ys → NextIs next_line.End ys zs
     → AnswersAtDesk control_end.End first now xs zs
 ends_at_desk first now xs ys zs p line = record { rest = lines_of ys; wrote = stops DeskStep first now xs ys p; ends = line }
 

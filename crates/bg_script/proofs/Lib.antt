@@ -1,6 +1,5 @@
 pub mod FoundInBytes
 pub mod ScriptSteps
 pub mod ControlSteps
-pub mod LongLines
 pub mod ReplayedBytes
 pub mod FreshBuffer

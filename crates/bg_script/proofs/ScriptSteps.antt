@@ -1,6 +1,6 @@
 -- Lemmas on the steps of a script.
 use Rattle.std.proofs.Common.{◌≡◌, ℕ, Bool, true, false, ◌||◌, List, [], ◌∷◌, inl, inr, refl, sym, ap, ◌∙◌, subst, Option, None, Some, IfSome}
-use Rattle.std.specs.Prelude.{Result}
+use Rattle.std.specs.Prelude.{◌≢◌, Result}
 use Rattle.std.specs.Io.KnownBytes.{Appends}
 use Rattle.std.proofs.KnownBytes.{Appends-trans, Appends-nil}
 use Rattle.bg_operator.specs.declared.command.Command.{Command}
@@ -8,7 +8,9 @@ use Rattle.bg_operator.specs.declared.line_fault.LineFault.{LineFault}
 use Rattle.bg_operator.specs.Lines.{lines_of}
 use Rattle.bg_operator.specs.Reading.{Known}
 use Rattle.bg_script.specs.declared.answer.Answer.TheVariants.{Opened}
-use Rattle.bg_operator.specs.ScriptLines.{NextIs}
+use Rattle.bg_operator.specs.declared.operator_lines.NextLine.{NextLine}
+use Rattle.bg_operator.specs.declared.operator_lines.NextLine.TheVariants as next_line
+use Rattle.bg_operator.specs.OperatorLines.{NextIs}
 use Rattle.bg_script.specs.Scripts.{Stage, Written, Said, Ran, Answered, is_fault_written, has_fault, text_of}
 use Rattle.bg_script.specs.Serving.{RanOpened, StepRead, Served}
 
@@ -29,7 +31,7 @@ or_false false = refl
 
 -- one more line is answered
 pub goes_on : (start stage next : Stage) (first now new : Option (List ℕ)) (faulted fault : Bool) (read : Result Command LineFault) (xs ys zs : List ℕ)
-    → Goes start first now stage faulted xs ys → NextIs (Some read) ys zs → Served stage read now new next fault
+    → Goes start first now stage faulted xs ys → NextIs (next_line.Read read) ys zs → Served stage read now new next fault
     → Goes start first new next (faulted || fault) xs zs
 goes_on start stage next first now new faulted fault read xs ys zs p line s = λ last later answers appended.
     let more : Answered stage (lines_of ys) (s.written ∷ later) =
@@ -47,7 +49,7 @@ goes_through start stage first now last faulted later xs ys p r =
 
 -- a book is opened, which is no fault, and all later lines are answered
 pub goes_opened : (start stage next : Stage) (first now last : Option (List ℕ)) (faulted later : Bool) (read : Result Command LineFault) (xs ys zs : List ℕ)
-    → Goes start first now stage faulted xs ys → NextIs (Some read) ys zs → StepRead stage read (Said Opened) next → RanOpened next now last later zs
+    → Goes start first now stage faulted xs ys → NextIs (next_line.Read read) ys zs → StepRead stage read (Said Opened) next → RanOpened next now last later zs
     → Ran start first last (faulted || later) xs
 goes_opened start stage next first now last faulted later read xs ys zs p line step r =
     let served : Served stage read now r.begun next false =
@@ -57,15 +59,18 @@ goes_opened start stage next first now last faulted later read xs ys zs p line s
     (goes_through start next first r.begun last (faulted || false) later xs zs
     (goes_on start stage next first now r.begun faulted false read xs ys zs p line served) r.ran)
 
+-- no further line is answered
+none_further : (stage : Stage) (next : NextLine) (ys zs : List ℕ) → ((read : Result Command LineFault) → next ≢ next_line.Read read) → NextIs next ys zs
+    → Answered stage (lines_of ys) []
+none_further stage (next_line.Read read) ys zs none is = absurd (none read refl)
+none_further stage next_line.Quit ys zs none is = subst (λ (l : List (List ℕ)). Answered stage l []) (sym is.1) is.2
+none_further stage next_line.End ys zs none is = subst (λ (l : List (List ℕ)). Answered stage l []) (sym is) tt
+
 -- the script ends here
-pub goes_to_end : (start stage : Stage) (first now : Option (List ℕ)) (faulted : Bool) (xs ys zs : List ℕ)
-    → Goes start first now stage faulted xs ys → NextIs None ys zs → Ran start first now faulted xs
-goes_to_end start stage first now faulted xs ys zs p ends =
-    let none : Answered stage (lines_of ys) [] = elim ends [
-      | inl empty ↦ subst (λ (l : List ℕ). Answered stage (lines_of l) []) (sym empty) tt
-      | inr quits ↦ subst (λ (l : List (List ℕ)). Answered stage l []) (sym quits.1) quits.2
-    ] in
-    subst (λ (t : Bool). Ran start first now t xs) (or_false faulted) (p now [] none (Appends-nil now))
+pub goes_to_end : (start stage : Stage) (first now : Option (List ℕ)) (faulted : Bool) (next : NextLine) (xs ys zs : List ℕ)
+    → Goes start first now stage faulted xs ys → ((read : Result Command LineFault) → next ≢ next_line.Read read) → NextIs next ys zs → Ran start first now faulted xs
+goes_to_end start stage first now faulted next xs ys zs p none is =
+    subst (λ (t : Bool). Ran start first now t xs) (or_false faulted) (p now [] (none_further stage next ys zs none is) (Appends-nil now))
 
 pub Known-some : (P Q : List ℕ → List ℕ → Type 0) (S : List ℕ → Type 0) (first old new : Option (List ℕ)) → ((xs ys zs : List ℕ) → P xs ys → Q ys zs → S xs) → Known first old P → Known old new Q → IfSome first S
 Known-some P Q S None old new f k l = tt

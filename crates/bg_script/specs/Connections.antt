@@ -13,11 +13,9 @@ use Rattle.bg_operator.specs.declared.command.Command.TheVariants as command
 use Rattle.bg_operator.specs.declared.line_fault.LineFault.{LineFault}
 use Rattle.bg_operator.specs.Commands.{IsReadAs, line_reading}
 use Rattle.bg_operator.specs.Lines.{lines_of}
-use Rattle.bg_operator.specs.ScriptLines.{IsRead}
+use Rattle.bg_operator.specs.OperatorLines.{IsQuit}
 use Rattle.bg_script.specs.declared.answer.Answer.{Answer}
 use Rattle.bg_script.specs.declared.answer.Answer.TheVariants as answer
-use Rattle.bg_script.specs.declared.control_lines.NextLine.{NextLine}
-use Rattle.bg_script.specs.declared.control_lines.NextLine.TheVariants as next_line
 use Rattle.bg_script.specs.declared.control_side.Asked.{Asked}
 use Rattle.bg_script.specs.declared.control_side.Asked.TheVariants as asked
 use Rattle.bg_script.specs.declared.control_side.BeforeOpen.{BeforeOpen}
@@ -25,18 +23,6 @@ use Rattle.bg_script.specs.declared.control_side.BeforeOpen.TheVariants as befor
 use Rattle.bg_script.specs.declared.control_side.ControlEnd.{ControlEnd}
 use Rattle.bg_script.specs.declared.control_side.ControlEnd.TheVariants as control_end
 use Rattle.bg_script.specs.Scripts.{Written, Said, Reported, text_of, written_text}
-
--- the first line is `quit`, and the later ones are unread
-abbrev pub IsQuit : List (List ℕ) → List (List ℕ) → Type 0
-IsQuit lines later =
-    (line : List ℕ) × (lines ≡ line ∷ later) × (line_reading line ≡ Ok command.Quit)
-
--- the next line of the bytes xs, where ys are unread then
-abbrev pub HasNext : NextLine → List ℕ → List ℕ → Type 0
-HasNext (next_line.Read read) xs ys =
-    (line : List ℕ) × (lines_of xs ≡ line ∷ lines_of ys) × IsRead line read
-HasNext next_line.Quit xs ys = IsQuit (lines_of xs) (lines_of ys)
-HasNext next_line.End xs ys = lines_of xs ≡ []
 
 -- a line that was read so is one to be answered
 abbrev pub MayBeAsked : Result Command LineFault → Type 0

@@ -10,11 +10,10 @@ ghost use Rattle.bg_script.specs.AnswerTexts.{answer_text};
 ghost use Rattle.bg_script.specs.Connections.{AnswersAtDesk, AnswersBeforeOpen, Asks, ClosedAnswer, EventAnswer, MayBeAsked, WroteAtDesk, WroteReport};
 
 use crate::answer::{Answer, write_answer};
-use crate::control_lines::{ControlLines, NextLine};
 use crate::run_end::RunEnd;
 use bg_book::{Book, Control, Desk, Question, Reply};
 use bg_ledger::Names;
-use bg_operator::{Command, LineFault};
+use bg_operator::{Command, LineFault, NextLine, OperatorLines};
 use bg_revisions::{Name, Ports};
 use std::alloc::Global;
 use std::io::{BufRead, Write};
@@ -50,7 +49,7 @@ pub enum ControlEnd {
 /// orders nothing its fault. A `RunEnd` comes where a read or a write fails, where memory for a line
 /// is refused, and after 2^24 lines.
 pub fn answer_before_open<B: BufRead, W: Write>(
-    lines: &mut ControlLines,
+    lines: &mut OperatorLines,
     reader: &mut B,
     writer: &mut W,
 ) -> Result<BeforeOpen, RunEnd>
@@ -95,7 +94,7 @@ pub fn answer_at_desk<N: Names, R: Wait, B: BufRead, W: Write>(
     rt: &R,
     alloc: Global,
     desk: &Desk<N>,
-    lines: &mut ControlLines,
+    lines: &mut OperatorLines,
     reader: &mut B,
     writer: &mut W,
 ) -> Result<ControlEnd, RunEnd>

@@ -8,7 +8,6 @@
 
 mod answer;
 mod checking;
-mod control_lines;
 mod control_side;
 mod finding;
 mod open_book;
@@ -17,7 +16,6 @@ mod run_end;
 
 pub use answer::{Answer, write_answer};
 pub use checking::{check, finding_of_input};
-pub use control_lines::ControlLines;
 pub use control_side::{BeforeOpen, ControlEnd, answer_at_desk, answer_before_open};
 pub use finding::{Finding, write_finding};
 pub use replaying::replay;

@@ -10,7 +10,7 @@ use crate::finding::{Finding, finding_in, write_finding};
 use crate::open_book::{OpenBook, Terms, say};
 use crate::run_end::RunEnd;
 use bg_ledger::{Blanks, Names};
-use bg_operator::{Command, LineFault, ScriptLines, part_before_script};
+use bg_operator::{Command, LineFault, NextLine, OperatorLines, part_before_script};
 use std::alloc::Global;
 use std::io::{BufRead, BufReader, Read, Write};
 use std::marker::Brand;
@@ -48,7 +48,7 @@ pub fn replay<R: Read, W: Write>(
         strategy,
         seats: u32::from(seats),
     };
-    let mut lines = ScriptLines::new(alloc);
+    let mut lines = OperatorLines::new(alloc);
     let faulted = run(&terms, &mut lines, &mut input, writer)?;
     Ok(u8::from(faulted))
 }
@@ -66,7 +66,7 @@ fn refuse<W: Write>(finding: &Finding, writer: &mut W) -> Result<u8, RunEnd>
 /// Answers each line up to the end or `quit`. Returns whether a fault was among the answers.
 fn run<B: BufRead, W: Write>(
     terms: &Terms,
-    lines: &mut ScriptLines,
+    lines: &mut OperatorLines,
     reader: &mut B,
     writer: &mut W,
 ) -> Result<bool, RunEnd>
@@ -76,7 +76,7 @@ fn run<B: BufRead, W: Write>(
 {
     let mut faulted = false;
     for _ in 0..MOST_LINES {
-        let Some(read) = lines.next(reader)? else {
+        let NextLine::Read(read) = lines.next(reader)? else {
             return Ok(faulted);
         };
         match run_open::<Brand, B, W>(terms, Blanks::new(), &read, lines, reader, writer) {
@@ -99,7 +99,7 @@ fn run_open<N: Names, B: BufRead, W: Write>(
     terms: &Terms,
     blanks: Blanks,
     read: &Result<Command, LineFault>,
-    lines: &mut ScriptLines,
+    lines: &mut OperatorLines,
     reader: &mut B,
     writer: &mut W,
 ) -> Result<Result<bool, RunEnd>, Answer>
@@ -123,7 +123,7 @@ fn run_open<N: Names, B: BufRead, W: Write>(
 /// Says that the book is open, and answers each later line by it.
 fn answer_opened<N: Names, B: BufRead, W: Write>(
     opened: &mut OpenBook<N>,
-    lines: &mut ScriptLines,
+    lines: &mut OperatorLines,
     reader: &mut B,
     writer: &mut W,
 ) -> Result<bool, RunEnd>
@@ -138,7 +138,7 @@ fn answer_opened<N: Names, B: BufRead, W: Write>(
 /// Answers each line by the open book, up to the end or `quit`.
 fn answer_lines<N: Names, B: BufRead, W: Write>(
     opened: &mut OpenBook<N>,
-    lines: &mut ScriptLines,
+    lines: &mut OperatorLines,
     reader: &mut B,
     writer: &mut W,
 ) -> Result<bool, RunEnd>
@@ -148,7 +148,7 @@ fn answer_lines<N: Names, B: BufRead, W: Write>(
 {
     let mut faulted = false;
     for _ in 0..MOST_LINES {
-        let Some(read) = lines.next(reader)? else {
+        let NextLine::Read(read) = lines.next(reader)? else {
             return Ok(faulted);
         };
         let fault = opened.serve(read, writer)?;

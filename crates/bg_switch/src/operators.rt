@@ -2,9 +2,9 @@
 
 use bg_book::Desk;
 use bg_ledger::Names;
+use bg_operator::OperatorLines;
 use bg_script::{
-    Answer, BeforeOpen, ControlEnd, ControlLines, RunEnd, answer_at_desk, answer_before_open,
-    write_answer,
+    Answer, BeforeOpen, ControlEnd, RunEnd, answer_at_desk, answer_before_open, write_answer,
 };
 use std::alloc::Global;
 use std::io::{BufReader, BufWriter, Write};
@@ -15,7 +15,7 @@ use std::sync::Wait;
 #[derive(Drop)]
 pub struct Operator<'a> {
     alloc: Global,
-    lines: ControlLines,
+    lines: OperatorLines,
     reader: BufReader<&'a TcpStream>,
     writer: BufWriter<&'a TcpStream>,
 }
@@ -31,7 +31,7 @@ impl<'a> Operator<'a> {
         };
         Ok(Operator {
             alloc,
-            lines: ControlLines::new(alloc),
+            lines: OperatorLines::new(alloc),
             reader,
             writer,
         })

@@ -5,7 +5,8 @@ ghost use Rattle.bg_ledger.specs.Blanks.{AreAllFor};
 use crate::book::samples::strategy;
 use bg_book::{Book, Desk, Limits};
 use bg_ledger::{Blanks, Names};
-use bg_script::{BeforeOpen, ControlEnd, ControlLines, RunEnd, answer_at_desk, answer_before_open};
+use bg_operator::OperatorLines;
+use bg_script::{BeforeOpen, ControlEnd, RunEnd, answer_at_desk, answer_before_open};
 use std::alloc::Global;
 use std::marker::Brand;
 use std::sync::Wait;
@@ -37,7 +38,7 @@ fault WrongCount
 fn leaves_an_open_to_the_caller(rt: HostRuntime) -> Result<(), Fail> {
     let mut reader = BEFORE.as_bytes();
     let mut answers = Vec::new(rt.alloc());
-    let mut lines = ControlLines::new(rt.alloc());
+    let mut lines = OperatorLines::new(rt.alloc());
     match answer_before_open(&mut lines, &mut reader, &mut answers) {
         Ok(BeforeOpen::Open { name, ports }) => {
             assert_eq!(rt; name.get(), "v1");
@@ -68,7 +69,7 @@ fn answer<N: Names, R: Wait>(
 {
     let strategy = strategy(alloc)?;
     let mut answers = Vec::new(alloc);
-    let mut taken = ControlLines::new(alloc);
+    let mut taken = OperatorLines::new(alloc);
     let (book, seats) = Book::<N>::open(
         alloc,
         &strategy,

@@ -1,5 +1,6 @@
 use Rattle.bg_script.specs.declared.control_side.BeforeOpen.TheVariants as before_open
-use Rattle.bg_script.specs.Connections.{AnswersBeforeOpen, StepBeforeOpen, HasNext}
+use Rattle.bg_operator.specs.OperatorLines.{NextIs}
+use Rattle.bg_script.specs.Connections.{AnswersBeforeOpen, StepBeforeOpen}
 use Rattle.bg_script.proofs.ControlSteps.{Goes, ends_before_open, goes_nowhere, goes_on_closed, opens, quits_before_open}
 use Rattle.bg_script.proofs.ScriptSteps.{Known-both, Known-self}
 use Rattle.bg_script.proofs.control_side.answer_before_open.Goals as goal
@@ -8,7 +9,7 @@ pub returns-in-Quit : goal.returns-in-Quit
 returns-in-Quit g c =
     let first = g.W.Write.contents c.args.writer.now in
     let now = g.W.Write.contents c.loop.writer in
-    Known-both (Goes StepBeforeOpen first now) (HasNext c.in_ok-read.field-0) (AnswersBeforeOpen before_open.Quit first now) _ _ _
+    Known-both (Goes StepBeforeOpen first now) (NextIs c.in_ok-read.field-0) (AnswersBeforeOpen before_open.Quit first now) _ _ _
     (λ xs ys zs p q. quits_before_open first now xs ys zs p (rw c.in-Quit.is at q))
     c.loop.invariant c.in_ok-read.ensures
 
@@ -16,7 +17,7 @@ pub returns-in-End : goal.returns-in-End
 returns-in-End g c =
     let first = g.W.Write.contents c.args.writer.now in
     let now = g.W.Write.contents c.loop.writer in
-    Known-both (Goes StepBeforeOpen first now) (HasNext c.in_ok-read.field-0) (AnswersBeforeOpen before_open.End first now) _ _ _
+    Known-both (Goes StepBeforeOpen first now) (NextIs c.in_ok-read.field-0) (AnswersBeforeOpen before_open.End first now) _ _ _
     (λ xs ys zs p q. ends_before_open first now xs ys zs p (rw c.in-End.is at q))
     c.loop.invariant c.in_ok-read.ensures
 
@@ -24,7 +25,7 @@ pub returns-in-Ok : goal.returns-in-Ok
 returns-in-Ok g c =
     let first = g.W.Write.contents c.args.writer.now in
     let now = g.W.Write.contents c.loop.writer in
-    Known-both (Goes StepBeforeOpen first now) (HasNext c.in_ok-read.field-0) (AnswersBeforeOpen (before_open.Open c.in-Ok.name c.in-Ok.ports) first now) _ _ _
+    Known-both (Goes StepBeforeOpen first now) (NextIs c.in_ok-read.field-0) (AnswersBeforeOpen (before_open.Open c.in-Ok.name c.in-Ok.ports) first now) _ _ _
     (λ xs ys zs p q. opens first now c.in-Read.read c.in-Ok.name c.in-Ok.ports xs ys zs p (rw c.in-Read.is at q) c.in-Ok.ensures.ok)
     c.loop.invariant c.in_ok-read.ensures
 
@@ -33,7 +34,7 @@ loop-preserved g c =
     let first = g.W.Write.contents c.args.writer.now in
     let now = g.W.Write.contents c.loop.writer in
     let new = g.W.Write.contents c.tell.new.writer in
-    Known-both (Goes StepBeforeOpen first now) (HasNext c.in_ok-read.field-0) (Goes StepBeforeOpen first new) _ _ _
+    Known-both (Goes StepBeforeOpen first now) (NextIs c.in_ok-read.field-0) (Goes StepBeforeOpen first new) _ _ _
     (λ xs ys zs p q. goes_on_closed first now new c.in-Read.read c.in-Err.answer xs ys zs p (rw c.in-Read.is at q) c.in-Err.ensures.err c.in_ok-tell-in-Err.ensures)
     c.loop.invariant c.in_ok-read.ensures
 

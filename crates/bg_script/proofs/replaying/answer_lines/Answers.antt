@@ -1,5 +1,6 @@
 use Rattle.std.proofs.Common.{◌||◌}
-use Rattle.bg_operator.specs.ScriptLines.{NextIs}
+use Rattle.bg_operator.specs.declared.operator_lines.NextLine.TheVariants as next_line
+use Rattle.bg_operator.specs.OperatorLines.{NextIs}
 use Rattle.bg_script.specs.Scripts.{Ran, Running}
 use Rattle.bg_script.proofs.ScriptSteps.{Goes, goes_on, goes_to_end, Known-both, Known-some}
 use Rattle.bg_script.proofs.replaying.answer_lines.Goals as goal
@@ -16,7 +17,7 @@ loop-preserved g c =
     let fault = c.in_ok-fault.fault in
     Known-both (Goes start first now stage faulted) (NextIs c.in_ok-read.field-0) (Goes start first new next (faulted || fault)) _ _ _
     (λ xs ys zs p q.
-    goes_on start stage next first now new faulted fault c.in-Some.read xs ys zs p (rw c.in-Some.is at q) c.in_ok-fault.ensures)
+    goes_on start stage next first now new faulted fault c.in-Read.read xs ys zs p (rw c.in-Read.is at q) c.in_ok-fault.ensures)
     c.loop.invariant c.in_ok-read.ensures
 
 pub returns-in_default : goal.returns-in_default
@@ -27,5 +28,5 @@ returns-in_default g c =
     let now = g.W.Write.contents c.loop.writer in
     let faulted = c.loop.faulted in
     Known-some (Goes start first now stage faulted) (NextIs c.in_ok-read.field-0) (Ran start first now faulted) _ _ _
-    (λ xs ys zs p q. goes_to_end start stage first now faulted xs ys zs p (rw c.in_default.is at q))
+    (λ xs ys zs p q. goes_to_end start stage first now faulted c.in_ok-read.field-0 xs ys zs p c.in_default.not-Read q)
     c.loop.invariant c.in_ok-read.ensures

@@ -1,17 +1,20 @@
-//! The lines of a control connection, read one after the other.
+//! The lines of an operator, read one after the other.
 ghost use Rattle.std.specs.Prelude.{List, ℕ, IfOk};
 ghost use Rattle.bg_operator.specs.Reading.{Gives, Known};
-ghost use Rattle.bg_script.specs.Connections.{HasNext};
+ghost use Rattle.bg_operator.specs.OperatorLines.{NextIs};
 
-use crate::run_end::RunEnd;
-use bg_operator::{Command, Found, LineFault, next_line, parse_line};
+use crate::command::Command;
+use crate::line_fault::LineFault;
+use crate::lines::{Found, next_line};
+use crate::parsing::parse_line;
+use crate::read_fault::ReadFault;
 use std::alloc::Global;
 use std::io::BufRead;
 
-/// What a control connection has next.
+/// What comes next in the lines of a script or of a control connection.
 #[derive(Debug, Drop)]
-pub(crate) enum NextLine {
-    /// A line other than `quit` was read.
+pub enum NextLine {
+    /// A line other than `quit`: what it orders, or why it orders nothing.
     Read(Result<Command, LineFault>),
     /// `quit`.
     Quit,
@@ -19,29 +22,28 @@ pub(crate) enum NextLine {
     End,
 }
 
-/// Takes the lines of a control connection. The reader is lent at each call.
-///
-/// They are read as those of a script are, but the end of the connection and `quit` are told apart.
+/// Takes the lines of a script or of a control connection. The reader is lent at each call.
 #[derive(Drop)]
-pub struct ControlLines {
+pub struct OperatorLines {
     alloc: Global,
     line: Vec<u8>,
 }
 
-impl ControlLines {
+impl OperatorLines {
     /// Memory for a line is asked for where it is read.
-    pub fn new(alloc: Global) -> ControlLines {
-        ControlLines {
+    pub fn new(alloc: Global) -> OperatorLines {
+        OperatorLines {
             alloc,
             line: Vec::new(alloc),
         }
     }
 
-    /// What the next line orders, or why it orders nothing. A line that is too long is passed over,
-    /// and is `TooLong`. After a `RunEnd` the reader is of no use.
-    pub(crate) fn next<B: BufRead>(&mut self, reader: &mut B) -> Result<NextLine, RunEnd>
+    /// What comes next. A line that is too long is passed over, and is `TooLong`.
+    ///
+    /// After a `ReadFault` the reader is of no use.
+    pub fn next<B: BufRead>(&mut self, reader: &mut B) -> Result<NextLine, ReadFault>
         ensures { IfOk result (λ next. Known (B.remaining reader.old) (B.remaining reader.new)
-            (HasNext next)) }
+            (NextIs next)) }
     {
         let found = next_line(reader, &mut self.line)?;
         Ok(line_read(self.alloc, found, &self.line))
@@ -50,7 +52,7 @@ impl ControlLines {
 
 /// What a line that was found so orders.
 fn line_read(alloc: Global, found: Found, line: &[u8]) -> NextLine
-    ensures { (xs ys : List ℕ) → Gives found line.now xs ys → HasNext result xs ys }
+    ensures { (xs ys : List ℕ) → Gives found line.now xs ys → NextIs result xs ys }
 {
     match found {
         Found::End => NextLine::End,

@@ -1,6 +1,6 @@
 use Rattle.std.proofs.Common.{inl, sym}
-use Rattle.bg_script.proofs.LongLines.{is_too_long}
-use Rattle.bg_script.proofs.control_lines.line_read.Goals as goal
+use Rattle.bg_operator.proofs.LongLines.{is_too_long}
+use Rattle.bg_operator.proofs.operator_lines.line_read.Goals as goal
 
 pub returns-in-TooLong : goal.returns-in-TooLong
 returns-in-TooLong c xs ys given =
