@@ -1,5 +1,5 @@
-//! The tests of the libraries, over their public calls. They stand in a crate of their own, since a crate that has
-//! tests is proved twice: with them and without.
+//! The tests of the libraries, over their public calls; those of messages alone are bg_http_tests. They stand in crates
+//! of their own, since a crate that has tests is proved twice: with them and without.
 #![tactic(auto)]
 
 #[cfg(test)]
@@ -10,8 +10,6 @@ mod desk;
 mod forward;
 #[cfg(test)]
 mod history;
-#[cfg(test)]
-mod http;
 #[cfg(test)]
 mod ledger;
 #[cfg(test)]

@@ -1,5 +1,5 @@
 //! Requests that are read whole, each input with the answer that the rules give it.
-use crate::http::memory::Memory;
+use crate::memory::Memory;
 use bg_http::{Request, RequestFault};
 use bg_http_read::read_request;
 use std::alloc::{AllocError, Global};

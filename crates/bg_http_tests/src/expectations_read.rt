@@ -1,5 +1,5 @@
 //! Requests that ask for `100 Continue`, and requests that are cut.
-use crate::http::memory::Memory;
+use crate::memory::Memory;
 use bg_http::RequestFault;
 use bg_http_read::read_request;
 use std::test::Fail;
