@@ -3,8 +3,7 @@
 # pairs a second, and fails where the desk costs one thread half as much again as the book, or more.
 set -eu
 bench=$(dirname -- "$0")
-layers='bg_strategy bg_revisions bg_history bg_pasts bg_settling bg_listing bg_promotion bg_scaledown bg_openlist bg_ledger bg_book'
-printed=$("$bench/run.sh" desk "$layers" 'bg_strategy bg_revisions bg_history bg_ledger bg_book')
+printed=$("$bench/run.sh" desk 'bg_strategy bg_revisions bg_history bg_ledger bg_book')
 echo "$printed" | awk '
     { printf "%s, %d thread%s: %.0f pairs a second\n", $1, $2, ($2 > 1 ? "s" : ""), 400000 / $3 * 1e9 }
     $2 == 1 { time[$1] = $3 }

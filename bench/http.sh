@@ -4,7 +4,7 @@
 # pieces of the same size does.
 set -eu
 bench=$(dirname -- "$0")
-printed=$("$bench/run.sh" http 'bg_http bg_http_read' 'bg_http bg_http_read httparse')
+printed=$("$bench/run.sh" http 'bg_http bg_http_read httparse')
 echo "$printed"
 echo "$printed" | awk '{ time[$1] = $2 } END {
     printf "a head read: %.1f times httparse alone; written: %.1f times\n", time["read_head"] / time["find_head"], time["write_head"] / time["find_head"]

@@ -3,7 +3,7 @@
 # and their ratio, and fails where the ratio is 1.5 or more.
 set -eu
 bench=$(dirname -- "$0")
-printed=$("$bench/run.sh" openlist bg_openlist bg_openlist)
+printed=$("$bench/run.sh" openlist bg_openlist)
 echo "$printed" | grep 'turns at'
 percent=$(echo "$printed" | sed -n 's/^ratio in percent: //p')
 echo "ratio: $((percent / 100)).$(printf %02d $((percent % 100)))"

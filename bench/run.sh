@@ -1,8 +1,8 @@
 #!/bin/sh
-# run.sh NAME CRATES USES: proves, builds and runs the program in bench/NAME, and prints what it prints.
+# run.sh NAME USES: proves, builds and runs the program in bench/NAME, and prints what it prints.
 #
-# It stands in a folder of its own, over copies of the crates CRATES; USES are the libraries that it names itself. Its files
-# end in .txt, since the gate wants each source in a listed crate. It needs the kit's `rt` alone.
+# USES are the libraries that it names. It stands in a folder of its own, over copies of them and of what they stand on. Its
+# files end in .txt, since the gate wants each source in a listed crate. It needs the kit's `rt` alone.
 set -eu
 top=$(CDPATH='' cd -- "$(dirname -- "$0")/.." && pwd)
 name=$1
@@ -11,11 +11,23 @@ trap 'rm -rf "$work"' EXIT
 bench=$work/crates/${name}_bench
 mkdir -p "$bench/src"
 cp "$top/HANDLES" "$work/"
-for crate in $2; do
+# Gives these crates and those of crates.txt that they stand on.
+with_those_below() {
+    awk -v names="$1" '
+        /^[a-z]/ { name = $1; sub(":.*", "", name); uses[name] = $0; sub("[^:]*:", "", uses[name]) }
+        function take(names,   list, count, i) {
+            count = split(names, list, " ")
+            for (i = 1; i <= count; i++)
+                if (list[i] in uses && !(list[i] in taken)) { taken[list[i]]; print list[i]; take(uses[list[i]]) }
+        }
+        END { take(names) }' "$top/crates.txt"
+}
+
+for crate in $(with_those_below "$2"); do
     cp -R "$top/crates/$crate" "$work/crates/"
     grep "^$crate\( [a-z_=0-9]*\)*:" "$top/crates.txt" >> "$work/crates.txt"
 done
-echo "${name}_bench: $3" >> "$work/crates.txt"
+echo "${name}_bench: $2" >> "$work/crates.txt"
 cp "$top/bench/$name/main.rt.txt" "$bench/src/main.rt"
 for proof in "$top/bench/$name"/*_Invariants.antt.txt; do
     if [ -e "$proof" ]; then
