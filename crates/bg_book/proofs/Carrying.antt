@@ -12,10 +12,10 @@ use Rattle.bg_promotion.specs.Standing.{Standing}
 use Rattle.bg_promotion.specs.Stands.{StandsFor}
 use Rattle.bg_scaledown.specs.Past.{table_of}
 use Rattle.bg_listing.specs.Listed.{revisions_of}
-use Rattle.bg_book.specs.OpenLists.{OpenAt, lists_of}
+use Rattle.bg_requestlists.specs.RequestLists.{OpenAt}
+use Rattle.bg_book.specs.PastState.{lists_of, seated, seat_of}
 use Rattle.bg_book.specs.Changes.{with_past}
 use Rattle.bg_book.specs.Routing.{Routing}
-use Rattle.bg_book.specs.PastState.{seated, seat_of}
 use Rattle.bg_book.specs.declared.rollout.Rollout.TheInside.{Inside}
 use Rattle.bg_book.specs.Invariant.{Midway, Differ, has_number, RequestsStand, RoutingStands, RunningState, Stands, midway_of}
 use Rattle.bg_book.specs.Recording.{Recorded}

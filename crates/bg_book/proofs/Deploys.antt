@@ -11,8 +11,8 @@ use Rattle.bg_history.specs.Deadlines.{exists_in}
 use Rattle.bg_history.specs.Requests.{Request, open_requests}
 use Rattle.bg_history.specs.Templates.{template, is_named, owner}
 use Rattle.bg_pasts.specs.Reachable.{Reachable}
-use Rattle.bg_book.specs.declared.open_lists.OpenRequest.{OpenRequest}
-use Rattle.bg_book.specs.OpenLists.{listed, requests_at, lists_of}
+use Rattle.bg_requestlists.specs.declared.request_lists.OpenRequest.{OpenRequest}
+use Rattle.bg_book.specs.PastState.{listed, requests_at, lists_of}
 use Rattle.bg_book.proofs.Requests.{eq_from, eq_refl}
 use Rattle.bg_book.proofs.Outcomes.{found_holds}
 use Rattle.bg_book.proofs.Lists.{at}

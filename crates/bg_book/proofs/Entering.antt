@@ -9,11 +9,11 @@ use Rattle.bg_promotion.specs.Stands.{StandsFor}
 use Rattle.bg_book.specs.declared.calls.Ticket.{Ticket}
 use Rattle.bg_ledger.specs.declared.holding.Holding.{Holding}
 use Rattle.bg_book.specs.declared.fault.EnterFault.TheVariants as fault
-use Rattle.bg_book.specs.OpenLists.{OpenAt, changed, lists_of}
+use Rattle.bg_requestlists.specs.RequestLists.{OpenAt, changed}
+use Rattle.bg_book.specs.PastState.{lists_of, seated}
 use Rattle.bg_book.specs.Refusals.{all_open, is_full_for_enter, enter_refusal, enter_refusal_at, IsTicket}
 use Rattle.bg_book.specs.Changes.{enter_entry, seat_in, with_past}
 use Rattle.bg_book.specs.Routing.{Routing}
-use Rattle.bg_book.specs.PastState.{seated}
 use Rattle.bg_book.specs.Invariant.{RoutingStands, RunningState, Stands}
 use Rattle.bg_book.proofs.Events.{passed, within}
 use Rattle.bg_book.proofs.Legal.{legal-Enter, requests-Enter, entered-one}

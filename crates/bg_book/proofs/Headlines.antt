@@ -3,7 +3,7 @@ use Rattle.std.proofs.Common.{◌≡◌, true, List, length, map, ap, ◌∙◌}
 use Rattle.bg_pasts.specs.Reachable.{Reachable}
 use Rattle.bg_history.specs.Steps.{is_settled}
 use Rattle.bg_book.specs.Headline.{Headline}
-use Rattle.bg_book.specs.OpenLists.{OpenAt, list_of}
+use Rattle.bg_requestlists.specs.RequestLists.{OpenAt, list_of}
 use Rattle.bg_book.specs.Routing.{Routing}
 use Rattle.bg_book.specs.Invariant.{RoutingStands}
 use Rattle.bg_book.proofs.ByRule.{reached_by_rule}

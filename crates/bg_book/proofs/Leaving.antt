@@ -9,11 +9,11 @@ use Rattle.bg_promotion.specs.Stands.{StandsFor}
 use Rattle.bg_pasts.specs.Reachable.{stands_scaled}
 use Rattle.bg_ledger.specs.declared.holding.Holding.{Holding}
 use Rattle.bg_ledger.specs.Holdings.{vacated}
-use Rattle.bg_book.specs.OpenLists.{OpenAt, has_request, lists_of, without}
+use Rattle.bg_requestlists.specs.RequestLists.{OpenAt, has_request, without}
+use Rattle.bg_book.specs.PastState.{lists_of, seated, seat_of}
 use Rattle.bg_book.specs.Changes.{with_past}
 use Rattle.bg_book.specs.Refusals.{all_open}
 use Rattle.bg_book.specs.Routing.{Routing}
-use Rattle.bg_book.specs.PastState.{seated, seat_of}
 use Rattle.bg_book.specs.Invariant.{are_apart, Differ, RoutingStands, RunningState, Stands}
 use Rattle.bg_book.proofs.Legal.{legal-Leave, requests-Leave}
 use Rattle.bg_book.proofs.Lists.{has_its_request, lists-Leave}

@@ -1,6 +1,5 @@
 pub mod Requests
 pub mod Lists
-pub mod Linked
 pub mod Legal
 pub mod Seats
 pub mod Seating

@@ -13,8 +13,9 @@ use Rattle.bg_history.specs.Sizes.{existing, AllAbove, Ascends}
 use Rattle.bg_history.specs.Deadlines.{exists_in}
 use Rattle.bg_history.specs.Requests.{Request, open_requests, open_at, held_by}
 use Rattle.bg_pasts.specs.Reachable.{stands_scaled}
-use Rattle.bg_book.specs.declared.open_lists.OpenRequest.{OpenRequest}
-use Rattle.bg_book.specs.OpenLists.{OpenAt, requests_in, list_of, changed, without, has_request, is_empty_at, listed, requests_at, lists_of}
+use Rattle.bg_requestlists.specs.declared.request_lists.OpenRequest.{OpenRequest}
+use Rattle.bg_requestlists.specs.RequestLists.{OpenAt, requests_in, list_of, changed, without, has_request, is_empty_at}
+use Rattle.bg_book.specs.PastState.{listed, requests_at, lists_of}
 use Rattle.bg_book.specs.Invariant.{Differ}
 use Rattle.bg_book.proofs.Requests.{and_both, and_parts, eq_from, eq_refl, by_seat}
 

@@ -13,8 +13,9 @@ use Rattle.bg_history.specs.Steps.{all_allowed}
 use Rattle.bg_history.specs.Templates.{template}
 use Rattle.bg_pasts.specs.Reachable.{Reachable, stands_scaled}
 use Rattle.bg_ledger.specs.declared.holding.Holding.{Holding}
-use Rattle.bg_book.specs.declared.open_lists.OpenRequest.{OpenRequest}
-use Rattle.bg_book.specs.OpenLists.{OpenAt, list_of, listed}
+use Rattle.bg_requestlists.specs.declared.request_lists.OpenRequest.{OpenRequest}
+use Rattle.bg_requestlists.specs.RequestLists.{OpenAt, list_of}
+use Rattle.bg_book.specs.PastState.{listed}
 use Rattle.bg_book.specs.Invariant.{RoutingStands}
 use Rattle.bg_book.specs.Meeting.{Meets, ports_in}
 use Rattle.bg_book.specs.Routing.{Routing}

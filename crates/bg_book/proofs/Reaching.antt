@@ -15,7 +15,7 @@ use Rattle.bg_book.specs.Refusals.{all_open, event_of}
 use Rattle.bg_settling.specs.Work.{work}
 use Rattle.bg_book.specs.Changes.{with_past, Stepped}
 use Rattle.bg_book.specs.Routing.{Routing}
-use Rattle.bg_book.specs.OpenLists.{lists_of}
+use Rattle.bg_book.specs.PastState.{lists_of}
 use Rattle.bg_book.specs.Settling.{Reached}
 
 -- nothing was recorded yet

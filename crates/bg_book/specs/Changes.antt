@@ -10,7 +10,7 @@ use Rattle.bg_history.specs.Steps.{Step}
 use Rattle.bg_book.specs.declared.calls.Ticket.{Ticket}
 use Rattle.bg_ledger.specs.declared.holding.Holding.{Holding}
 use Rattle.bg_ledger.specs.Holdings.{fresh, occupied}
-use Rattle.bg_book.specs.OpenLists.{lists_of}
+use Rattle.bg_book.specs.PastState.{lists_of}
 use Rattle.bg_book.specs.Routing.{Routing}
 
 -- the past became the new one by this event and as many outcomes, each the first that was allowed,

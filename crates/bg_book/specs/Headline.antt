@@ -12,9 +12,9 @@ use Rattle.bg_history.specs.Requests.{open_at}
 use Rattle.bg_history.specs.Steps.{IsLegal, is_settled}
 use Rattle.bg_pasts.specs.Reachable.{stands_scaled}
 use Rattle.bg_ledger.specs.declared.holding.Holding.{Holding}
-use Rattle.bg_book.specs.OpenLists.{list_of, lists_of, requests_at}
+use Rattle.bg_requestlists.specs.RequestLists.{list_of}
+use Rattle.bg_book.specs.PastState.{lists_of, requests_at, SeatsStand}
 use Rattle.bg_book.specs.Routing.{Routing}
-use Rattle.bg_book.specs.PastState.{SeatsStand}
 
 -- the entry is a switch that is allowed
 abbrev pub switches_by_rule : Strategy → Entry → List Entry → Bool

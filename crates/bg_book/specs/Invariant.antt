@@ -13,10 +13,9 @@ use Rattle.bg_scaledown.specs.Tables.{Table}
 use Rattle.bg_scaledown.specs.Past.{table_of}
 use Rattle.bg_listing.specs.Listed.{revisions_of}
 use Rattle.bg_book.specs.declared.rollout.Rollout.TheInside.{Inside}
-use Rattle.bg_book.specs.OpenLists.{lists_of}
+use Rattle.bg_book.specs.PastState.{lists_of, SeatsStand}
 use Rattle.bg_book.specs.Refusals.{all_open, usual_limits}
 use Rattle.bg_book.specs.Routing.{Routing}
-use Rattle.bg_book.specs.PastState.{SeatsStand}
 
 -- a rollout in the middle of a call, as contracts see it: the routing, and the places that are
 -- reserved in the history

@@ -1,4 +1,3 @@
-pub mod OpenLists
 pub mod Routing
 pub mod PastState
 pub mod ControlFaults

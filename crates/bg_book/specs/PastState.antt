@@ -1,11 +1,14 @@
 -- The state that a past asks for: what the readers of a book answer.
-use Rattle.std.specs.Prelude.{◌≡◌, ◌<◌, ℕ, Bool, not, ◌&&◌, List, length, slice_get, Option, Some, None}
+use Rattle.std.specs.Prelude.{◌≡◌, ◌<◌, ◌==◌, ℕ, Bool, not, ◌&&◌, List, filter, length, map, slice_get, Option, Some, None}
 use Rattle.bg_strategy.specs.declared.strategy.Strategy.{Strategy}
 use Rattle.bg_history.specs.declared.entry.Entry.{Entry}
 use Rattle.bg_history.specs.Kept.{Opening}
-use Rattle.bg_history.specs.Requests.{Request, held_by, calls_of, open_at}
+use Rattle.bg_history.specs.Requests.{Request, held_by, calls_of, open_at, open_requests}
+use Rattle.bg_history.specs.Sizes.{existing}
 use Rattle.bg_history.specs.Deadlines.{is_due, is_empty}
 use Rattle.bg_ledger.specs.declared.holding.Holding.{Holding}
+use Rattle.bg_requestlists.specs.declared.request_lists.OpenRequest.{OpenRequest}
+use Rattle.bg_requestlists.specs.RequestLists.{OpenAt}
 use Rattle.bg_ledger.specs.Holdings.{fresh}
 
 -- r is due and holds an open request
@@ -32,3 +35,15 @@ pub record SeatsStand (o : Opening) (closed : List ℕ) (past : List Entry)
     (seats : List Holding) : Type 0 where
   pub count : length seats ≡ o.seats
   pub each : (i : ℕ) → i < o.seats → slice_get seats i ≡ Some (seat_of closed i past)
+
+-- the seat and the number of a request
+abbrev pub listed : Request → OpenRequest
+listed q = record { seat = q.seat; number = q.number }
+
+-- the list of revision r that a past asks for
+abbrev pub requests_at : ℕ → List Entry → List OpenRequest
+requests_at r past = map listed (filter (λ q. q.revision == r) (open_requests past))
+
+-- the list of each existing revision, in order of number
+abbrev pub lists_of : List Entry → List OpenAt
+lists_of past = map (λ r. record { revision = r; requests = requests_at r past }) (existing past)

@@ -10,7 +10,6 @@ use crate::book::Book;
 use crate::calls::Ticket;
 use crate::fault::EnterFault;
 use crate::limits::PLACES_OF_A_REQUEST;
-use crate::open_lists::OpenRequest;
 use crate::rollout::Rollout;
 use bg_history::Entry;
 use bg_history::laws::existing_ascends;
@@ -18,6 +17,7 @@ use bg_ledger::{Names, Seat};
 use bg_listing::laws::finds;
 use bg_pasts::laws::reachable;
 use bg_promotion::laws::neutral;
+use bg_requestlists::OpenRequest;
 use bg_revisions::Service;
 use bg_settling::laws::entering_settles;
 

@@ -2,9 +2,6 @@
 ghost use Rattle.std.specs.Prelude.{◌≡◌};
 ghost use Rattle.bg_book.specs.Refusals.{usual_limits};
 
-/// The most seats of a book.
-pub const MOST_SEATS: u32 = 8;
-
 /// The places that are kept in a history for each open request: one for its leaving, and two for the
 /// outcomes after it.
 pub(crate) const PLACES_OF_A_REQUEST: u64 = 3;

@@ -9,12 +9,12 @@ ghost use Rattle.bg_book.specs.declared.fault.OpenFault.TheVariants.{OutOfMemory
 
 use crate::book::Book;
 use crate::fault::OpenFault;
-use crate::limits::{Limits, MOST_SEATS};
-use crate::open_lists::OpenLists;
+use crate::limits::Limits;
 use crate::rollout::Rollout;
 use bg_history::History;
 use bg_ledger::{Blanks, Names, Seat, SeatRecord, pair};
 use bg_promotion::Core;
+use bg_requestlists::{MOST_SEATS, RequestLists};
 use bg_revisions::{Roster, has_ports_form};
 use bg_scaledown::Deadlines;
 use bg_strategy::{Strategy, is_dns_label};
@@ -105,7 +105,7 @@ impl<N: Names> Rollout<N> {
         let deadlines = Deadlines::new(strategy.delay, strategy.revision_limit);
         let history = History::new(alloc, seats, name, ports)?;
         let roster = first_roster(alloc, strategy.replicas, name, ports)?;
-        let lists = OpenLists::new(alloc)?;
+        let lists = RequestLists::new(alloc)?;
         let mut records = Vec::with_capacity(alloc, seats as usize)?;
         let mut handed_out = Vec::with_capacity(alloc, seats as usize)?;
         // A seat can't be dropped, so they are paired once all memory is taken.

@@ -4,10 +4,10 @@ ghost use Rattle.bg_book.specs.Refusals.{all_open};
 ghost use Rattle.bg_book.specs.Invariant.{RoutingStands};
 
 use crate::limits::{Limits, PLACES_OF_A_REQUEST};
-use crate::open_lists::OpenLists;
 use bg_history::History;
 use bg_ledger::{Names, SeatRecord};
 use bg_promotion::Core;
+use bg_requestlists::RequestLists;
 use bg_revisions::Roster;
 use bg_scaledown::Deadlines;
 use bg_strategy::Strategy;
@@ -23,7 +23,7 @@ pub(crate) struct Rollout<N: Names> {
     pub(crate) core: Core,
     pub(crate) roster: Roster,
     pub(crate) deadlines: Deadlines,
-    pub(crate) lists: OpenLists,
+    pub(crate) lists: RequestLists,
     /// The book's record of each seat, in order of index.
     pub(crate) records: Vec<SeatRecord<N>>,
     pub(crate) history: History,

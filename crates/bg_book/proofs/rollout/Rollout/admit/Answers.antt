@@ -3,7 +3,7 @@ use Rattle.bg_revisions.specs.declared.revision.Service.{Service}
 use Rattle.bg_pasts.specs.Reachable.{Reachable}
 use Rattle.bg_book.specs.declared.calls.Ticket.{Ticket}
 use Rattle.bg_ledger.specs.declared.holding.Holding.{Holding}
-use Rattle.bg_book.specs.OpenLists.{changed, has_request}
+use Rattle.bg_requestlists.specs.RequestLists.{changed, has_request}
 use Rattle.bg_book.specs.Changes.{enter_entry, seat_in, with_past}
 use Rattle.bg_book.specs.Refusals.{enter_refusal, IsTicket}
 use Rattle.bg_book.specs.Routing.{Routing}

@@ -18,7 +18,8 @@ use Rattle.bg_promotion.specs.Answers.{is_step}
 use Rattle.bg_scaledown.specs.Tables.{Table}
 use Rattle.bg_listing.specs.Listed.{revision_of, revisions_of}
 use Rattle.bg_pasts.specs.Reachable.{Reachable}
-use Rattle.bg_book.specs.OpenLists.{OpenAt, is_empty_at, lists_of}
+use Rattle.bg_requestlists.specs.RequestLists.{OpenAt, is_empty_at}
+use Rattle.bg_book.specs.PastState.{lists_of}
 use Rattle.bg_book.specs.declared.rollout.Rollout.TheInside.{Inside}
 use Rattle.bg_book.specs.Invariant.{Midway, Stands, midway_of, running_of}
 use Rattle.bg_book.proofs.Events.{found_there, wants}

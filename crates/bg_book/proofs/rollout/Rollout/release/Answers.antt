@@ -4,7 +4,7 @@ use Rattle.bg_history.specs.declared.entry.Entry.TheVariants.{Leave}
 use Rattle.bg_pasts.specs.Reachable.{Reachable}
 use Rattle.bg_ledger.specs.declared.holding.Holding.{Holding}
 use Rattle.bg_ledger.specs.Holdings.{vacated}
-use Rattle.bg_book.specs.OpenLists.{has_request, without}
+use Rattle.bg_requestlists.specs.RequestLists.{has_request, without}
 use Rattle.bg_book.specs.Changes.{with_past}
 use Rattle.bg_book.specs.Routing.{Routing}
 use Rattle.bg_book.specs.Invariant.{Midway, Stands, midway_of, running_of}

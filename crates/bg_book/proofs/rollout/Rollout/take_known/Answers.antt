@@ -18,7 +18,7 @@ use Rattle.bg_promotion.specs.Stands.{StandsFor}
 use Rattle.bg_scaledown.specs.Tables.{Table}
 use Rattle.bg_listing.specs.Listed.{revisions_of}
 use Rattle.bg_book.specs.declared.rollout.Rollout.TheInside.{Inside}
-use Rattle.bg_book.specs.OpenLists.{lists_of}
+use Rattle.bg_book.specs.PastState.{lists_of}
 use Rattle.bg_book.specs.Invariant.{Midway, Stands, midway_of, running_of}
 use Rattle.bg_book.proofs.Requests.{and_parts, eq_from}
 use Rattle.bg_book.proofs.Carrying.{Carries, stands_recorded, recorded_by, recorded_left, allowed_inside}

@@ -9,7 +9,8 @@ use Rattle.bg_history.specs.Allowed.{is_allowed}
 use Rattle.bg_pasts.specs.Reachable.{Reachable}
 use Rattle.bg_promotion.specs.Stands.{StandsFor}
 use Rattle.bg_scaledown.specs.Past.{table_of}
-use Rattle.bg_book.specs.OpenLists.{OpenAt, lists_of}
+use Rattle.bg_requestlists.specs.RequestLists.{OpenAt}
+use Rattle.bg_book.specs.PastState.{lists_of}
 use Rattle.bg_book.specs.Recording.{Recorded}
 use Rattle.bg_book.specs.Invariant.{Midway, Stands, midway_of, running_of}
 use Rattle.bg_book.proofs.Requests.{and_parts}

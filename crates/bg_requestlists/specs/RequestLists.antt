@@ -1,13 +1,10 @@
--- The list of open requests that the book keeps for each revision.
+-- A list of open requests for each revision.
 use Rattle.std.specs.Prelude.{◌≡◌, ◌≤◌, ℕ, Bool, false, true, not, ◌==◌, ◌||◌, nat_lt, if◌then◌else◌, List, [], ◌∷◌, length, filter, find, map, Option, Some, None}
 use Rattle.std.specs.List.{list_all, list_any}
 use Rattle.bg_openlist.specs.Distinct.{Distinct}
 use Rattle.bg_openlist.specs.Family.{Family, IsFamily, list_at}
-use Rattle.bg_book.specs.declared.open_lists.OpenRequest.{OpenRequest}
-use Rattle.bg_book.specs.declared.open_lists.OwnList.{OwnList}
-use Rattle.bg_history.specs.declared.entry.Entry.{Entry}
-use Rattle.bg_history.specs.Requests.{Request, open_requests}
-use Rattle.bg_history.specs.Sizes.{existing}
+use Rattle.bg_requestlists.specs.declared.request_lists.OpenRequest.{OpenRequest}
+use Rattle.bg_requestlists.specs.declared.request_lists.OwnList.{OwnList}
 
 -- a revision and its open requests, in the order of entering
 pub record OpenAt : Type 0 where
@@ -63,15 +60,3 @@ pub record HoldsLists (owned : List OwnList) (capacity : ℕ) (f : Family ℕ) :
   pub rest : (l : ℕ) → is_owned l owned ≡ false → list_at f l ≡ []
   pub family : IsFamily f
   pub nodes : f.nodes ≡ 8
-
--- the seat and the number of a request
-abbrev pub listed : Request → OpenRequest
-listed q = record { seat = q.seat; number = q.number }
-
--- the list of revision r that a past asks for
-abbrev pub requests_at : ℕ → List Entry → List OpenRequest
-requests_at r past = map listed (filter (λ q. q.revision == r) (open_requests past))
-
--- the list of each existing revision, in order of number
-abbrev pub lists_of : List Entry → List OpenAt
-lists_of past = map (λ r. record { revision = r; requests = requests_at r past }) (existing past)

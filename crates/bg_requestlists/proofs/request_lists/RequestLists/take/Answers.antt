@@ -1,7 +1,7 @@
 use Rattle.std.proofs.Common.{ap, ◌∙◌}
-use Rattle.bg_book.specs.OpenLists.{has_request, without}
-use Rattle.bg_book.proofs.Linked.{holds_unlinked, linked_node, list_without, shown_without}
-use Rattle.bg_book.proofs.open_lists.OpenLists.take.Goals as goal
+use Rattle.bg_requestlists.specs.RequestLists.{has_request, without}
+use Rattle.bg_requestlists.proofs.Linked.{holds_unlinked, linked_node, list_without, shown_without}
+use Rattle.bg_requestlists.proofs.request_lists.RequestLists.take.Goals as goal
 
 pub unlink-requires : goal.unlink-requires
 unlink-requires c = linked_node c.self.inside.owned.items c.self.inside.linked c.args.seat c.self.invariant.family (ap (has_request c.args.seat) c.self.view_is ∙ c.requires)

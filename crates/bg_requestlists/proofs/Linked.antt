@@ -3,14 +3,30 @@ use Rattle.std.proofs.Common.{◌≡◌, ◌≢◌, ◌<◌, ◌≤◌, ℕ, zer
 use Rattle.std.specs.List.{list_all, list_any}
 use Rattle.std.proofs.lemmas.Bool.Decides.{nat_tests}
 use Rattle.std.proofs.lemmas.List.{get_or-set_same}
+use Rattle.std.proofs.lemmas.Bool.{and_parts}
+use Rattle.std.proofs.lemmas.List.Elements.{All-filter}
 use Rattle.std.proofs.lemmas.List.Filters.{length-filter_both}
+use Rattle.std.proofs.lemmas.List.Folds.{list_all-append}
+use Rattle.std.proofs.lemmas.List.Sums.{AllPass-from_list_all, list_all-from_AllPass}
 use Rattle.std.proofs.lemmas.Option.{same_Some}
 use Rattle.bg_openlist.specs.Distinct.{Distinct, Fresh}
 use Rattle.bg_openlist.specs.Family.{Family, IsFamily, empty_family, is_linked, list_at, place_of, value_in, without_node}
-use Rattle.bg_book.specs.declared.open_lists.OpenRequest.{OpenRequest}
-use Rattle.bg_book.specs.declared.open_lists.OwnList.{OwnList}
-use Rattle.bg_book.specs.OpenLists.{OpenAt, HoldsLists, changed, has_request, is_empty_at, is_owned, request_at, requests_in, shown_at, without}
-use Rattle.bg_book.proofs.Requests.{all_appended, all_kept, and_parts, eq_from, eq_refl}
+use Rattle.bg_requestlists.specs.declared.request_lists.OpenRequest.{OpenRequest}
+use Rattle.bg_requestlists.specs.declared.request_lists.OwnList.{OwnList}
+use Rattle.bg_requestlists.specs.RequestLists.{OpenAt, HoldsLists, changed, has_request, is_empty_at, is_owned, request_at, requests_in, shown_at, without}
+
+eq_refl : (n : ℕ) → (n == n) ≡ true
+eq_refl n = grind (arith, nat_tests)
+
+eq_from : (m n : ℕ) → (m == n) ≡ true → m ≡ n
+eq_from m n h = grind (arith, nat_tests)
+
+-- a test that all pass, all that are kept pass
+all_kept : {X : Type 0} (p k : X → Bool) (xs : List X) → list_all p xs ≡ true → list_all p (filter k xs) ≡ true
+all_kept p k xs h = list_all-from_AllPass p (filter k xs) (All-filter k (λ x. p x ≡ true) xs (AllPass-from_list_all p xs h))
+
+all_appended : {X : Type 0} (p : X → Bool) (xs : List X) (y : X) → list_all p xs ≡ true → p y ≡ true → list_all p (xs ++ y ∷ []) ≡ true
+all_appended p xs y h k = list_all-append p xs (y ∷ []) ∙ rw (h, k) refl
 
 -- the linked lists that are the revisions' own
 abbrev pub owns : List OwnList → List ℕ

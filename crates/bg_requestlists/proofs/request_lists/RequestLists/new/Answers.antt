@@ -1,9 +1,9 @@
 use Rattle.std.proofs.Common.{◌≡◌, ◌++◌, ◌∷◌, [], List, sym, ap, subst, ◌∙◌, arith}
 use Rattle.std.specs.Vec.{vec_capacity}
-use Rattle.bg_book.specs.declared.open_lists.OwnList.{OwnList}
-use Rattle.bg_book.specs.OpenLists.{HoldsLists}
-use Rattle.bg_book.proofs.Linked.{holds_first}
-use Rattle.bg_book.proofs.open_lists.OpenLists.new.Goals as goal
+use Rattle.bg_requestlists.specs.declared.request_lists.OwnList.{OwnList}
+use Rattle.bg_requestlists.specs.RequestLists.{HoldsLists}
+use Rattle.bg_requestlists.proofs.Linked.{holds_first}
+use Rattle.bg_requestlists.proofs.request_lists.RequestLists.new.Goals as goal
 
 pub invariant_of-result : goal.invariant_of-result
 invariant_of-result c =

@@ -1,6 +1,6 @@
 use Rattle.std.proofs.Common.{◌≡◌, ◌<◌, ℕ, true}
-use Rattle.bg_book.specs.OpenLists.{is_owned}
-use Rattle.bg_book.proofs.open_lists.unowned.Given as goal
+use Rattle.bg_requestlists.specs.RequestLists.{is_owned}
+use Rattle.bg_requestlists.proofs.request_lists.unowned.Given as goal
 
 -- each list before the counter is some revision's own
 abbrev pub invariant-loop-list : goal.invariant-loop-list

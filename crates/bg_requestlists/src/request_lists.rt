@@ -1,39 +1,44 @@
-//! The lists of open requests.
+//! A list of open requests for each revision.
 ghost use Rattle.std.specs.Prelude.{◌≡◌, ◌<◌, ◌==◌, ◌++◌, ◌∷◌, [], false, true, length, not, filter, find, IfOk, IsSome, option_map};
-ghost use Rattle.bg_book.specs.OpenLists.{changed, has_request, is_empty_at, is_owned, list_of, without};
+ghost use Rattle.bg_requestlists.specs.RequestLists.{changed, has_request, is_empty_at, is_owned, list_of, without};
 
-use crate::limits::MOST_SEATS;
+use bg_openlist::OpenLists;
 use bg_revisions::MOST_REVISIONS;
 use std::alloc::{AllocError, Global};
 use std::marker::Model;
 
-/// A request that has entered and not left: its seat's index, and its number.
+/// The most seats that requests can come from.
+pub const MOST_SEATS: u32 = 8;
+
+/// A request that has entered and not left.
 #[derive(Clone, Copy, PartialEq, Eq, Debug, Drop)]
 pub struct OpenRequest {
-    pub(crate) seat: u32,
-    pub(crate) number: u64,
+    /// The index of its seat, from 0.
+    pub seat: u32,
+    /// Its number, from 1.
+    pub number: u64,
 }
 
-/// A revision that exists, and which of the linked lists is its own.
+/// A revision, and which of the linked lists is its own.
 #[derive(Clone, Copy, Drop)]
 struct OwnList {
     revision: u64,
     list: usize,
 }
 
-/// A list of open requests for each revision that exists, in order of number.
+/// A list of open requests for each revision that was given one, in the order of giving.
 ///
 /// The lists are linked by pointers. A request stands at the node of its seat's index, so that it
 /// leaves the middle of its list with no search and no memory.
 #[derive(Drop)]
-pub(crate) struct OpenLists {
+pub struct RequestLists {
     owned: Vec<OwnList>,
-    linked: bg_openlist::OpenLists<u64>,
+    linked: OpenLists<u64>,
 }
 
-impl Model for OpenLists {
+impl Model for RequestLists {
     ghost use Rattle.std.specs.Prelude.{List, map, vec_capacity};
-    ghost use Rattle.bg_book.specs.OpenLists.{OpenAt, HoldsLists, shown_at};
+    ghost use Rattle.bg_requestlists.specs.RequestLists.{OpenAt, HoldsLists, shown_at};
 
     ghost Value = { List OpenAt };
 
@@ -42,23 +47,23 @@ impl Model for OpenLists {
     ghost invariant = { λ l. HoldsLists l.owned.items (vec_capacity l.owned) l.linked };
 }
 
-impl OpenLists {
+impl RequestLists {
     /// The list of revision 1 alone, without requests, room for as many as there can be revisions,
     /// and a node for each seat that there can be; refused only where memory is.
-    pub(crate) fn new(alloc: Global) -> Result<OpenLists, AllocError>
+    pub fn new(alloc: Global) -> Result<RequestLists, AllocError>
         ensures { IfOk result (λ l. l ≡ record { revision = 1; requests = [] } ∷ []) }
     {
         let mut owned = Vec::with_capacity(alloc, MOST_REVISIONS)?;
-        let linked = bg_openlist::OpenLists::new(alloc, MOST_SEATS as usize)?;
+        let linked = OpenLists::new(alloc, MOST_SEATS as usize)?;
         owned.push_reserved(OwnList {
             revision: 1,
             list: 0,
         });
-        Ok(OpenLists { owned, linked })
+        Ok(RequestLists { owned, linked })
     }
 
     /// Adds a list without requests at the end, for a revision that has none yet; it takes no memory.
-    pub(crate) fn add(&mut self, revision: u64)
+    pub fn add(&mut self, revision: u64)
         requires { length self.old < 64 }
         ensures { self.new ≡ self.old ++ record { revision = revision; requests = [] } ∷ [] }
     {
@@ -67,7 +72,7 @@ impl OpenLists {
     }
 
     /// How many requests are open at a revision; 0 where it has no list.
-    pub(crate) fn count(&self, revision: u64) -> usize
+    pub fn count(&self, revision: u64) -> usize
         ensures { result ≡ length (list_of revision self.now) }
     {
         match own_list(&self.owned, revision) {
@@ -77,7 +82,7 @@ impl OpenLists {
     }
 
     /// Puts a request of a seat that has none at the end of its revision's list. It takes no memory.
-    pub(crate) fn append(&mut self, revision: u64, request: OpenRequest)
+    pub fn append(&mut self, revision: u64, request: OpenRequest)
         requires revision { IsSome (find (λ l. l.revision == revision) self.old) }
         requires seat { request.seat < 8 }
         requires free { has_request request.seat self.old ≡ false }
@@ -90,7 +95,7 @@ impl OpenLists {
     }
 
     /// Takes the request of a seat out of its list, by its node alone.
-    pub(crate) fn take(&mut self, seat: u32)
+    pub fn take(&mut self, seat: u32)
         requires { has_request seat self.old ≡ true }
         ensures { self.new ≡ without seat self.old }
     {
@@ -99,7 +104,7 @@ impl OpenLists {
 
     /// Drops the list of a revision that has no request. The linked list that was its own may serve
     /// a new revision.
-    pub(crate) fn drop_list(&mut self, revision: u64)
+    pub fn drop_list(&mut self, revision: u64)
         requires { is_empty_at revision self.old ≡ true }
         ensures { self.new ≡ filter (λ l. not (l.revision == revision)) self.old }
     {
