@@ -10,7 +10,7 @@ use Rattle.bg_history.specs.Turns.{stable_of}
 use Rattle.bg_history.specs.Selections.{active_of}
 use Rattle.bg_history.specs.Allowed.{is_allowed}
 use Rattle.bg_history.specs.Steps.{all_allowed}
-use Rattle.bg_book.specs.Headline.{switches_by_rule, goes_back, moves_by_rule, is_reached_by_rule}
+use Rattle.bg_book.specs.Headline.{switches_by_rule, may_go_back, moves_by_rule, is_reached_by_rule}
 use Rattle.bg_book.proofs.Requests.{and_parts, and_both, eq_refl, eq_from}
 
 or_true : (a : Bool) → (a || true) ≡ true
@@ -20,21 +20,21 @@ or_true false = refl
 -- the active service keeps its revision
 stays : (s : Strategy) (e : Entry) (before : List Entry) → active_of (e ∷ before) ≡ active_of before → moves_by_rule s e before ≡ true
 stays s e before same =
-    ap (λ (n : ℕ). (n == active_of before) || switches_by_rule s e before || (goes_back e before && (active_of (e ∷ before) == stable_of before))) same
-    ∙ ap (λ b. b || switches_by_rule s e before || (goes_back e before && (active_of (e ∷ before) == stable_of before))) (eq_refl (active_of before))
+    ap (λ (n : ℕ). (n == active_of before) || switches_by_rule s e before || (may_go_back e before && (active_of (e ∷ before) == stable_of before))) same
+    ∙ ap (λ b. b || switches_by_rule s e before || (may_go_back e before && (active_of (e ∷ before) == stable_of before))) (eq_refl (active_of before))
 
 -- it goes back to the stable revision
-returns_to_stable : (s : Strategy) (e : Entry) (before : List Entry) → goes_back e before ≡ true → active_of (e ∷ before) ≡ stable_of before → moves_by_rule s e before ≡ true
+returns_to_stable : (s : Strategy) (e : Entry) (before : List Entry) → may_go_back e before ≡ true → active_of (e ∷ before) ≡ stable_of before → moves_by_rule s e before ≡ true
 returns_to_stable s e before back same =
     ap (λ b. (active_of (e ∷ before) == active_of before) || switches_by_rule s e before || b)
-    (and_both (goes_back e before) (active_of (e ∷ before) == stable_of before) back (ap (λ (n : ℕ). n == stable_of before) same ∙ eq_refl (stable_of before)))
+    (and_both (may_go_back e before) (active_of (e ∷ before) == stable_of before) back (ap (λ (n : ℕ). n == stable_of before) same ∙ eq_refl (stable_of before)))
     ∙ or_true ((active_of (e ∷ before) == active_of before) || switches_by_rule s e before)
 
 -- it is switched by the rule
 switches : (s : Strategy) (e : Entry) (before : List Entry) → switches_by_rule s e before ≡ true → moves_by_rule s e before ≡ true
 switches s e before allowed =
-    ap (λ b. (active_of (e ∷ before) == active_of before) || b || (goes_back e before && (active_of (e ∷ before) == stable_of before))) allowed
-    ∙ ap (λ b. b || (goes_back e before && (active_of (e ∷ before) == stable_of before))) (or_true (active_of (e ∷ before) == active_of before))
+    ap (λ b. (active_of (e ∷ before) == active_of before) || b || (may_go_back e before && (active_of (e ∷ before) == stable_of before))) allowed
+    ∙ ap (λ b. b || (may_go_back e before && (active_of (e ∷ before) == stable_of before))) (or_true (active_of (e ∷ before) == active_of before))
 
 deploys : (s : Strategy) (r : ℕ) (name ports : List ℕ) (before : List Entry) (b : Bool) → (r == stable_of before) ≡ b → moves_by_rule s (Deploy r name ports) before ≡ true
 deploys s r name ports before true e =

@@ -9,7 +9,7 @@ use Rattle.bg_history.specs.declared.entry.Entry.TheVariants.{Enter, Leave}
 use Rattle.bg_history.specs.Kept.{Opening}
 use Rattle.bg_history.specs.Sizes.{available}
 use Rattle.bg_history.specs.Requests.{Request, open_requests, held_by, request_numbers, entered, given}
-use Rattle.bg_history.specs.Allowed.{is_allowed, selection, is_number, port_of, holds}
+use Rattle.bg_history.specs.Allowed.{is_allowed, selection, has_value, port_of, holds}
 use Rattle.bg_history.specs.Steps.{IsLegal, all_given}
 use Rattle.bg_book.specs.Invariant.{has_number, RequestsStand}
 use Rattle.bg_book.proofs.Requests.{and_both, all_weaker, all_kept, all_appended, all_apart, differ-append, differ-filter, eq_refl}
@@ -64,10 +64,10 @@ legal-Enter s o closed past seat service number r port legal enters =
       allowed =
           and_both _ _ (and_both _ _ (and_both _ _ (and_both _ _ (and_both (nat_lt seat o.seats) (is_none (held_by seat past))
           (let h = enters.within in grind (arith, nat_tests)) (ap is_none enters.out))
-          (ap (is_number r) enters.selected ∙ eq_refl r))
+          (ap (has_value r) enters.selected ∙ eq_refl r))
           (le_test 1 (available r past) enters.endpoint))
           above)
-          (ap (is_number port) enters.port_is ∙ eq_refl port)
+          (ap (has_value port) enters.port_is ∙ eq_refl port)
 
       numbers : all_given (given closed (Enter seat service number r port ∷ past)) (request_numbers (Enter seat service number r port ∷ past)) ≡ true
       numbers =

@@ -14,7 +14,7 @@ use Rattle.bg_history.specs.Kept.{Opening, Template}
 use Rattle.bg_history.specs.Sizes.{available}
 use Rattle.bg_history.specs.Requests.{Request, open_requests, held_by, request_numbers}
 use Rattle.bg_history.specs.Templates.{template}
-use Rattle.bg_history.specs.Allowed.{selection, is_number, port_in, port_of, may_enter, is_allowed}
+use Rattle.bg_history.specs.Allowed.{selection, has_value, port_in, port_of, may_enter, is_allowed}
 use Rattle.bg_history.specs.Steps.{all_allowed}
 use Rattle.bg_pasts.specs.Reachable.{Reachable}
 use Rattle.bg_book.specs.Meeting.{ports_in}
@@ -27,7 +27,7 @@ record Met (s : Strategy) (o : Opening) (seat : ℕ) (service : Service) (number
   pub endpoint : 1 ≤ available r past
   pub port_is : port_of o r number past ≡ Some port
 
-number_is : (n : ℕ) (x : Option ℕ) → is_number n x ≡ true → x ≡ Some n
+number_is : (n : ℕ) (x : Option ℕ) → has_value n x ≡ true → x ≡ Some n
 number_is n None h = absurd (cc)
 number_is n (Some m) h = ap Some (eq_from m n h)
 
@@ -37,10 +37,10 @@ at_least_one n h = grind (arith, nat_tests)
 met : (s : Strategy) (o : Opening) (seat : ℕ) (service : Service) (number r port : ℕ) (past : List Entry) → may_enter s o seat service number r port past ≡ true
     → Met s o seat service number r port past
 met s o seat service number r port past h =
-    let five = and_parts _ (is_number port (port_of o r number past)) h in
+    let five = and_parts _ (has_value port (port_of o r number past)) h in
     let four = and_parts _ (list_all (λ n. nat_lt n number) (request_numbers past)) five.0 in
     let three = and_parts _ (nat_le 1 (available r past)) four.0 in
-    let two = and_parts _ (is_number r (selection s service past)) three.0 in
+    let two = and_parts _ (has_value r (selection s service past)) three.0 in
     let one = and_parts (nat_lt seat o.seats) (is_none (held_by seat past)) two.0 in
     record {
       within = one.0;

@@ -22,16 +22,16 @@ switches_by_rule s (Outcome (Switched r)) before = may_switch s r before
 switches_by_rule s _ before = false
 
 -- the entry stops an attempt, or deploys the stable revision again
-abbrev pub goes_back : Entry → List Entry → Bool
-goes_back (Deploy r name ports) before = r == stable_of before
-goes_back e before = is_halt e
+abbrev pub may_go_back : Entry → List Entry → Bool
+may_go_back (Deploy r name ports) before = r == stable_of before
+may_go_back e before = is_halt e
 
 -- the active service keeps its revision at the entry, or is switched by the rule, or goes back to
 -- the stable revision
 abbrev pub moves_by_rule : Strategy → Entry → List Entry → Bool
 moves_by_rule s e before =
     (active_of (e ∷ before) == active_of before) || switches_by_rule s e before
-    || (goes_back e before && (active_of (e ∷ before) == stable_of before))
+    || (may_go_back e before && (active_of (e ∷ before) == stable_of before))
 
 -- at the opening the active service selects revision 1, and each later move is by the rule
 abbrev pub is_reached_by_rule : Strategy → List Entry → Bool

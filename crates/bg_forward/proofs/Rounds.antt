@@ -2,7 +2,7 @@
 use Rattle.std.proofs.Common.{◌≡◌, ℕ, ◌+◌, Option, Some, None, ◌∙◌, arith}
 use Rattle.bg_book.specs.declared.calls.Ticket.{Ticket}
 use Rattle.bg_ledger.specs.declared.holding.Holding.{Holding}
-use Rattle.bg_forward.specs.Seats.{Worked, calls_of}
+use Rattle.bg_forward.specs.Seats.{Worked, calls_made}
 
 -- an accept failed
 pub round_lost : (n : ℕ) (first now : Holding) → Worked n first now → Worked (n + 1) first now
@@ -12,7 +12,7 @@ round_lost n first now w =
 
 -- a connection was served
 pub round_served : (n : ℕ) (first now next : Holding) (entered : Option Ticket) → Worked n first now
-    → next.number ≡ 0 → next.index ≡ now.index → next.calls ≡ now.calls + calls_of entered
+    → next.number ≡ 0 → next.index ≡ now.index → next.calls ≡ now.calls + calls_made entered
     → Worked (n + 1) first next
 round_served n first now next None w out index calls =
     let most = w.most in

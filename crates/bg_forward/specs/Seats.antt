@@ -6,9 +6,9 @@ use Rattle.bg_ledger.specs.Holdings.{vacated}
 use Rattle.bg_ledger.specs.declared.holding.Holding.{Holding}
 
 -- the calls of a connection: two where it entered, and none where it didn't
-abbrev pub calls_of : Option Ticket → ℕ
-calls_of None = 0
-calls_of (Some t) = 2
+abbrev pub calls_made : Option Ticket → ℕ
+calls_made None = 0
+calls_made (Some t) = 2
 
 -- a seat after a connection: a request with this ticket entered and left, or none did
 abbrev pub seat_after : Holding → Option Ticket → Holding

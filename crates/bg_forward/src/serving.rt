@@ -3,7 +3,7 @@ ghost use Rattle.std.specs.Prelude.{◌≡◌, ◌+◌, ◌<◌, [], IfSome, Ok,
 ghost use Rattle.bg_http.specs.Statuses.{request_status};
 ghost use Rattle.bg_forward.specs.Buffers.{held, stream_of};
 ghost use Rattle.bg_forward.specs.Connections.{Connection, EndsBy, MayEnd, WroteLast};
-ghost use Rattle.bg_forward.specs.Seats.{calls_of, seat_after};
+ghost use Rattle.bg_forward.specs.Seats.{calls_made, seat_after};
 
 use crate::buffered::Buffered;
 use crate::exchange::{exchange, refuse};
@@ -65,7 +65,7 @@ pub fn serve_one<N: Names, G: Gate<N>, S: Duplex, D: Dial>(
     requires empty { held client.old ≡ [] }
     ensures out { seat.new.number ≡ 0 }
     ensures index { seat.new.index ≡ seat.old.index }
-    ensures calls { seat.new.calls ≡ seat.old.calls + calls_of result.entered }
+    ensures calls { seat.new.calls ≡ seat.old.calls + calls_made result.entered }
     ensures seat { seat.new ≡ seat_after seat.old result.entered }
     ensures number { IfSome result.entered (λ t. 0 < t.number) }
     ensures gives { IfSome result.entered (λ t. G.gives gate.now service seat.old t) }

@@ -49,9 +49,9 @@ selection s service.Preview past =
     if is_some s.preview_service then Some (preview_of past)
     else None
 
-abbrev pub is_number : ℕ → Option ℕ → Bool
-is_number n None = false
-is_number n (Some m) = m == n
+abbrev pub has_value : ℕ → Option ℕ → Bool
+has_value n None = false
+has_value n (Some m) = m == n
 
 abbrev pub port_in : Option Template → ℕ → ℕ → Option ℕ
 port_in None number size = None
@@ -63,9 +63,9 @@ port_of o r number past = port_in (template o r past) number (available r past)
 
 abbrev pub may_enter : Strategy → Opening → ℕ → Service → ℕ → ℕ → ℕ → List Entry → Bool
 may_enter s o seat service number r port before =
-    nat_lt seat o.seats && is_none (held_by seat before) && is_number r (selection s service before)
+    nat_lt seat o.seats && is_none (held_by seat before) && has_value r (selection s service before)
     && nat_le 1 (available r before) && list_all (λ n. nat_lt n number) (request_numbers before)
-    && is_number port (port_of o r number before)
+    && has_value port (port_of o r number before)
 
 abbrev pub holds : ℕ → ℕ → Option Request → Bool
 holds number r None = false

@@ -4,14 +4,14 @@ use Rattle.std.specs.Prelude.{nat_eq}
 use Rattle.std.specs.List.{list_all}
 use Rattle.std.specs.Char.{is_ascii_digit}
 use Rattle.std.proofs.lemmas.Bool.{and_parts}
-use Rattle.bg_http.specs.Lengths.{is_number, is_number_with, without_zeros, Length, length_of, is, wrong}
+use Rattle.bg_http.specs.Lengths.{is_digits, has_digits, without_zeros, Length, length_of, is, wrong}
 
 -- one length, where each element is a number with the digits of the first
 pub length_of_all : (elements more : List (List ℕ)) (first digits : List ℕ) (t : Bool) → elements ≡ first ∷ more → digits ≡ without_zeros first
-    → t ≡ list_all (is_number_with digits) elements → length_of elements ≡ cond t (is digits) wrong
+    → t ≡ list_all (has_digits digits) elements → length_of elements ≡ cond t (is digits) wrong
 length_of_all elements more first digits t e f g =
-    let found : List ℕ → Length = λ d. cond (list_all (is_number_with d) (first ∷ more)) (is d) wrong in
-    ap length_of e ∙ ap found (sym f) ∙ ap (λ b. cond b (is digits) wrong) (sym (g ∙ ap (list_all (is_number_with digits)) e))
+    let found : List ℕ → Length = λ d. cond (list_all (has_digits d) (first ∷ more)) (is d) wrong in
+    ap length_of e ∙ ap found (sym f) ∙ ap (λ b. cond b (is digits) wrong) (sym (g ∙ ap (list_all (has_digits digits)) e))
 
 -- a number without leading zeros is made of digits
 digits_without_zeros : (text : List ℕ) → list_all is_ascii_digit text ≡ true → list_all is_ascii_digit (without_zeros text) ≡ true
@@ -25,13 +25,13 @@ digits_without_zeros (d ∷ ds) all = by_test (nat_eq d 48) (digits_without_zero
 -- the one length is made of digits
 pub length_has_digits : (elements : List (List ℕ)) (digits : List ℕ) → is digits ≡ length_of elements → list_all is_ascii_digit digits ≡ true
 length_has_digits [] digits e = cc
-length_has_digits (x ∷ es) digits e = by_test (is_number_with (without_zeros x) x && list_all (is_number_with (without_zeros x)) es) refl e
+length_has_digits (x ∷ es) digits e = by_test (has_digits (without_zeros x) x && list_all (has_digits (without_zeros x)) es) refl e
   where
-    by_test : (t : Bool) → (is_number_with (without_zeros x) x && list_all (is_number_with (without_zeros x)) es) ≡ t → is digits ≡ cond t (is (without_zeros x)) wrong → list_all is_ascii_digit digits ≡ true
+    by_test : (t : Bool) → (has_digits (without_zeros x) x && list_all (has_digits (without_zeros x)) es) ≡ t → is digits ≡ cond t (is (without_zeros x)) wrong → list_all is_ascii_digit digits ≡ true
     by_test true holds f =
         let same : digits ≡ without_zeros x = cc in
-        let here = (and_parts (is_number_with (without_zeros x) x) _ holds).0 in
-        let number = (and_parts (is_number x) _ here).0 in
+        let here = (and_parts (has_digits (without_zeros x) x) _ holds).0 in
+        let number = (and_parts (is_digits x) _ here).0 in
         let all = (and_parts _ (list_all is_ascii_digit x) number).1 in
         ap (list_all is_ascii_digit) same ∙ digits_without_zeros x all
     by_test false holds f = cc

@@ -7,8 +7,8 @@ use Rattle.std.specs.Str.Parse.{digits_value}
 use Rattle.bg_http.specs.Elements.{Field, elements_named}
 
 -- one or more digits
-abbrev pub is_number : List ℕ → Bool
-is_number text = not (length text == 0) && list_all is_ascii_digit text
+abbrev pub is_digits : List ℕ → Bool
+is_digits text = not (length text == 0) && list_all is_ascii_digit text
 
 -- a number without the zeros at its front
 abbrev pub without_zeros : List ℕ → List ℕ
@@ -16,8 +16,8 @@ without_zeros [] = []
 without_zeros (digit ∷ more) = if digit == 48 then without_zeros more else digit ∷ more
 
 -- the element is a number with these digits, once leading zeros are dropped
-abbrev pub is_number_with : List ℕ → List ℕ → Bool
-is_number_with digits element = is_number element && bytes_eq (without_zeros element) digits
+abbrev pub has_digits : List ℕ → List ℕ → Bool
+has_digits digits element = is_digits element && bytes_eq (without_zeros element) digits
 
 -- what the fields say: nothing, one length by its digits, or what is no length
 pub data Length : Type 0 where
@@ -29,7 +29,7 @@ pub data Length : Type 0 where
 abbrev pub length_of : List (List ℕ) → Length
 length_of [] = absent
 length_of (element ∷ more) =
-    if list_all (is_number_with (without_zeros element)) (element ∷ more)
+    if list_all (has_digits (without_zeros element)) (element ∷ more)
     then is (without_zeros element) else wrong
 
 -- what all Content-Length fields say together

@@ -44,14 +44,14 @@ coding_fault head =
     else (if nat_lt 1 (length (codings head.fields)) then Some fault.NotDone else None))
 
 -- a number, or that there is none because it is too large
-abbrev pub or_too_large : Option ℕ → Result (Option ℕ) RequestFault
-or_too_large None = Err fault.TooLarge
-or_too_large (Some size) = Ok (Some size)
+abbrev pub size_or_too_large : Option ℕ → Result (Option ℕ) RequestFault
+size_or_too_large None = Err fault.TooLarge
+size_or_too_large (Some size) = Ok (Some size)
 
 -- the length that is given, if there is one, where it is a length and at most `most`
 abbrev pub length_within : ℕ → Length → Result (Option ℕ) RequestFault
 length_within most absent = Ok None
-length_within most (is digits) = or_too_large (number_within most digits)
+length_within most (is digits) = size_or_too_large (number_within most digits)
 length_within most wrong = Err fault.Bad
 
 -- the length that Content-Length gives: at most 1,048,576 (RFC 9110 section 8.6)
@@ -77,16 +77,16 @@ first_broken [] head = None
 first_broken (rule ∷ rules) head = or_later (rule head) (first_broken rules head)
 
 -- a body of the length that is given; none where there is none
-abbrev pub framing_by_length : Result (Option ℕ) RequestFault → Framing
-framing_by_length (Ok None) = framing.NoBody
-framing_by_length (Ok (Some size)) = framing.Length size
-framing_by_length (Err fault) = framing.NoBody
+abbrev pub framing_of_length : Result (Option ℕ) RequestFault → Framing
+framing_of_length (Ok None) = framing.NoBody
+framing_of_length (Ok (Some size)) = framing.Length size
+framing_of_length (Err fault) = framing.NoBody
 
 -- where the body of a head that breaks no rule ends (RFC 9112 section 6.3)
 abbrev pub framing_of : RequestHead → Framing
 framing_of head =
     if has_field (codes "transfer-encoding") head.fields then framing.Chunks
-    else framing_by_length (body_length head)
+    else framing_of_length (body_length head)
 
 abbrev pub unless_broken : Option RequestFault → Framing → Result Framing RequestFault
 unless_broken None framing = Ok framing

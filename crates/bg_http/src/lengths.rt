@@ -3,7 +3,7 @@ ghost use Rattle.std.specs.Prelude.{◌≡◌, ◌≤◌, ◌^◌, ◌&&◌, IsT
 ghost use Rattle.std.specs.Char.{is_ascii_digit};
 ghost use Rattle.std.specs.List.{list_all};
 ghost use Rattle.bg_http.specs.Held.{elements_left, length_held};
-ghost use Rattle.bg_http.specs.Lengths.{content_length as length_in, is_number as is_number_in, is_number_with as is_number_of, number_within, without_zeros as digits_of};
+ghost use Rattle.bg_http.specs.Lengths.{content_length as length_in, is_digits as is_digits_in, has_digits as has_digits_in, number_within, without_zeros as digits_of};
 
 use crate::bytes::Bytes;
 use crate::elements::{Elements, elements_named};
@@ -23,8 +23,9 @@ fn has_only_digits(text: &[u8]) -> bool
     text.iter().all(|byte| byte.is_ascii_digit())
 }
 
-fn is_number(text: &[u8]) -> bool
-    ensures { result ≡ is_number_in text.now }
+/// Whether the text is one or more digits.
+fn is_digits(text: &[u8]) -> bool
+    ensures { result ≡ is_digits_in text.now }
 {
     !text.is_empty() && has_only_digits(text)
 }
@@ -38,18 +39,18 @@ fn without_zeros(mut digits: &[u8]) -> &[u8]
     digits
 }
 
-/// Whether the element is a number with these digits.
-fn is_number_with(digits: &[u8], element: &[u8]) -> bool
-    ensures { result ≡ is_number_of digits.now element.now }
+/// Whether the element is a number with these digits, once leading zeros are dropped.
+fn has_digits(digits: &[u8], element: &[u8]) -> bool
+    ensures { result ≡ has_digits_in digits.now element.now }
 {
-    is_number(element) && without_zeros(element) == digits
+    is_digits(element) && without_zeros(element) == digits
 }
 
-/// Whether each element is a number with these digits.
-fn are_numbers_with(mut elements: Elements<'_>, digits: &[u8]) -> bool
-    ensures { result ≡ list_all (is_number_of digits.now) (elements_left elements.entry) }
+/// Whether each element is a number with these digits, once leading zeros are dropped.
+fn all_have_digits(mut elements: Elements<'_>, digits: &[u8]) -> bool
+    ensures { result ≡ list_all (has_digits_in digits.now) (elements_left elements.entry) }
 {
-    elements.all(|element| is_number_with(digits, element))
+    elements.all(|element| has_digits(digits, element))
 }
 
 /// The one length that all elements of the Content-Length fields give. Texts of digits are
@@ -63,7 +64,7 @@ pub(crate) fn content_length(fields: &[(Bytes, Bytes)]) -> OneLength<'_>
         return OneLength::Absent;
     };
     let digits = without_zeros(first);
-    if are_numbers_with(elements, digits) {
+    if all_have_digits(elements, digits) {
         OneLength::Is(digits)
     } else {
         OneLength::Wrong

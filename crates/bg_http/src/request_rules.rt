@@ -23,7 +23,7 @@ pub enum Framing {
 }
 
 /// The most bytes that a request's body may have.
-const MOST_BODY: usize = 1_048_576;
+pub const MOST_REQUEST_BODY: usize = 1_048_576;
 
 /// Judges the head of a request: where its body ends, or the fault of the first rule that it
 /// breaks, in this order.
@@ -171,7 +171,7 @@ fn body_length(head: &RequestHead) -> Result<Option<usize>, RequestFault>
 {
     match content_length(head.fields.get()) {
         OneLength::Absent => Ok(None),
-        OneLength::Is(digits) => match value_within(digits, MOST_BODY) {
+        OneLength::Is(digits) => match value_within(digits, MOST_REQUEST_BODY) {
             Some(size) => Ok(Some(size)),
             None => Err(RequestFault::TooLarge),
         },

@@ -26,7 +26,7 @@ pub enum ResponseFraming {
 }
 
 /// The most bytes that a response's body may have.
-const MOST_BODY: usize = 4_194_304;
+pub const MOST_RESPONSE_BODY: usize = 4_194_304;
 
 /// Judges the head of a response to `request`, by the first that applies.
 ///
@@ -121,7 +121,7 @@ fn framing_by_length(head: &ResponseHead) -> Result<ResponseFraming, ResponseFau
 {
     match content_length(head.fields.get()) {
         OneLength::Absent => Ok(ResponseFraming::ToTheEnd),
-        OneLength::Is(digits) => match value_within(digits, MOST_BODY) {
+        OneLength::Is(digits) => match value_within(digits, MOST_RESPONSE_BODY) {
             Some(size) => Ok(ResponseFraming::Length(size)),
             None => Err(ResponseFault::TooLarge),
         },

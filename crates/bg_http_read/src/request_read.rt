@@ -16,13 +16,10 @@ use crate::body_read::read_body;
 use crate::intake::Intake;
 use crate::request_head_read::read_request_head;
 use bg_http::{
-    Bytes, Duplex, Framing, Request, RequestFault, RequestHead, ResponseFault, judge_request,
-    owes_continue,
+    Bytes, Duplex, Framing, MOST_REQUEST_BODY, Request, RequestFault, RequestHead, ResponseFault,
+    judge_request, owes_continue,
 };
 use std::alloc::Global;
-
-/// The most bytes that a request's body may have.
-const MOST_BODY: usize = 1_048_576;
 
 /// A fault of reading as one of a request.
 fn as_request(fault: ResponseFault) -> RequestFault
@@ -78,7 +75,7 @@ fn read_request_body<S: Duplex>(
     match framing {
         Framing::NoBody => Ok(None),
         Framing::Chunks => {
-            let body = Body::of_chunks(alloc, MOST_BODY);
+            let body = Body::of_chunks(alloc, MOST_REQUEST_BODY);
             match read_whole(stream, intake, body) {
                 Ok(bytes) => Ok(Some(bytes)),
                 Err(fault) => Err(as_request(fault)),

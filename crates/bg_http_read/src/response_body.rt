@@ -4,11 +4,8 @@ ghost use Rattle.bg_http_read.specs.Responses.{length_of_response};
 ghost use Rattle.bg_http_read.specs.ResponsesFed.{HasParts, StartsBody};
 
 use crate::body::Body;
-use bg_http::{Bytes, Response, ResponseFraming, ResponseHead, length_told};
+use bg_http::{Bytes, MOST_RESPONSE_BODY, Response, ResponseFraming, ResponseHead, length_told};
 use std::alloc::{AllocError, Global};
-
-/// The most bytes that a response's body may have.
-const MOST_BODY: usize = 4_194_304;
 
 /// The digits of the length that goes on: that of the body, or where there is none the one that the
 /// head tells.
@@ -54,9 +51,9 @@ impl ResponseBody {
     {
         let body = match framing {
             ResponseFraming::Interim | ResponseFraming::NoBody => Body::of_length(alloc, 0)?,
-            ResponseFraming::Chunks => Body::of_chunks(alloc, MOST_BODY),
+            ResponseFraming::Chunks => Body::of_chunks(alloc, MOST_RESPONSE_BODY),
             ResponseFraming::Length(size) => Body::of_length(alloc, size)?,
-            ResponseFraming::ToTheEnd => Body::to_the_end(alloc, MOST_BODY),
+            ResponseFraming::ToTheEnd => Body::to_the_end(alloc, MOST_RESPONSE_BODY),
         };
         Ok(ResponseBody {
             head,

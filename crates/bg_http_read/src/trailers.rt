@@ -10,7 +10,7 @@ use httparse::spans::{EMPTY_HEADER_SPAN, parse_headers};
 const MOST_TRAILERS: usize = 16_384;
 
 /// The most fields that trailers may have.
-const MOST_FIELDS: usize = 64;
+const MOST_TRAILER_FIELDS: usize = 64;
 
 /// No trailers can come.
 #[derive(Drop)]
@@ -27,7 +27,7 @@ pub(crate) fn find_trailers(bytes: &[u8]) -> Result<Option<usize>, NoTrailers>
     ensures bad { OnErr result (TrailersFail malformed bytes.now) }
 {
     let front = &bytes[..bytes.len().min(MOST_TRAILERS)];
-    let mut room = [EMPTY_HEADER_SPAN; MOST_FIELDS];
+    let mut room = [EMPTY_HEADER_SPAN; MOST_TRAILER_FIELDS];
     match parse_headers(front, &mut room) {
         Ok(Status::Complete(found)) => Ok(Some(found.0)),
         Ok(Status::Partial) => {

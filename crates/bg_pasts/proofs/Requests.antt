@@ -14,7 +14,7 @@ use Rattle.bg_history.specs.Selections.{active_of, preview_of}
 use Rattle.bg_history.specs.Sizes.{is_scaled, available}
 use Rattle.bg_history.specs.Requests.{Request, open_requests, open_at, held_by, request_numbers}
 use Rattle.bg_history.specs.Deadlines.{exists_in, is_empty}
-use Rattle.bg_history.specs.Allowed.{selection, is_number, port_of, may_enter}
+use Rattle.bg_history.specs.Allowed.{selection, has_value, port_of, may_enter}
 use Rattle.bg_history.specs.Steps.{all_allowed}
 use Rattle.bg_pasts.specs.Reachable.{stands_scaled}
 use Rattle.bg_pasts.proofs.Tests.{and_parts, and_both, equal_numbers}
@@ -48,21 +48,21 @@ all_elsewhere p q r f (x ∷ xs) none h =
       go false is none here rest = and_both (q x) (list_all q xs) (f x (grind (arith, nat_tests)) here) (rest none)
 
 -- a request enters at the active or the preview revision
-entered : (s : Strategy) (service : Service) (r : ℕ) (before : List Entry) → Standing s before → is_number r (selection s service before) ≡ true → stands_scaled s r before ≡ true
+entered : (s : Strategy) (service : Service) (r : ℕ) (before : List Entry) → Standing s before → has_value r (selection s service before) ≡ true → stands_scaled s r before ≡ true
 entered s service.Active r before h is = subst (λ (k : ℕ). stands_scaled s k before ≡ true) (equal_numbers (active_of before) r is) h.active
 entered s service.Preview r before h is = go (is_some s.preview_service) is where
-  go : (b : Bool) → is_number r (cond b (Some (preview_of before)) None) ≡ true → stands_scaled s r before ≡ true
+  go : (b : Bool) → has_value r (cond b (Some (preview_of before)) None) ≡ true → stands_scaled s r before ≡ true
   go true is = subst (λ (k : ℕ). stands_scaled s k before ≡ true) (equal_numbers (preview_of before) r is) (standing-preview s before h)
   go false is = absurd (cc)
 
 -- which a request that may enter is given
 may_enter-selected : (s : Strategy) (o : Opening) (seat : ℕ) (service : Service) (number r port : ℕ) (before : List Entry) → may_enter s o seat service number r port before ≡ true
-    → is_number r (selection s service before) ≡ true
+    → has_value r (selection s service before) ≡ true
 may_enter-selected s o seat service number r port before h =
-    (and_parts (nat_lt seat o.seats && is_none (held_by seat before)) (is_number r (selection s service before))
+    (and_parts (nat_lt seat o.seats && is_none (held_by seat before)) (has_value r (selection s service before))
     (and_parts _ (nat_le 1 (available r before))
     (and_parts _ (list_all (λ n. nat_lt n number) (request_numbers before))
-    (and_parts _ (is_number port (port_of o r number before)) h).0).0).0).1
+    (and_parts _ (has_value port (port_of o r number before)) h).0).0).0).1
 
 -- each open request is at a revision that exists and is scaled, in each past whose entries were allowed
 pub open_scaled : (s : Strategy) (o : Opening) (past : List Entry) → all_allowed s o past ≡ true → list_all (λ q. stands_scaled s q.revision past) (open_requests past) ≡ true

@@ -5,7 +5,7 @@ use Rattle.std.proofs.lemmas.Bool.Decides.{nat_tests}
 use Rattle.std.proofs.lemmas.Slice.Eq.{bytes_eq-Decides}
 use Rattle.std.proofs.lemmas.List.{length-map, take_all, drop_all, append-nil}
 use Rattle.bg_revisions.specs.declared.revision.Revision.{Revision}
-use Rattle.bg_revisions.specs.Rosters.{Listing, named, has_form, resized, reported, Ascends, HasOwnNames, HasForms, IsRoster}
+use Rattle.bg_revisions.specs.Rosters.{Listing, named, has_form, resized, reported, AscendsWithin, HasOwnNames, HasForms, IsRoster}
 
 -- a change that leaves number, name and ports alone
 record Keeps (f : Revision → Revision) : Type 0 where
@@ -17,7 +17,7 @@ named-map : (f : Revision → Revision) (name : List ℕ) (vs : List Revision) �
 named-map f name [] keeps absent = refl
 named-map f name (v ∷ vs) keeps absent = rw (keeps.name v) (grind (arith, nat_tests, named-map f name vs keeps))
 
-Ascends-map : (f : Revision → Revision) (low last : ℕ) (vs : List Revision) → Keeps f → Ascends low last vs → Ascends low last (map f vs)
+Ascends-map : (f : Revision → Revision) (low last : ℕ) (vs : List Revision) → Keeps f → AscendsWithin low last vs → AscendsWithin low last (map f vs)
 Ascends-map f low last [] keeps h = h
 Ascends-map f low last (v ∷ vs) keeps h = rw (keeps.number v) (h.0, Ascends-map f v.number last vs keeps h.1)
 
@@ -58,7 +58,7 @@ IsRoster-reported number n r h = IsRoster-map (reported number n) r (record {
   ports = λ v. (keep-when (v.number == number) v (record v { available = n }) refl refl refl).2;
 }) h
 
-Ascends-lower : (low high last : ℕ) (vs : List Revision) → low ≤ high → Ascends high last vs → Ascends low last vs
+Ascends-lower : (low high last : ℕ) (vs : List Revision) → low ≤ high → AscendsWithin high last vs → AscendsWithin low last vs
 Ascends-lower low high last [] le h = omega (arith, h)
 Ascends-lower low high last (v ∷ vs) le h = (omega (arith, h.0), h.1)
 
@@ -66,10 +66,10 @@ named-filter : (p : Revision → Bool) (name : List ℕ) (vs : List Revision) �
 named-filter p name [] absent = refl
 named-filter p name (v ∷ vs) absent = grind (arith, nat_tests, named-filter p name vs)
 
-Ascends-filter : (p : Revision → Bool) (low last : ℕ) (vs : List Revision) → Ascends low last vs → Ascends low last (filter p vs)
+Ascends-filter : (p : Revision → Bool) (low last : ℕ) (vs : List Revision) → AscendsWithin low last vs → AscendsWithin low last (filter p vs)
 Ascends-filter p low last [] h = h
 Ascends-filter p low last (v ∷ vs) h = kept (p v) low last v (filter p vs) h.0 (Ascends-filter p v.number last vs h.1) where
-  kept : (b : Bool) (low last : ℕ) (v : Revision) (vs : List Revision) → low < v.number → Ascends v.number last vs → Ascends low last (cond b (v ∷ vs) vs)
+  kept : (b : Bool) (low last : ℕ) (v : Revision) (vs : List Revision) → low < v.number → AscendsWithin v.number last vs → AscendsWithin low last (cond b (v ∷ vs) vs)
   kept true low last v vs lt h = (lt, h)
   kept false low last v vs lt h = Ascends-lower low v.number last vs (omega arith) h
 
@@ -100,7 +100,7 @@ IsRoster-filter p r h = record {
   forms = HasForms-filter p r.replicas r.revisions h.forms;
 }
 
-Ascends-push : (low last : ℕ) (vs : List Revision) (v : Revision) → v.number ≡ last + 1 → Ascends low last vs → Ascends low v.number (vs ++ v ∷ [])
+Ascends-push : (low last : ℕ) (vs : List Revision) (v : Revision) → v.number ≡ last + 1 → AscendsWithin low last vs → AscendsWithin low v.number (vs ++ v ∷ [])
 Ascends-push low last [] v next h = (omega (arith, h), omega arith)
 Ascends-push low last (w ∷ vs) v next h = (h.0, Ascends-push w.number last vs v next h.1)
 

@@ -71,9 +71,9 @@ report_of n None = Err NoSuchRevision
 report_of n (Some v) = if nat_le n v.desired then Ok tt else Err MoreThanDesired
 
 -- each number is above the one before it, the first above `low`, and none is above `last`
-abbrev pub Ascends : ℕ → ℕ → List Revision → Type 0
-Ascends low last [] = low ≤ last
-Ascends low last (v ∷ more) = (low < v.number) × Ascends v.number last more
+abbrev pub AscendsWithin : ℕ → ℕ → List Revision → Type 0
+AscendsWithin low last [] = low ≤ last
+AscendsWithin low last (v ∷ more) = (low < v.number) × AscendsWithin v.number last more
 
 -- no two revisions have one name
 abbrev pub HasOwnNames : List Revision → Type 0
@@ -88,6 +88,6 @@ HasForms replicas (v ∷ more) = (has_form replicas v.name v.ports ≡ true) × 
 -- what holds of every roster
 pub record IsRoster (r : Listing) : Type 0 where
   pub few : length r.revisions ≤ 64
-  pub ascends : Ascends 0 r.last r.revisions
+  pub ascends : AscendsWithin 0 r.last r.revisions
   pub own_names : HasOwnNames r.revisions
   pub forms : HasForms r.replicas r.revisions

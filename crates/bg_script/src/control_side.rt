@@ -10,7 +10,7 @@ ghost use Rattle.bg_script.specs.AnswerTexts.{answer_text};
 ghost use Rattle.bg_script.specs.Connections.{AnswersAtDesk, AnswersBeforeOpen, Asks, ClosedAnswer, EventAnswer, MayBeAsked, WroteAtDesk, WroteReport};
 
 use crate::answer::{Answer, write_answer};
-use crate::run_end::RunEnd;
+use crate::run_end::{MOST_LINES, RunEnd};
 use bg_book::{Book, Control, Desk, Question, Reply};
 use bg_ledger::Names;
 use bg_operator::{Command, LineFault, NextLine, OperatorLines};
@@ -18,9 +18,6 @@ use bg_revisions::{Name, Ports};
 use std::alloc::Global;
 use std::io::{BufRead, Write};
 use std::sync::Wait;
-
-/// After so many lines a control connection is given up.
-const MOST_LINES: u32 = 1 << 24;
 
 /// Why the lines of a control connection are no longer answered while no book is open.
 #[derive(Debug, Drop)]

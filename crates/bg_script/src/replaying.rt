@@ -8,15 +8,12 @@ ghost use Rattle.bg_script.specs.Serving.{RanOpened, StepRead};
 use crate::answer::Answer;
 use crate::finding::{Finding, finding_in, write_finding};
 use crate::open_book::{OpenBook, Terms, say};
-use crate::run_end::RunEnd;
+use crate::run_end::{MOST_LINES, RunEnd};
 use bg_ledger::{Blanks, Names};
 use bg_operator::{Command, LineFault, NextLine, OperatorLines, part_before_script};
 use std::alloc::Global;
 use std::io::{BufRead, BufReader, Read, Write};
 use std::marker::Brand;
-
-/// After so many lines a script is given up.
-const MOST_LINES: u32 = 1 << 24;
 
 /// Answers the script that stands after the line `---`, by a book of the strategy before that line,
 /// with so many seats: 1 to 8, or each `open` is refused. Answers the exit status: 1 where a fault was

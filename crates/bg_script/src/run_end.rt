@@ -6,6 +6,9 @@ use bg_operator::ReadFault;
 use std::alloc::AllocError;
 use thiserror::Error;
 
+/// After so many lines a script or a control connection is given up.
+pub(crate) const MOST_LINES: u32 = 1 << 24;
+
 /// Why a run of `check` or of `replay` ends before its end. What was written by then is of no use.
 #[derive(Clone, Copy, Debug, Drop, PartialEq, Eq, Error)]
 pub enum RunEnd {
