@@ -112,7 +112,8 @@ impl<N: Names> Rollout<N> {
 
     /// The revision that a service selects; `NoPreview` where the service is the preview service and none is set.
     fn selected(&self, service: Service) -> Result<u64, EnterFault>
-        ensures { let selected = selection self.now.routing.strategy service self.now.routing.past in
+        ensures { let b = self.now.routing in
+            let selected = selection b.strategy service b.past in
             MatchResult result (λ r. selected ≡ Some r)
             (λ e. (selected ≡ None) × (e ≡ NoPreview)) }
     {

@@ -115,7 +115,8 @@ impl<N: Names> Rollout<N> {
     fn take_retry(&mut self, core: Core)
         requires allowed { let b = self.old.routing in
             is_allowed b.strategy b.opening entry.Retry b.past ≡ true }
-        requires core { let b = self.old.routing in StandsFor b.strategy core (entry.Retry ∷ b.past) }
+        requires core { let b = self.old.routing in
+            StandsFor b.strategy core (entry.Retry ∷ b.past) }
         requires spare { 1 ≤ self.old.spare }
         ensures { Recorded entry.Retry self.old self.new }
     {

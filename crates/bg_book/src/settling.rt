@@ -73,8 +73,9 @@ impl<N: Names> Rollout<N> {
     pub(crate) fn settle_at(&mut self, revision: u64) -> u64
         requires room { (outcomes : List Outcome) → Follows self.old.routing.strategy outcomes
             self.old.routing.past → length outcomes ≤ self.old.spare }
-        requires alone { may_scale_down self.old.routing.strategy revision self.old.routing.past ≡ false
-            → IsTrue (is_settled self.old.routing.strategy self.old.routing.past) }
+        requires alone { let b = self.old.routing in
+            may_scale_down b.strategy revision b.past ≡ false
+            → IsTrue (is_settled b.strategy b.past) }
         ensures reached { Reached self.old.routing self.new.routing result }
         ensures settled { IsTrue (is_settled self.new.routing.strategy self.new.routing.past) }
         ensures spare { self.new.spare + result ≡ self.old.spare }
@@ -124,7 +125,8 @@ impl<N: Names> Rollout<N> {
 
     /// Records an outcome that is the first allowed.
     fn record_outcome(&mut self, outcome: Outcome)
-        requires first { first_allowed self.old.routing.strategy self.old.routing.past ≡ Some outcome }
+        requires first { let b = self.old.routing in
+            first_allowed b.strategy b.past ≡ Some outcome }
         requires spare { 1 ≤ self.old.spare }
         ensures { Recorded (entry.Outcome outcome) self.old self.new }
     {

@@ -28,8 +28,8 @@ pub(crate) fn exchange<S: Write, D: Dial>(
 ) -> End
     requires { held client.old ≡ [] }
     ensures may_end { MayEndInside result }
-    ensures wrote { WroteLast (S.contents (stream_of client.old)) (S.contents (stream_of client.new))
-        (Ok request.now) result }
+    ensures wrote { WroteLast (S.contents (stream_of client.old))
+        (S.contents (stream_of client.new)) (Ok request.now) result }
 {
     match forward(alloc, request, port, dial) {
         Ok(response) => answer(request, &response, client),
@@ -60,8 +60,8 @@ fn forward<D: Dial>(alloc: Global, request: &Request, port: u16, dial: &D) -> Re
 fn answer<S: Write>(request: &Request, response: &Response, client: &mut Buffered<S>) -> End
     requires { held client.old ≡ [] }
     ensures end { (result ≡ end.Answered response.now.code) ⊎ (result ≡ end.WriteFailed) }
-    ensures wrote { WroteLast (S.contents (stream_of client.old)) (S.contents (stream_of client.new))
-        (Ok request.now) result }
+    ensures wrote { WroteLast (S.contents (stream_of client.old))
+        (S.contents (stream_of client.new)) (Ok request.now) result }
 {
     match send_response(request, response, client) {
         Ok(()) => End::Answered(response.code),

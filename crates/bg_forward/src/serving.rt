@@ -98,8 +98,8 @@ fn pass<N: Names, G: Gate<N>, S: Write, D: Dial>(
     ensures number { IfSome result.entered (λ t. 0 < t.number) }
     ensures gives { IfSome result.entered (λ t. G.gives gate.now service seat.old t) }
     ensures may_end { MayEnd (Ok request.now) result.entered result.end }
-    ensures wrote { WroteLast (S.contents (stream_of client.old)) (S.contents (stream_of client.new))
-        (Ok request.now) result.end }
+    ensures wrote { WroteLast (S.contents (stream_of client.old))
+        (S.contents (stream_of client.new)) (Ok request.now) result.end }
 {
     let Ok(ticket) = gate.enter(seat, service) else {
         return Served {
@@ -119,8 +119,8 @@ fn pass<N: Names, G: Gate<N>, S: Write, D: Dial>(
 fn turn_away<S: Write>(fault: RequestFault, client: &mut Buffered<S>) -> End
     requires { held client.old ≡ [] }
     ensures may_end { EndsBy (request_status fault) fault result }
-    ensures wrote { WroteLast (S.contents (stream_of client.old)) (S.contents (stream_of client.new))
-        (Err fault) result }
+    ensures wrote { WroteLast (S.contents (stream_of client.old))
+        (S.contents (stream_of client.new)) (Err fault) result }
 {
     if let Some(status) = fault.status() {
         return refuse(status, client);

@@ -22,8 +22,8 @@ pub record Grows (old new xs ys : List ℕ) : Type 0 where
   pub all : old ++ xs ≡ new ++ ys
   pub no_break : has_break old ≡ false → has_break new ≡ false
 
--- the same where these are the next bytes of a line, which ends so; none is that more of it may be to
--- come
+-- the same where these are the next bytes of a line, which ends so; none is that more of it may be
+-- to come
 abbrev pub TakesPiece : Option LineEnd → List ℕ → List ℕ → List ℕ → List ℕ → Type 0
 TakesPiece None old new xs ys = Grows old new xs ys
 TakesPiece (Some line_end.Break) old new xs ys = Grows old new xs (10 ∷ ys)

@@ -51,8 +51,8 @@ shown_at f own = record { revision = own.revision; requests = map request_at (li
 abbrev pub is_owned : ℕ → List OwnList → Bool
 is_owned l owned = list_any (λ o. o.list == l) owned
 
--- what holds of the linked lists: each revision has one of its own, one that is no revision's own is
--- empty, and there is a node for each seat
+-- what holds of the linked lists: each revision has one of its own, one that is no revision's own
+-- is empty, and there is a node for each seat
 pub record HoldsLists (owned : List OwnList) (capacity : ℕ) (f : Family ℕ) : Type 0 where
   pub room : 64 ≤ capacity
   pub distinct : Distinct (map (λ o. o.list) owned)

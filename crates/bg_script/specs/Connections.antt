@@ -88,7 +88,8 @@ pub record WroteReport (first last : Option (List ℕ)) : Type 0 where
   pub appended : Appends first last (written_text written)
 
 -- such an answer to a line that was read so was written
-pub record WroteAtDesk (read : Result Command LineFault) (first last : Option (List ℕ)) : Type 0 where
+pub record WroteAtDesk (read : Result Command LineFault) (first last : Option (List ℕ))
+    : Type 0 where
   pub written : Written
   pub step : MayBeAsked read → DeskStep read written
   pub appended : Appends first last (written_text written)

@@ -77,7 +77,8 @@ CallMade book seats made (Said (Made reply)) (Running new new_seats) =
 CallMade book seats made _ _ = ⊥
 
 -- what a line that was read so is answered while a book is open: only a call changes it
-abbrev pub RunningStep : Routing → List Holding → Result Command LineFault → Written → Stage → Type 0
+abbrev pub RunningStep : Routing → List Holding → Result Command LineFault → Written → Stage
+    → Type 0
 RunningStep book seats (Err fault) written next =
     Stays (Running book seats) (Unread fault) written next
 RunningStep book seats (Ok (Open name ports)) written next =

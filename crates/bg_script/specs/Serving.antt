@@ -33,8 +33,8 @@ pub record Served (stage : Stage) (read : Result Command LineFault) (first last 
 
 -- from first to last it was said that a book is open, and then the lines of the bytes were answered
 -- where the script stood so
-pub record RanOpened (start : Stage) (first last : Option (List ℕ)) (faulted : Bool) (bytes : List ℕ)
-    : Type 0 where
+pub record RanOpened (start : Stage) (first last : Option (List ℕ)) (faulted : Bool)
+    (bytes : List ℕ) : Type 0 where
   pub begun : Option (List ℕ)
   pub said : Appends first begun (answer_text Opened)
   pub ran : Ran start begun last faulted bytes
