@@ -1,5 +1,4 @@
 use Rattle.std.proofs.Common.{◌||◌}
-use Rattle.bg_operator.specs.declared.operator_lines.NextLine.TheVariants as next_line
 use Rattle.bg_operator.specs.OperatorLines.{NextIs}
 use Rattle.bg_script.specs.Scripts.{Ran, Running}
 use Rattle.bg_script.proofs.ScriptSteps.{Goes, goes_on, goes_to_end, Known-both, Known-some}

@@ -1,4 +1,4 @@
-use Rattle.std.proofs.Common.{◌||◌, ℕ, Bool, List, Some, IfOk, IfSome, sym, subst}
+use Rattle.std.proofs.Common.{◌||◌, ℕ, Bool, List, IfOk, IfSome, sym, subst}
 use Rattle.bg_operator.specs.Reading.{Known}
 use Rattle.bg_operator.specs.declared.operator_lines.NextLine.TheVariants as next_line
 use Rattle.bg_operator.specs.OperatorLines.{NextIs}
