@@ -1,7 +1,7 @@
 #!/bin/sh
 # Runs the built programs with each of their requests for memory refused, one in each run.
 #
-# `bg_refused_memory` makes the calls of the libraries that take memory, and asks again where one was refused:
+# `bg_tests_refused_memory` makes the calls of the libraries that take memory, and asks again where one was refused:
 # whichever request is refused, it writes the very same, and each call that it makes was refused in some run.
 #
 # `bg_switch` on each row of rows/ ends with `OutOfMemory` on standard error, or answers one line by `OutOfMemory` and
@@ -12,7 +12,7 @@ cd "$(dirname -- "$0")/.."
 work=$(mktemp -d)
 trap 'rm -rf "$work"' EXIT
 switch=crates/bg_switch/out/bg_switch
-callers=crates/bg_refused_memory/out/bg_refused_memory
+callers=crates/bg_tests_refused_memory/out/bg_tests_refused_memory
 passed=0
 failed=0
 
@@ -28,13 +28,13 @@ build_refuser() {
     fi
 }
 
-# Proves and builds bg_refused_memory where it is missing or older than its sources, as bin/bg_switch does the switch.
+# Proves and builds bg_tests_refused_memory where it is missing or older than its sources, as bin/bg_switch does the switch.
 build_callers() {
     if [ -x "$callers" ] &&
         [ -z "$(find crates crates.txt -name out -prune -o -type f -newer "$callers" -print | head -n 1)" ]; then
         return
     fi
-    (cd crates/bg_refused_memory && rt run) > "$work/built" 2>&1 || { cat "$work/built" >&2; exit 1; }
+    (cd crates/bg_tests_refused_memory && rt run) > "$work/built" 2>&1 || { cat "$work/built" >&2; exit 1; }
     touch "$callers"
 }
 
@@ -74,15 +74,15 @@ all_were_refused() {
 }
 
 refuse_to_libraries() {
-    stored=crates/bg_refused_memory/stdout
+    stored=crates/bg_tests_refused_memory/stdout
     : > "$work/complaints"
     requests=0
     while refuse $((requests + 1)) "$callers"; do
         requests=$((requests + 1))
-        judge "bg_refused_memory with request $requests refused" is_as_stored
+        judge "bg_tests_refused_memory with request $requests refused" is_as_stored
         cat "$work/complaint" >> "$work/complaints"
     done
-    judge 'bg_refused_memory with ample memory' is_as_stored
+    judge 'bg_tests_refused_memory with ample memory' is_as_stored
     judge 'the calls that were made and those that were refused' all_were_refused
 }
 

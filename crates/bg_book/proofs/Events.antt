@@ -15,7 +15,7 @@ use Rattle.bg_history.specs.Sizes.{desired, available}
 use Rattle.bg_history.specs.Deadlines.{exists_in}
 use Rattle.bg_history.specs.Templates.{template}
 use Rattle.bg_history.specs.Allowed.{is_allowed}
-use Rattle.bg_listing.specs.Listed.{sized, revision_of, revisions_of}
+use Rattle.bg_history_listing.specs.Listed.{sized, revision_of, revisions_of}
 use Rattle.bg_book.specs.declared.calls.Control.{Control}
 use Rattle.bg_book.specs.declared.calls.Control.TheVariants.{Tick, Available}
 use Rattle.bg_book.specs.declared.control_fault.ControlFault.TheVariants as fault

@@ -1,6 +1,6 @@
 -- The headline holds of every book.
 use Rattle.std.proofs.Common.{◌≡◌, true, List, length, map, ap, ◌∙◌}
-use Rattle.bg_pasts.specs.Reachable.{Reachable}
+use Rattle.bg_history_facts.specs.Reachable.{Reachable}
 use Rattle.bg_history.specs.Steps.{is_settled}
 use Rattle.bg_book.specs.Headline.{Headline}
 use Rattle.bg_requestlists.specs.RequestLists.{OpenAt, list_of}

@@ -12,7 +12,7 @@ use Rattle.bg_ledger.specs.declared.holding.Holding.{Holding}
 use Rattle.bg_book.specs.declared.calls.Control.{Control}
 use Rattle.bg_book.specs.declared.calls.Control.TheVariants.{Tick, Deploy, Available, Verdict, Promote, PromoteFull, Abort, Retry}
 use Rattle.bg_book.specs.Refusals.{all_open, event_of}
-use Rattle.bg_settling.specs.Work.{work}
+use Rattle.bg_history_settling.specs.Work.{work}
 use Rattle.bg_book.specs.Changes.{with_past, Stepped}
 use Rattle.bg_book.specs.Routing.{Routing}
 use Rattle.bg_book.specs.PastState.{lists_of}

@@ -10,7 +10,7 @@ use Rattle.bg_history.specs.Sizes.{is_scaled}
 use Rattle.bg_history.specs.Promotion.{may_switch}
 use Rattle.bg_history.specs.Requests.{open_at}
 use Rattle.bg_history.specs.Steps.{IsLegal, is_settled}
-use Rattle.bg_pasts.specs.Reachable.{stands_scaled}
+use Rattle.bg_history_facts.specs.Reachable.{stands_scaled}
 use Rattle.bg_ledger.specs.declared.holding.Holding.{Holding}
 use Rattle.bg_requestlists.specs.RequestLists.{list_of}
 use Rattle.bg_book.specs.PastState.{lists_of, requests_at, SeatsStand}

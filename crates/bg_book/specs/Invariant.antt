@@ -11,7 +11,7 @@ use Rattle.bg_promotion.specs.Standing.{Standing}
 use Rattle.bg_promotion.specs.Stands.{StandsFor}
 use Rattle.bg_scaledown.specs.Tables.{Table}
 use Rattle.bg_scaledown.specs.Past.{table_of}
-use Rattle.bg_listing.specs.Listed.{revisions_of}
+use Rattle.bg_history_listing.specs.Listed.{revisions_of}
 use Rattle.bg_book.specs.declared.rollout.Rollout.TheInside.{Inside}
 use Rattle.bg_book.specs.PastState.{lists_of, SeatsStand}
 use Rattle.bg_book.specs.Refusals.{all_open, usual_limits}

@@ -8,9 +8,9 @@ use crate::book::Book;
 use crate::calls::Control;
 use crate::control_fault::ControlFault;
 use crate::limits::MOST_ENTRIES;
+use bg_history_facts::laws::reachable;
+use bg_history_settling::laws::{work_falls, work_is_bounded};
 use bg_ledger::Names;
-use bg_pasts::laws::reachable;
-use bg_settling::laws::{work_falls, work_is_bounded};
 
 impl<N: Names> Book<N> {
     /// Records an event, and answers the number of outcomes that it allowed, which are recorded after it.

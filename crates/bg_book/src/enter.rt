@@ -13,13 +13,13 @@ use crate::limits::PLACES_OF_A_REQUEST;
 use crate::rollout::Rollout;
 use bg_history::Entry;
 use bg_history::laws::existing_ascends;
+use bg_history_facts::laws::reachable;
+use bg_history_listing::laws::finds;
+use bg_history_settling::laws::entering_settles;
 use bg_ledger::{Names, Seat};
-use bg_listing::laws::finds;
-use bg_pasts::laws::reachable;
 use bg_promotion::laws::neutral;
 use bg_requestlists::OpenRequest;
 use bg_revisions::Service;
-use bg_settling::laws::entering_settles;
 
 impl<N: Names> Book<N> {
     /// Lets a request enter at a service: it gets the next number, from 1, the revision that the service selects,

@@ -7,9 +7,9 @@ use crate::calls::Control;
 use crate::control_fault::ControlFault;
 use crate::limits::MOST_ENTRIES;
 use crate::rollout::Rollout;
+use bg_history_facts::laws::reachable;
+use bg_history_listing::laws::{finds, names};
 use bg_ledger::Names;
-use bg_listing::laws::{finds, names};
-use bg_pasts::laws::reachable;
 use bg_revisions::MOST_REVISIONS;
 
 /// The greatest moment, in seconds from the start.

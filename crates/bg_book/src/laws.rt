@@ -5,8 +5,8 @@ ghost use Rattle.bg_book.specs.Gathering.{indices};
 ghost use Rattle.bg_book.specs.Headline.{Headline};
 
 use crate::book::Book;
+use bg_history_facts::laws::reachable;
 use bg_ledger::Names;
-use bg_pasts::laws::reachable;
 
 /// The headline: the book's history is legal, nothing allowed is left undone, both services select existing
 /// scaled revisions, the active one was reached only by the documented rule (Argo Rollouts, "BlueGreen

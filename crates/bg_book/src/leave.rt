@@ -9,10 +9,10 @@ use crate::book::Book;
 use crate::calls::Left;
 use crate::rollout::Rollout;
 use bg_history::Entry;
+use bg_history_facts::laws::reachable;
+use bg_history_settling::laws::{leaving_allows_two, leaving_settles};
 use bg_ledger::{Names, Seat};
-use bg_pasts::laws::reachable;
 use bg_promotion::laws::neutral;
-use bg_settling::laws::{leaving_allows_two, leaving_settles};
 
 impl<N: Names> Book<N> {
     /// Lets the seat's request leave, and answers its number and revision. It takes no memory and is never

@@ -4,8 +4,8 @@ ghost use Rattle.bg_book.specs.Meeting.{Meets};
 
 use crate::book::Book;
 use crate::rollout::Rollout;
+use bg_history_facts::laws::reachable;
 use bg_ledger::{Names, Seat};
-use bg_pasts::laws::reachable;
 
 impl<N: Names> Book<N> {
     /// Changes nothing. It shows that the book's record of a seat is the seat, so that the seat is what the history

@@ -7,15 +7,15 @@ ghost use Rattle.bg_history.specs.Deadlines.{deadline};
 ghost use Rattle.bg_promotion.specs.Phases.{phase_of};
 ghost use Rattle.bg_history.specs.Selections.{selectors_of};
 ghost use Rattle.bg_history.specs.Promotion.{first_promotion};
-ghost use Rattle.bg_listing.specs.Listed.{revisions_of};
+ghost use Rattle.bg_history_listing.specs.Listed.{revisions_of};
 ghost use Rattle.bg_book.specs.PastState.{is_draining as is_draining_in};
 
 use crate::book::Book;
 use crate::rollout::Rollout;
 use bg_history::History;
+use bg_history_facts::laws::reachable;
+use bg_history_listing::laws::finds;
 use bg_ledger::Names;
-use bg_listing::laws::finds;
-use bg_pasts::laws::reachable;
 use bg_promotion::Phase;
 use bg_revisions::{Revision, Selectors};
 use bg_strategy::Strategy;

@@ -12,13 +12,13 @@ ghost use Rattle.bg_history.specs.declared.entry.Outcome.{Outcome};
 
 use crate::rollout::Rollout;
 use bg_history::{Entry, Outcome};
+use bg_history_facts::laws::reachable;
+use bg_history_listing::laws::{finds, keeps, removes, resizes};
+use bg_history_settling::laws::{oldest_is_removed, work_falls, work_is_bounded};
 use bg_ledger::Names;
-use bg_listing::laws::{finds, keeps, removes, resizes};
-use bg_pasts::laws::reachable;
 use bg_promotion::laws::neutral;
 use bg_revisions::{Revision, Selectors};
 use bg_scaledown::laws::few_marks;
-use bg_settling::laws::{oldest_is_removed, work_falls, work_is_bounded};
 
 impl<N: Names> Rollout<N> {
     /// Records each outcome that is allowed, again and again the first one, until none is, and

@@ -12,7 +12,7 @@ use Rattle.bg_promotion.specs.Phases.{phase_of}
 use Rattle.bg_promotion.specs.PhaseNames.{phase_name}
 use Rattle.bg_history.specs.Selections.{selectors_of}
 use Rattle.bg_book.specs.Routing.{Routing}
-use Rattle.bg_listing.specs.Listed.{revisions_of}
+use Rattle.bg_history_listing.specs.Listed.{revisions_of}
 use Rattle.bg_book.specs.PastState.{is_draining}
 
 -- a word, and its number

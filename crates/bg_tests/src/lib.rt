@@ -1,4 +1,4 @@
-//! The tests of the libraries, over their public calls; those of messages alone are bg_http_tests. They stand in crates
+//! The tests of the libraries, over their public calls; those of messages alone are bg_tests_http. They stand in crates
 //! of their own, since a crate that has tests is proved twice: with them and without.
 #![tactic(auto)]
 

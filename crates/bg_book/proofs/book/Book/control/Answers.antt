@@ -1,7 +1,7 @@
 use Rattle.std.proofs.Common.{◌≡◌, ◌≤◌, ◌+◌, ◌*◌, ◌∷◌, ℕ, true, false, length, Option, Some, None, Result, Ok, Err, inl, sym, ap, ◌∙◌, subst, arith}
 use Rattle.std.specs.Result.{IsErrAnd}
 use Rattle.bg_history.specs.Steps.{is_settled}
-use Rattle.bg_pasts.specs.Reachable.{Reachable}
+use Rattle.bg_history_facts.specs.Reachable.{Reachable}
 use Rattle.bg_book.specs.declared.calls.Control.{Control}
 use Rattle.bg_book.specs.declared.control_fault.ControlFault.{ControlFault}
 use Rattle.bg_book.specs.declared.control_fault.ControlFault.TheVariants as control_fault

@@ -12,11 +12,11 @@ use Rattle.bg_history.specs.Selections.{active_of}
 use Rattle.bg_history.specs.Sizes.{desired, last_number}
 use Rattle.bg_history.specs.Deadlines.{exists_in}
 use Rattle.bg_history.specs.Templates.{owner}
-use Rattle.bg_pasts.specs.Reachable.{Reachable}
+use Rattle.bg_history_facts.specs.Reachable.{Reachable}
 use Rattle.bg_promotion.specs.Standing.{Standing}
 use Rattle.bg_promotion.specs.Stands.{StandsFor}
 use Rattle.bg_scaledown.specs.Tables.{Table}
-use Rattle.bg_listing.specs.Listed.{revisions_of}
+use Rattle.bg_history_listing.specs.Listed.{revisions_of}
 use Rattle.bg_book.specs.declared.rollout.Rollout.TheInside.{Inside}
 use Rattle.bg_book.specs.PastState.{lists_of}
 use Rattle.bg_book.specs.Invariant.{Midway, Stands, midway_of, running_of}
