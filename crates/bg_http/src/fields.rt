@@ -1,5 +1,5 @@
 //! The fields of a head.
-ghost use Rattle.std.specs.Prelude.{◌≡◌, ◌++◌, ◌∷◌, [], length, slice_get, option_copied, OnOk, OnErr};
+ghost use Rattle.std.specs.Prelude.{◌≡◌, ◌++◌, ◌∷◌, [], length, slice_get, option_copied, IfOk, OnOk, OnErr};
 
 use crate::bytes::Bytes;
 use std::alloc::{AllocError, Global};
@@ -30,6 +30,14 @@ impl Fields {
             alloc,
             list: Vec::new(alloc),
         }
+    }
+
+    /// No field, with room for `count` of them taken at once; refused only where memory is.
+    pub fn with_room(alloc: Global, count: usize) -> Result<Fields, AllocError>
+        ensures { IfOk result (λ f. f ≡ []) }
+    {
+        let list = Vec::with_capacity(alloc, count)?;
+        Ok(Fields { alloc, list })
     }
 
     /// Adds a copy of `name` and `value` at the end. It is refused only where memory is, and then

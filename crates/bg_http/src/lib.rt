@@ -11,6 +11,7 @@ mod elements;
 mod fields;
 pub mod laws;
 mod lengths;
+mod memory;
 mod removed;
 mod request;
 mod request_fault;
@@ -23,6 +24,7 @@ mod writers;
 
 pub use bytes::Bytes;
 pub use fields::Fields;
+pub use memory::Memory;
 pub use request::{Request, RequestHead};
 pub use request_fault::RequestFault;
 pub use request_rules::{Framing, MOST_REQUEST_BODY, judge_request, owes_continue};

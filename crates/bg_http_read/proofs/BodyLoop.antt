@@ -1,8 +1,9 @@
 -- A body that is read from a stream.
-use Rattle.std.proofs.Common.{◌≡◌, ℕ, zero, suc, ◌==◌, List, [], ◌∷◌, ◌++◌, length, refl, ap, sym, ◌∙◌, append_assoc, subst, true, IsFalse, arith, Option, Some, None, IfSome}
-use Rattle.std.proofs.lemmas.List.{append-nil, length-append}
+use Rattle.std.proofs.Common.{◌≡◌, ℕ, zero, suc, ◌==◌, List, [], ◌++◌, refl, ap, sym, ◌∙◌, append_assoc, subst, true, IsFalse, Option, Some, None, IfSome}
+use Rattle.std.proofs.lemmas.List.{append-nil}
 use Rattle.std.proofs.lemmas.Bool.{eqb-true}
-use Rattle.std.specs.Io.KnownBytes.{Keeps, IsAtEnd, prepend_known}
+use Rattle.std.specs.Io.KnownBytes.{Consumes, Keeps, IsAtEnd, prepend_known}
+use Rattle.bg_http_read.proofs.Filled.{filled_to_come}
 use Rattle.bg_http.specs.declared.response_fault.ResponseFault.TheVariants as fault
 use Rattle.bg_http_read.specs.declared.body.Body.{Body}
 use Rattle.bg_http_read.specs.declared.body.Stage.{Stage}
@@ -80,6 +81,20 @@ follows_on one other next (Some i) (Some j) bytes now h f = record {
   ends = λ to_end. h.ends (f.ends to_end);
 }
 
+-- all bytes that wait now are those that did and those that came
+pub follows_added : (body : Body) (bytes now : List ℕ) → now ≡ bytes → Follows body bytes body now
+follows_added body bytes now e = subst (Follows body bytes body) (sym e) (follows_itself body bytes)
+
+-- a piece was read, and the body took of it
+pub follows_piece : (one other next : Body) (first left later : Option (List ℕ))
+    (waits got now : List ℕ) → Leaves (λ i j. Follows one i other j) first (prepend_known waits left)
+    → Consumes left later got → Follows other (waits ++ got) next now
+    → Leaves (λ i j. Follows one i next j) first (prepend_known now later)
+follows_piece one other next first left later waits got now h came f =
+    follows_on one other next first later (waits ++ got) now
+    (follows_kept one other first (prepend_known waits left) (prepend_known (waits ++ got) later) h
+    (filled_to_come waits (waits ++ got) got left later refl came)) f
+
 -- nothing is missing: what is left is the rest
 pub whole_reads : (s : Stage) (done input : List ℕ) → is_whole s ≡ true → ReadsOn s done input done input
 whole_reads (stage.Length left) done input h = record {
@@ -142,31 +157,16 @@ fails_first : (one other : Body) (i j : List ℕ) (failure : Failure) → Follow
 fails_first one other i j failure f h =
     subst (Fails one failure) (append-nil i) (f.fails failure [] (h []))
 
--- where as many bytes wait as before and no more come, none came
-none_came : (now later i j : List ℕ) → later ++ j ≡ now ++ i → later ≡ now → j ≡ [] → i ≡ []
-none_came now later i j kept same end = empty i (omega (
-  arith,
-  ap length kept,
-  ap length same,
-  ap length end,
-  length-append later j,
-  length-append now i,
-))
-  where
-    empty : (l : List ℕ) → length l ≡ 0 → l ≡ []
-    empty [] e = refl
-    empty (x ∷ l) e = absurd (omega (arith, e))
-
 -- the input ends before the body does
-pub closed_body : (one other : Body) (first left later : Option (List ℕ)) (bytes now rest : List ℕ)
+pub closed_body : (one other : Body) (first left later : Option (List ℕ)) (bytes : List ℕ)
     → Leaves (λ i j. Follows one i other j) first (prepend_known bytes left)
-    → Fails other cut bytes → Keeps (prepend_known now left) (prepend_known rest later)
-    → rest ≡ now → IsAtEnd later → IfSome first (λ input. BodyFails one input fault.Closed)
-closed_body one other None left later bytes now rest f h kept same end = tt
-closed_body one other (Some i) None later bytes now rest f h kept same end = absurd f
-closed_body one other (Some i) (Some j) None bytes now rest f h kept same end = absurd kept
-closed_body one other (Some i) (Some j) (Some k) bytes now rest f h kept same end =
-    let none : j ≡ [] = none_came now rest j k kept same end in
+    → Fails other cut bytes → Consumes left later [] → IsAtEnd later
+    → IfSome first (λ input. BodyFails one input fault.Closed)
+closed_body one other None left later bytes f h came end = tt
+closed_body one other (Some i) None later bytes f h came end = absurd f
+closed_body one other (Some i) (Some j) None bytes f h came end = absurd came
+closed_body one other (Some i) (Some j) (Some k) bytes f h came end =
+    let none : j ≡ [] = came ∙ end in
     let ends = append-nil (bytes ++ j) ∙ ap (λ l. bytes ++ l) none ∙ append-nil bytes in
     subst (Fails one cut) (append-nil i)
     (f.fails cut [] (subst (Fails other cut) (sym ends) h))
@@ -184,3 +184,13 @@ refused_body one other (Some i) (Some j) bytes body_fault.TooLarge f r =
     fails_first one other i (bytes ++ j) large f
     (λ more. subst (Fails other large) (sym (append_assoc bytes j more)) (r (j ++ more)))
 refused_body one other (Some i) (Some j) bytes body_fault.OutOfMemory f r = tt
+
+-- and so is one of a piece that came
+pub refused_piece : (one other : Body) (first left later : Option (List ℕ)) (waits got : List ℕ)
+    (e : BodyFault) → Leaves (λ i j. Follows one i other j) first (prepend_known waits left)
+    → Consumes left later got → Refuses other (waits ++ got) e
+    → IfSome first (λ input. BodyFails one input (read_fault e))
+refused_piece one other first left later waits got e h came r =
+    refused_body one other first later (waits ++ got) e
+    (follows_kept one other first (prepend_known waits left) (prepend_known (waits ++ got) later) h
+    (filled_to_come waits (waits ++ got) got left later refl came)) r

@@ -1,5 +1,5 @@
 -- What a response's parser answers, by what it was fed.
-use Rattle.std.proofs.Common.{◌≡◌, Bool, true, false, ℕ, ◌==◌, ◌≤◌, List, [], ◌++◌, length, refl, ap, sym, ◌∙◌, arith, subst, inl, inr, Option, Some, None, Result, Ok, Err, IfErr, IfNone, IfOk, IfSome, IsErrAnd}
+use Rattle.std.proofs.Common.{◌≡◌, ◌⊎◌, Bool, true, false, ℕ, ◌==◌, ◌≤◌, List, [], ◌++◌, length, refl, ap, sym, ◌∙◌, arith, subst, inl, inr, Option, Some, None, Result, Ok, Err, IfNone, IfSome, IsErrAnd}
 use Rattle.std.proofs.lemmas.List.{append-nil}
 use Rattle.bg_http.specs.declared.request.Request.{Request}
 use Rattle.bg_http.specs.declared.response.Response.{Response}
@@ -11,8 +11,8 @@ use Rattle.bg_http.specs.declared.response_rules.ResponseFraming.TheVariants as 
 use Rattle.bg_http_read.specs.Bodies.{Follows, KeepsLimit, Reads, Fails, Refuses, can_end, is_whole}
 use Rattle.bg_http_read.specs.BodiesRead.{read_fault}
 use Rattle.bg_http_read.specs.BodyFaults.{Failure, malformed, large, cut}
-use Rattle.bg_http_read.specs.Responses.{AfterInterim, IsFinalHead, FramedResponseBodyFails, ReadsResponse, ReadsResponseBody, ResponseBodyFails, ResponseFails, length_of_response, most_response_body, no_body}
-use Rattle.bg_http_read.specs.ResponsesFed.{Advances, GoesToTheEnd, HasParts, IsFed, IsFedBody, IsFedStage, IsOpen, IsOpenStage, IsRead, IsRefused, NeedsMore, StartsBody, WantsBody, WantsStage, first_stage, most_of}
+use Rattle.bg_http_read.specs.Responses.{AfterInterim, IsFinalHead, SkipsInterim, FramedResponseBodyFails, ReadsResponse, ReadsResponseBody, ResponseBodyFails, ResponseFails, length_of_response, most_response_body, no_body}
+use Rattle.bg_http_read.specs.ResponsesFed.{Advances, AdvancesTo, AwaitsHead, IsSeen, LacksResponse, Starts, stage_seen, GoesToTheEnd, HasParts, IsFed, IsFedBody, IsFedStage, IsOpen, IsOpenStage, IsRead, IsRefused, NeedsMore, StartsBody, WantsBody, WantsStage, first_stage, most_of}
 use Rattle.bg_http_read.specs.Streams.{waiting}
 use Rattle.bg_http_read.specs.declared.body.Body.{Body}
 use Rattle.bg_http_read.specs.declared.body.Stage.{Stage}
@@ -21,8 +21,16 @@ use Rattle.bg_http_read.specs.declared.body_fault.BodyFault.{BodyFault}
 use Rattle.bg_http_read.specs.declared.body_fault.BodyFault.TheVariants as body_fault
 use Rattle.bg_http_read.specs.declared.response_body.ResponseBody.{ResponseBody}
 use Rattle.bg_http_read.specs.declared.response_parser.ResponseParser.{ResponseParser}
-use Rattle.bg_http_read.specs.declared.response_parser.ResponseStage.{ResponseStage}
-use Rattle.bg_http_read.specs.declared.response_parser.ResponseStage.TheVariants as part
+use Rattle.bg_http_read.specs.declared.response_progress.Advance.{Advance}
+use Rattle.bg_http_read.specs.HeadEnds.{after_bytes, is_over}
+use Rattle.bg_http_read.specs.declared.head_end.HeadEnd.TheVariants as head_end
+use Rattle.bg_http_read.specs.ResponseHeads.{ReadsResponseHead}
+use Rattle.httparse.specs.Grammar.{HasNoResponse}
+use Rattle.bg_http_read.proofs.HeadsOver.{after_bytes-append, no_response_yet}
+use Rattle.bg_http_read.proofs.InterimOrder.{IsInterim, in_order, final_or_interim}
+use Rattle.bg_http_read.proofs.ResponseOrFault.{response_or_fault}
+use Rattle.bg_http_read.specs.declared.response_progress.ResponseStage.{ResponseStage}
+use Rattle.bg_http_read.specs.declared.response_progress.ResponseStage.TheVariants as part
 use Rattle.bg_http_read.proofs.BodyLoop.{end_reads, follows_behind, follows_both, follows_itself, whole_reads}
 use Rattle.bg_http_read.proofs.InterimTaken.{final_behind, memory_refuses, skips_behind}
 use Rattle.bg_http_read.proofs.ResponseBodies.{end_of, framed_fails, framed_reads}
@@ -77,6 +85,12 @@ pub fed_added : (request : Request) (s : ResponseStage) (waits now seen bytes : 
 fed_added request s waits now seen bytes h added =
     subst (λ w. IsFedStage request s w (seen ++ bytes)) (sym added)
     (fed_behind request s waits seen bytes h)
+
+-- bytes were fed where none wait
+pub fed_first : (request : Request) (s : ResponseStage) (waits seen bytes : List ℕ)
+    → IsFedStage request s waits seen → waits ≡ [] → IsFedStage request s bytes (seen ++ bytes)
+fed_first request s waits seen bytes h none =
+    fed_added request s waits bytes seen bytes h (ap (λ l. l ++ bytes) (sym none))
 
 -- what is read of the bytes that wait and those that follow is a response
 fed_reads : (request : Request) (p : ResponseBody) (waits seen more rest : List ℕ)
@@ -234,54 +248,120 @@ fed_to_the_end request p waits seen h within wants is = record {
     few : length h.after ≤ most_response_body
     few = omega (arith, ap length (all ∙ append-nil h.after), within, h.limit, limit)
 
+-- where the response is cut off, none is whole
+cut_off_lacks : (request : Request) (seen : List ℕ) → ResponseFails request seen fault.Closed
+    → LacksResponse request seen
+cut_off_lacks request seen fails response reads =
+    absurd (no_fault (response_or_fault request seen response fault.Closed reads fails))
+  where
+    no_fault : false ≡ true → ⊥
+    no_fault e = cc
+
+-- where the next head isn't whole, neither is the response
+head_lacks : (request : Request) (count : ℕ) (seen waits : List ℕ)
+    → SkipsInterim request count seen waits → HasNoResponse waits → LacksResponse request seen
+head_lacks request count seen waits skips none response h =
+    by_place (in_order request h.count count seen h.after waits h.skips skips)
+  where
+    by_place : (h.after ≡ waits) ⊎ (IsInterim request h.after ⊎ IsInterim request waits) → ⊥
+    by_place (inl same) =
+        let reads = subst (λ l. ReadsResponseHead l h.holds.0 h.holds.2) same h.holds.3.0.reads in
+        none reads.tree h.holds.2 reads.reads
+    by_place (inr (inl interim)) =
+        final_or_interim request h.after h.holds.0 h.holds.1 h.holds.2 h.holds.3.0 h.holds.3.1 interim
+    by_place (inr (inr (head, next, judged))) = none judged.reads.tree next judged.reads.reads
+
+-- a parser that waits for an empty line needs more
+pub awaits_more : (request : Request) (s : ResponseStage) (waits seen : List ℕ)
+    → IsFedStage request s waits seen → IsSeen s waits → AwaitsHead s → NeedsMore request seen
+awaits_more request (part.Heads search) waits seen h sees awaits =
+    inl (head_lacks request search.interim seen waits h
+    (no_response_yet waits (ap is_over (sym sees) ∙ awaits)))
+awaits_more request (part.Body p) waits seen h sees awaits = absurd awaits
+awaits_more request part.Done waits seen h sees awaits = absurd awaits
+
+-- more bytes wait
+pub seen_behind : (s : ResponseStage) (waits now bytes : List ℕ) → IsSeen s waits
+    → now ≡ waits ++ bytes → IsSeen (stage_seen s bytes) now
+seen_behind (part.Heads search) waits now bytes sees added =
+    ap (λ e. after_bytes e bytes) sees ∙ sym (after_bytes-append head_end.Blank waits bytes)
+    ∙ ap (after_bytes head_end.Blank) (sym added)
+seen_behind (part.Body p) waits now bytes sees added = tt
+seen_behind part.Done waits now bytes sees added = tt
+
+pub fed_seen : (request : Request) (s : ResponseStage) (waits seen bytes : List ℕ)
+    → IsFedStage request s waits seen → IsFedStage request (stage_seen s bytes) waits seen
+fed_seen request (part.Heads search) waits seen bytes h = h
+fed_seen request (part.Body p) waits seen bytes h = h
+fed_seen request part.Done waits seen bytes h = h
+
+pub open_seen : (s : ResponseStage) (bytes : List ℕ) → IsOpenStage s
+    → IsOpenStage (stage_seen s bytes)
+open_seen (part.Heads search) bytes h = h
+open_seen (part.Body p) bytes h = h
+open_seen part.Done bytes h = h
+
+-- nothing was fed
+pub starts_fed : (request : Request) (s : ResponseStage) → Starts s
+    → IsFedStage request s [] [] × (IsOpenStage s × IsSeen s [])
+starts_fed request (part.Heads search) (none, blank) = (
+  subst (λ n. SkipsInterim request n [] []) (sym none) refl,
+  (omega (arith, none), blank),
+)
+starts_fed request (part.Body p) h = absurd h
+starts_fed request part.Done h = absurd h
+
 -- a parser that took all that it can needs more
 pub fed_needs_more : (request : Request) (s : ResponseStage) (waits seen : List ℕ)
     → IsFedStage request s waits seen → IsOpenStage s → WantsStage request s waits seen
     → NeedsMore request seen
-fed_needs_more request (part.Heads search) waits seen h goes_on wants = inl wants
+fed_needs_more request (part.Heads search) waits seen h goes_on wants =
+    inl (cut_off_lacks request seen wants)
 fed_needs_more request (part.Body p) waits seen h goes_on wants = by_end (can_end p.body.stage) refl
   where
     by_end : (ends : Bool) → can_end p.body.stage ≡ ends → NeedsMore request seen
-    by_end false e = inl (wants.cut_off e)
+    by_end false e = inl (cut_off_lacks request seen (wants.cut_off e))
     by_end true e =
         inr (fed_to_the_end request p waits seen h goes_on wants
         (to_the_end p.body.stage e wants.missing))
 fed_needs_more request part.Done waits seen h goes_on wants = absurd h
 
 -- a fault that is known is what is answered
-pub advances_err : (request : Request) (seen : List ℕ) (parser : ResponseParser)
-    (r : Result (Option Response) ResponseFault) (e : ResponseFault) → IsErrAnd r (λ f. f ≡ e)
-    → IsRefused request e seen → Advances request seen r parser
-advances_err request seen parser (Ok (Some response)) e is refused = absurd is
-advances_err request seen parser (Ok None) e is refused = absurd is
-advances_err request seen parser (Err f) e is refused =
+pub advances_err : (request : Request) (seen bytes : List ℕ) (s : ResponseStage)
+    (r : Result Advance ResponseFault) (e : ResponseFault) → IsErrAnd r (λ f. f ≡ e)
+    → IsRefused request e seen → Advances request seen bytes r s
+advances_err request seen bytes s (Ok advance) e is refused = absurd is
+advances_err request seen bytes s (Err f) e is refused =
     subst (λ f. IsRefused request f seen) (sym is) refused
 
 -- what the parts of an answer say
-pub advanced_response : (request : Request) (seen : List ℕ) (parser : ResponseParser)
-    (r : Result (Option Response) ResponseFault) → Advances request seen r parser
-    → IfOk r (λ found. IfSome found (λ response. IsRead request response seen))
-advanced_response request seen parser (Ok (Some response)) h = h
-advanced_response request seen parser (Ok None) h = tt
-advanced_response request seen parser (Err e) h = tt
+pub advanced_response : (request : Request) (seen left : List ℕ) (s : ResponseStage)
+    (found : Option Response) → AdvancesTo request seen left found s
+    → IfSome found (λ response. IsRead request response seen)
+advanced_response request seen left s (Some response) h = h
+advanced_response request seen left s None h = tt
 
-pub advanced_none : (request : Request) (seen : List ℕ) (parser : ResponseParser)
-    (r : Result (Option Response) ResponseFault) → Advances request seen r parser
-    → IfOk r (λ found. IfNone found (IsOpen parser))
-    → IfOk r (λ found. IfNone found (IsFed parser request seen × NeedsMore request seen))
-advanced_none request seen parser (Ok (Some response)) h goes_on = tt
-advanced_none request seen parser (Ok None) h goes_on = (
-  h.0,
-  fed_needs_more request parser.stage (waiting parser.intake) seen h.0.stage_is goes_on h.1,
+pub advanced_none_at : (request : Request) (seen left : List ℕ) (parser : ResponseParser)
+    (found : Option Response) → parser.progress.request.now ≡ request
+    → AdvancesTo request seen left found parser.progress.stage
+    → IfNone found (IsOpenStage parser.progress.stage) → waiting parser.intake ≡ left
+    → IfNone found (IsFed parser request seen × NeedsMore request seen)
+advanced_none_at request seen left parser (Some response) asked h goes_on waits = tt
+advanced_none_at request seen left parser None asked h goes_on waits = (
+  record {
+    request_is = asked;
+    stage_is = subst (λ w. IsFedStage request parser.progress.stage w seen) (sym waits) h.0;
+  },
+  fed_needs_more request parser.progress.stage left seen h.0 goes_on h.1,
 )
-advanced_none request seen parser (Err e) h goes_on = tt
 
-pub advanced_fault : (request : Request) (seen : List ℕ) (parser : ResponseParser)
-    (r : Result (Option Response) ResponseFault) → Advances request seen r parser
-    → IfErr r (λ e. IsRefused request e seen)
-advanced_fault request seen parser (Ok (Some response)) h = tt
-advanced_fault request seen parser (Ok None) h = tt
-advanced_fault request seen parser (Err e) h = h
+pub advanced_open : (left : List ℕ) (parser : ResponseParser) (found : Option Response)
+    → IfNone found (IsOpenStage parser.progress.stage)
+    → IfNone found (IsSeen parser.progress.stage left) → waiting parser.intake ≡ left
+    → IfNone found (IsOpen parser)
+advanced_open left parser (Some response) goes_on sees waits = tt
+advanced_open left parser None goes_on sees waits =
+    (goes_on, subst (IsSeen parser.progress.stage) (sym waits) sees)
 
 -- what is so whatever follows is so where nothing does
 pub refused_here : (request : Request) (e : ResponseFault) (seen : List ℕ)

@@ -7,6 +7,7 @@ pub mod FedResponses
 pub mod Filled
 pub mod Fronts
 pub mod HeadLengths
+pub mod HeadsOver
 pub mod InterimOrder
 pub mod InterimTaken
 pub mod LineSteps

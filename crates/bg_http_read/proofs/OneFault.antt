@@ -11,7 +11,7 @@ use Rattle.bg_http.specs.declared.response_fault.ResponseFault.{ResponseFault}
 use Rattle.bg_http.specs.declared.response_fault.ResponseFault.TheVariants as read
 use Rattle.bg_http_read.specs.BodyFaults.{Failure, malformed, large, cut}
 use Rattle.bg_http_read.specs.HeadFaults.{RequestHeadFails}
-use Rattle.bg_http_read.specs.Laws.{is_of_machine, EndsInManyTrailers, IsUndecided}
+use Rattle.bg_http_read.specs.Laws.{is_of_machine, EndsInManyTrailers, EndsInWrongTarget, IsUndecided}
 use Rattle.bg_http_read.specs.RequestHeads.{RequestHeadIsMalformed, RequestHeadIsLarge, RequestHeadIsCut}
 use Rattle.bg_http_read.specs.Requests.{HeadRefused, BodyRefused, FramedBodyFails, RequestBodyFails, RequestFails, as_request}
 use Rattle.bg_http_read.proofs.RequestOrFault.{one_request_head, head_or_fault}
@@ -25,12 +25,12 @@ of_both e is isnt = absurd (differ (sym is ∙ isnt))
 
 -- what can become a head isn't malformed, but where it ends in its target
 malformed_or_begun : (bytes : List ℕ) → grammar.NeverHasRequest bytes → grammar.MayBecomeRequest bytes
-    → grammar.EndsInTarget bytes
+    → EndsInWrongTarget bytes
 malformed_or_begun bytes never (inl (more, head, reads)) = absurd (never more head [] reads)
-malformed_or_begun bytes never (inr ends) = ends
+malformed_or_begun bytes never (inr ends) = (ends, never)
 
 large_or_malformed : (input : List ℕ) → RequestHeadIsLarge input → RequestHeadIsMalformed input
-    → grammar.EndsInTarget (take 16384 input)
+    → EndsInWrongTarget (take 16384 input)
 large_or_malformed input (inl (tree, rest, reads, many)) never =
     absurd (never [] tree rest (reads.0, append-nil (take 16384 input) ∙ reads.1))
 large_or_malformed input (inr (full, none, may)) never =
@@ -43,7 +43,7 @@ large_or_cut input (inl (tree, rest, reads, many)) (few, none, may) =
 large_or_cut input (inr (full, none, may)) (few, other, begun) = omega (arith, full, few)
 
 malformed_or_cut : (input : List ℕ) → RequestHeadIsMalformed input → RequestHeadIsCut input
-    → grammar.EndsInTarget (take 16384 input)
+    → EndsInWrongTarget (take 16384 input)
 malformed_or_cut input never (few, none, may) =
     let same = take_all 16384 input (omega (arith, few)) in
     malformed_or_begun (take 16384 input) never (subst grammar.MayBecomeRequest (sym same) may)
@@ -51,7 +51,7 @@ malformed_or_cut input never (few, none, may) =
 one_head_fault : (input : List ℕ) (one other : ResponseFault) → RequestHeadFails input one
     → RequestHeadFails input other → is_of_machine (as_request one) ≡ false
     → is_of_machine (as_request other) ≡ false
-    → (as_request one ≡ as_request other) ⊎ grammar.EndsInTarget (take 16384 input)
+    → (as_request one ≡ as_request other) ⊎ EndsInWrongTarget (take 16384 input)
 one_head_fault input read.ReadFailed other h k isnt neither = of_both fault.ReadFailed refl isnt
 one_head_fault input read.TooLarge other h k isnt neither = absurd h
 one_head_fault input read.OutOfMemory other h k isnt neither = of_both fault.OutOfMemory refl isnt
@@ -131,7 +131,7 @@ one_refused input one other (inr (of, is, fails)) (inl k) isnt neither =
 one_refused input one other (inr (of, is, fails)) (inr (next, same, lacks)) isnt neither =
     by_head (one_head_fault input of next fails lacks (sym (ap is_of_machine is) ∙ isnt) (sym (ap is_of_machine same) ∙ neither))
   where
-    by_head : (as_request of ≡ as_request next) ⊎ grammar.EndsInTarget (take 16384 input)
+    by_head : (as_request of ≡ as_request next) ⊎ EndsInWrongTarget (take 16384 input)
         → (one ≡ other) ⊎ IsUndecided input
     by_head (inl e) = inl (is ∙ e ∙ sym same)
     by_head (inr ends) = inr (inl ends)

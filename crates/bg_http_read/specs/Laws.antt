@@ -6,7 +6,7 @@ use Rattle.bg_http.specs.declared.request_fault.RequestFault.TheVariants as faul
 use Rattle.bg_http.specs.declared.response.Response.{Response}
 use Rattle.bg_http.specs.declared.response_fault.ResponseFault.{ResponseFault}
 use Rattle.bg_http.specs.declared.response_fault.ResponseFault.TheVariants as wrong
-use Rattle.httparse.specs.Grammar.{EndsInTarget, MayBecomeSection}
+use Rattle.httparse.specs.Grammar.{EndsInTarget, MayBecomeSection, NeverHasRequest}
 use Rattle.httparse.specs.Spans.{SectionOverflows}
 use Rattle.bg_http_read.specs.Chunks.{ReadsLine, Leads}
 use Rattle.bg_http_read.specs.Requests.{ReadsRequest, RequestFails, AfterHead}
@@ -51,11 +51,15 @@ EndsInManyTrailers input =
     × Leads (λ last. (after : List ℕ) × ReadsLine last 0 after
     × SectionOverflows 64 (take 16384 after) × MayBecomeSection after) chunks input
 
--- a request is left between two faults where its head ends within the target, at the end of the
--- input or of the first 16,384 bytes, or where its body ends within such trailers
+-- the bytes end within the target of a head, and can become no head, whatever follows
+abbrev pub EndsInWrongTarget : List ℕ → Type 0
+EndsInWrongTarget bytes = EndsInTarget bytes × NeverHasRequest bytes
+
+-- a request is left between two faults where its head ends within a target that is none, at the
+-- end of the input or of the first 16,384 bytes, or where its body ends within such trailers
 abbrev pub IsUndecided : List ℕ → Type 0
 IsUndecided input =
-    EndsInTarget (take 16384 input)
+    EndsInWrongTarget (take 16384 input)
     ⊎ AfterHead input (λ head named after. EndsInManyTrailers after)
 
 -- but for those, an input has one fault

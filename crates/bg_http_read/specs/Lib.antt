@@ -2,6 +2,7 @@ pub mod Bodies
 pub mod BodiesRead
 pub mod BodyFaults
 pub mod Chunks
+pub mod HeadEnds
 pub mod HeadFaults
 pub mod Laws
 pub mod RequestHeads

@@ -1,5 +1,5 @@
 -- What the parser of a response was fed, and what it answers.
-use Rattle.std.specs.Prelude.{◌≡◌, ◌⊎◌, Bool, true, false, IsFalse, ℕ, ◌≤◌, List, [], ◌++◌, length, Option, Some, None, Result, Ok, Err}
+use Rattle.std.specs.Prelude.{◌≡◌, ◌⊎◌, Bool, true, false, IsFalse, ℕ, ◌≤◌, List, [], ◌++◌, length, drop, Option, Some, None, Result, Ok, Err, ⊤}
 use Rattle.bg_http.specs.declared.request.Request.{Request}
 use Rattle.bg_http.specs.declared.response.Response.{Response}
 use Rattle.bg_http.specs.declared.response_fault.ResponseFault.{ResponseFault}
@@ -9,14 +9,17 @@ use Rattle.bg_http.specs.declared.response_rules.ResponseFraming.TheVariants as 
 use Rattle.bg_http_read.specs.Bodies.{Follows, KeepsLimit, can_end, is_whole}
 use Rattle.bg_http_read.specs.Responses.{AfterInterim, FinalHeadThen, IsFinalHead, ReadsResponse, ResponseFails, SkipsInterim, length_of_response, most_response_body}
 use Rattle.bg_http_read.specs.Streams.{waiting}
+use Rattle.bg_http_read.specs.HeadEnds.{after_bytes, is_over}
+use Rattle.bg_http_read.specs.declared.head_end.HeadEnd.TheVariants as head_end
 use Rattle.bg_http_read.specs.declared.body.Body.{Body}
 use Rattle.bg_http_read.specs.declared.body.Stage.{Stage}
 use Rattle.bg_http_read.specs.declared.body.Stage.TheVariants as stage
 use Rattle.bg_http_read.specs.declared.final_head.HeadSearch.{HeadSearch}
 use Rattle.bg_http_read.specs.declared.response_body.ResponseBody.{ResponseBody}
 use Rattle.bg_http_read.specs.declared.response_parser.ResponseParser.{ResponseParser}
-use Rattle.bg_http_read.specs.declared.response_parser.ResponseStage.{ResponseStage}
-use Rattle.bg_http_read.specs.declared.response_parser.ResponseStage.TheVariants as part
+use Rattle.bg_http_read.specs.declared.response_progress.Advance.{Advance}
+use Rattle.bg_http_read.specs.declared.response_progress.ResponseStage.{ResponseStage}
+use Rattle.bg_http_read.specs.declared.response_progress.ResponseStage.TheVariants as part
 
 -- whatever follows the bytes, they begin with the response
 abbrev pub IsRead : Request → Response → List ℕ → Type 0
@@ -33,9 +36,13 @@ GoesToTheEnd request seen =
     (FinalHeadThen request (λ named after. (named ≡ framing.ToTheEnd)
     × (length after ≤ most_response_body)))
 
--- more bytes are needed: an input that ends here is cut off, or the response goes to its end
+-- no response is whole
+abbrev pub LacksResponse : Request → List ℕ → Type 0
+LacksResponse request seen = (response : Response) → ¬ (ReadsResponse request response seen)
+
+-- more bytes are needed: no response is whole, or it goes to the end of the input
 abbrev pub NeedsMore : Request → List ℕ → Type 0
-NeedsMore request seen = ResponseFails request seen fault.Closed ⊎ GoesToTheEnd request seen
+NeedsMore request seen = LacksResponse request seen ⊎ GoesToTheEnd request seen
 
 -- the fault is one of the stream, not of its bytes or of memory
 abbrev pub is_of_stream : ResponseFault → Bool
@@ -89,10 +96,35 @@ IsFedStage request (part.Heads search) waits seen = SkipsInterim request search.
 IsFedStage request (part.Body response) waits seen = IsFedBody request response waits seen
 IsFedStage request part.Done waits seen = ⊥
 
+-- nothing came
+abbrev pub Starts : ResponseStage → Type 0
+Starts (part.Heads search) = (search.interim ≡ 0) × (search.end ≡ head_end.Blank)
+Starts (part.Body response) = ⊥
+Starts part.Done = ⊥
+
+-- bytes wait behind those that wait for the end of their head
+abbrev pub stage_seen : ResponseStage → List ℕ → ResponseStage
+stage_seen (part.Heads search) bytes =
+    part.Heads (record search { end = after_bytes search.end bytes })
+stage_seen (part.Body response) bytes = part.Body response
+stage_seen part.Done bytes = part.Done
+
+-- what waits for the end of its head was seen
+abbrev pub IsSeen : ResponseStage → List ℕ → Type 0
+IsSeen (part.Heads search) waits = search.end ≡ after_bytes head_end.Blank waits
+IsSeen (part.Body response) waits = ⊤
+IsSeen part.Done waits = ⊤
+
+-- a head is looked for, and no empty line has come that may end it
+abbrev pub AwaitsHead : ResponseStage → Type 0
+AwaitsHead (part.Heads search) = is_over search.end ≡ false
+AwaitsHead (part.Body response) = ⊥
+AwaitsHead part.Done = ⊥
+
 -- the parser of the response to the request was fed these bytes, one piece after the other
 pub record IsFed (parser : ResponseParser) (request : Request) (seen : List ℕ) : Type 0 where
-  pub request_is : parser.request.now ≡ request
-  pub stage_is : IsFedStage request parser.stage (waiting parser.intake) seen
+  pub request_is : parser.progress.request.now ≡ request
+  pub stage_is : IsFedStage request parser.progress.stage (waiting parser.intake) seen
 
 abbrev pub IsOpenStage : ResponseStage → Type 0
 IsOpenStage (part.Heads search) = IsReady search
@@ -101,7 +133,8 @@ IsOpenStage part.Done = ⊥
 
 -- the parser may be fed or ended: it gave no answer and no fault
 abbrev pub IsOpen : ResponseParser → Type 0
-IsOpen parser = IsOpenStage parser.stage
+IsOpen parser =
+    IsOpenStage parser.progress.stage × IsSeen parser.progress.stage (waiting parser.intake)
 
 -- the body isn't whole: it is cut off where the input ends here, or goes to the end
 pub record WantsBody (request : Request) (response : ResponseBody) (waits seen : List ℕ)
@@ -115,16 +148,19 @@ WantsStage request (part.Heads search) waits seen = ResponseFails request seen f
 WantsStage request (part.Body response) waits seen = WantsBody request response waits seen
 WantsStage request part.Done waits seen = ⊥
 
--- the parser took all that it can of the bytes that it was fed, and needs more
-abbrev pub Wants : ResponseParser → Request → List ℕ → Type 0
-Wants parser request seen = WantsStage request parser.stage (waiting parser.intake) seen
+-- what came of bytes: a response; or what they leave waits, and more is needed
+abbrev pub AdvancesTo
+    : Request → List ℕ → List ℕ → Option Response → ResponseStage → Type 0
+AdvancesTo request seen left (Some response) stage = IsRead request response seen
+AdvancesTo request seen left None stage =
+    IsFedStage request stage left seen × WantsStage request stage left seen
 
--- what it answers after these bytes: a response; or it needs more; or a fault
+-- the same, or a fault
 abbrev pub Advances
-    : Request → List ℕ → Result (Option Response) ResponseFault → ResponseParser → Type 0
-Advances request seen (Ok (Some response)) parser = IsRead request response seen
-Advances request seen (Ok None) parser = IsFed parser request seen × Wants parser request seen
-Advances request seen (Err named) parser = IsRefused request named seen
+    : Request → List ℕ → List ℕ → Result Advance ResponseFault → ResponseStage → Type 0
+Advances request seen bytes (Ok advance) stage =
+    AdvancesTo request seen (drop advance.taken bytes) advance.response stage
+Advances request seen bytes (Err named) stage = IsRefused request named seen
 
 -- the response has the parts of the head, and the body as far as it was fed
 pub record HasParts (response : Response) (of : ResponseBody) : Type 0 where

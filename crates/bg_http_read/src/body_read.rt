@@ -6,7 +6,7 @@ ghost use Rattle.bg_http_read.specs.BodiesRead.{BodyFails, Leaves};
 ghost use Rattle.bg_http_read.specs.Streams.{to_come};
 
 use crate::body::Body;
-use crate::intake::{Intake, MOST_TURNS};
+use crate::intake::{Intake, MOST_TURNS, PIECE, read_piece};
 use bg_http::{Duplex, ResponseFault};
 
 /// Reads a body to its end.
@@ -25,20 +25,24 @@ pub(crate) fn read_body<S: Duplex>(
         (λ input. BodyFails body.old input fault)) }
     ensures kept { Keeps (S.contents stream.old) (S.contents stream.new) }
 {
+    let mut piece = [0; PIECE];
     for _ in 0..MOST_TURNS {
         match body.take_waiting(intake) {
             Ok(true) => return Ok(()),
             Ok(false) => {}
             Err(fault) => return Err(ResponseFault::from(fault)),
         }
-        match intake.fill(stream) {
-            Ok(true) => {}
-            Ok(false) => {
-                if body.can_end() {
-                    return Ok(());
-                }
-                return Err(ResponseFault::Closed);
+        let Some(count) = read_piece(stream, &mut piece) else {
+            return Err(ResponseFault::ReadFailed);
+        };
+        if count == 0 {
+            if body.can_end() {
+                return Ok(());
             }
+            return Err(ResponseFault::Closed);
+        }
+        match body.take_piece(&piece[..count], intake) {
+            Ok(()) => {}
             Err(fault) => return Err(ResponseFault::from(fault)),
         }
     }

@@ -1,11 +1,15 @@
 //! The head of the response that isn't interim, looked for as the bytes come.
-ghost use Rattle.std.specs.Prelude.{◌≡◌, List, ℕ, IfErr, IfOk, IfNone, IfSome, IsFalse};
+ghost use Rattle.std.specs.Prelude.{◌≡◌, ◌≤◌, ◌||◌, List, ℕ, IfErr, IfOk, IfNone, IfSome, IsFalse};
+ghost use Rattle.std.specs.Prelude.{drop, length, nat_le};
+ghost use Rattle.bg_http_read.specs.HeadEnds.{after_bytes, is_over};
 ghost use Rattle.bg_http_read.specs.ResponseHeads.{ResponseHeadIsCut};
 ghost use Rattle.bg_http_read.specs.Responses.{AfterInterim, IsFinalHead, SkipsInterim, names_another};
 ghost use Rattle.bg_http_read.specs.ResponsesFed.{IsReady, IsRefused, is_of_stream};
-ghost use Rattle.bg_http_read.specs.Streams.{waiting};
+ghost use Rattle.bg_http_read.specs.declared.head_end.HeadEnd.TheVariants as head_end;
 
-use crate::intake::Intake;
+use crate::head_end::HeadEnd;
+use crate::head_limits::MOST_HEAD;
+use crate::intake::behind;
 use crate::response_head::find_response_head;
 use bg_http::{Request, ResponseFault, ResponseFraming, ResponseHead, judge_response};
 use std::alloc::Global;
@@ -26,54 +30,91 @@ fn names_another(framing: ResponseFraming) -> bool
     }
 }
 
+/// What a search found: the head that isn't interim, judged, where it is whole; and how many bytes
+/// the heads have that were taken.
+#[derive(Drop)]
+pub(crate) struct HeadFound {
+    pub(crate) head: Option<(ResponseHead, ResponseFraming)>,
+    pub(crate) taken: usize,
+}
+
 /// The search for the head of the response that isn't interim.
 #[derive(Drop)]
 pub(crate) struct HeadSearch {
     interim: usize,
+    /// How far the bytes go that wait for the end of their head.
+    end: HeadEnd,
 }
 
 impl HeadSearch {
     /// Nothing is found.
     pub(crate) fn new() -> HeadSearch
-        ensures { result.interim ≡ 0 }
+        ensures interim { result.interim ≡ 0 }
+        ensures end { result.end ≡ head_end.Blank }
     {
-        HeadSearch { interim: 0 }
+        HeadSearch {
+            interim: 0,
+            end: HeadEnd::Blank,
+        }
     }
 
-    /// Takes interim responses and the head after them of the bytes that wait, and judges it; none
-    /// where it needs more.
-    pub(crate) fn take_waiting(
+    /// More bytes wait.
+    pub(crate) fn see(&mut self, bytes: &[u8])
+        ensures interim { self.new.interim ≡ self.old.interim }
+        ensures end { self.new.end ≡ after_bytes self.old.end bytes.now }
+    {
+        self.end = self.end.after_all(bytes);
+    }
+
+    /// Whether the head may be whole in so many bytes that wait, or is too large if it isn't.
+    pub(crate) fn is_due(&self, count: usize) -> bool
+        ensures { result ≡ (is_over self.now.end || nat_le 16384 count) }
+    {
+        self.end.is_over() || count >= MOST_HEAD
+    }
+
+    /// Takes interim responses and the head after them from the front of the bytes, and judges it.
+    pub(crate) fn take_from(
         &mut self,
         alloc: Global,
         request: &Request,
-        intake: &mut Intake,
-    ) -> Result<Option<(ResponseHead, ResponseFraming)>, ResponseFault>
+        bytes: &[u8],
+    ) -> Result<HeadFound, ResponseFault>
         requires { IsReady self.old }
+        ensures fits { IfOk result (λ found. found.taken ≤ length bytes.now) }
         ensures head { (seen : List ℕ)
-            → SkipsInterim request.now self.old.interim seen (waiting intake.old)
-            → IfOk result (λ found. IfSome found (λ at. AfterInterim request.now seen
-            (IsFinalHead request.now at.0 at.1 (waiting intake.new)))) }
+            → SkipsInterim request.now self.old.interim seen bytes.now
+            → IfOk result (λ found. IfSome found.head (λ at. AfterInterim request.now seen
+            (IsFinalHead request.now at.0 at.1 (drop found.taken bytes.now)))) }
         ensures none_yet { (seen : List ℕ)
-            → SkipsInterim request.now self.old.interim seen (waiting intake.old)
-            → IfOk result (λ found. IfNone found
-            (SkipsInterim request.now self.new.interim seen (waiting intake.new))) }
-        ensures cut_off { IfOk result (λ found. IfNone found
-            (ResponseHeadIsCut (waiting intake.new))) }
-        ensures ready { IfOk result (λ found. IfNone found (IsReady self.new)) }
+            → SkipsInterim request.now self.old.interim seen bytes.now
+            → IfOk result (λ found. IfNone found.head
+            (SkipsInterim request.now self.new.interim seen (drop found.taken bytes.now))) }
+        ensures cut_off { IfOk result (λ found. IfNone found.head
+            (ResponseHeadIsCut (drop found.taken bytes.now))) }
+        ensures ready { IfOk result (λ found. IfNone found.head (IsReady self.new)) }
+        ensures end { IfOk result (λ found. IfNone found.head
+            (self.new.end ≡ after_bytes head_end.Blank (drop found.taken bytes.now))) }
         ensures refused { (seen : List ℕ)
-            → SkipsInterim request.now self.old.interim seen (waiting intake.old)
+            → SkipsInterim request.now self.old.interim seen bytes.now
             → IfErr result (λ fault. IsRefused request.now fault seen) }
         ensures fault { IfErr result (λ fault. IsFalse (is_of_stream fault)) }
     {
+        let mut taken = 0;
         while self.interim < MOST_HEADS {
-            let found = find_response_head(alloc, intake.get())?;
+            let rest = behind(bytes, taken);
+            let found = find_response_head(alloc, rest)?;
             let Some((head, count)) = found else {
-                return Ok(None);
+                self.end = HeadEnd::of(rest);
+                return Ok(HeadFound { head: None, taken });
             };
-            intake.skip(count);
+            taken += count;
             let framing = judge_response(request, &head)?;
             if !names_another(framing) {
-                return Ok(Some((head, framing)));
+                return Ok(HeadFound {
+                    head: Some((head, framing)),
+                    taken,
+                });
             }
             self.interim += 1;
         }

@@ -1,5 +1,5 @@
 //! Bytes that were read from a stream and not yet taken.
-ghost use Rattle.std.specs.Prelude.{◌≡◌, ◌<◌, ◌≤◌, ◌++◌, [], IfOk, IfSome, IsFalse, OnErr, OnOk};
+ghost use Rattle.std.specs.Prelude.{◌≡◌, ◌<◌, ◌≤◌, ◌++◌, [], IfOk, IfSome, IsFalse, IsTrue, OnErr, OnOk};
 ghost use Rattle.std.specs.Prelude.{drop, length, take};
 ghost use Rattle.std.specs.Io.KnownBytes.{Consumes, IsAtEnd, Keeps};
 ghost use Rattle.bg_http_read.specs.Streams.{to_come, waiting};
@@ -12,7 +12,7 @@ use std::io::{ErrorKind, Read};
 pub(crate) const MOST_TURNS: u32 = 1 << 24;
 
 /// How many bytes are asked for at once.
-pub(crate) const PIECE: usize = 4096;
+pub(crate) const PIECE: usize = 8192;
 
 /// Why no more bytes come.
 #[derive(Clone, Copy, PartialEq, Eq, Debug, Drop)]
@@ -55,6 +55,14 @@ pub(crate) fn read_piece<S: Duplex>(stream: &mut S, piece: &mut [u8]) -> Option<
     None
 }
 
+/// The bytes behind the first ones.
+pub(crate) fn behind(bytes: &[u8], count: usize) -> &[u8]
+    requires { count ≤ length bytes.now }
+    ensures { result.now ≡ drop count bytes.now }
+{
+    &bytes[count..]
+}
+
 /// Bytes that were read from a stream and not yet taken.
 #[derive(Drop)]
 pub(crate) struct Intake {
@@ -81,6 +89,13 @@ impl Intake {
             Some(bytes) => bytes,
             None => &[],
         }
+    }
+
+    /// Whether none wait.
+    pub(crate) fn is_empty(&self) -> bool
+        ensures { IsTrue result → waiting self.now ≡ [] }
+    {
+        self.get().is_empty()
     }
 
     /// Drops the first of the bytes that wait.
@@ -117,22 +132,26 @@ impl Intake {
         self.bytes.extend_from_slice(bytes)
     }
 
-    /// Adds the next bytes of the stream, and tells whether there were any.
-    pub(crate) fn fill<S: Duplex>(&mut self, stream: &mut S) -> Result<bool, IntakeFault>
+    /// Reads the next bytes of the stream into the front of `piece` and adds them; how many there
+    /// were, none at its end.
+    pub(crate) fn fill<S: Duplex>(
+        &mut self,
+        stream: &mut S,
+        piece: &mut [u8],
+    ) -> Result<usize, IntakeFault>
+        requires { 0 < length piece.old }
+        ensures fits { IfOk result (λ count. count ≤ length piece.new) }
         ensures to_come { OnOk result (Keeps (to_come self.old (S.remaining stream.old))
             (to_come self.new (S.remaining stream.new))) }
-        ensures end { IfOk result (λ more. IsFalse more
+        ensures end { IfOk result (λ count. count ≡ 0
             → (waiting self.new ≡ waiting self.old) × IsAtEnd (S.remaining stream.new)) }
         ensures kept { Keeps (S.contents stream.old) (S.contents stream.new) }
     {
-        self.compact();
-        let held = self.bytes.len();
-        self.bytes.resize(held + PIECE, 0)?;
-        let Some(count) = read_piece(stream, &mut self.bytes[held..]) else {
+        let Some(count) = read_piece(stream, piece) else {
             return Err(IntakeFault::ReadFailed);
         };
-        self.bytes.truncate(held + count);
-        Ok(count > 0)
+        self.add(&piece[..count])?;
+        Ok(count)
     }
 }
 

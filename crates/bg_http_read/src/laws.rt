@@ -13,9 +13,9 @@ pub fn a_request_has_no_fault()
         → RequestExcludesFaults input rest request fault }
 {}
 
-/// No input has two faults of a request, but for an input that ends within the target of the head,
-/// and one that ends within trailers of which more than 64 are begun: `httparse` leaves open when
-/// it looks at either.
+/// No input has two faults of a request, but for one that ends within the target of the head and
+/// can become no request, as its target isn't UTF-8, and one that ends within trailers of which more
+/// than 64 are begun: `httparse` leaves open when it looks at either.
 pub fn a_request_has_one_fault()
     ensures { (input : List ℕ) (one other : RequestFault) → HasOneFault input one other }
 {}

@@ -6,12 +6,20 @@ ghost use Rattle.bg_http_read.specs.HeadFaults.{RequestHeadFails};
 ghost use Rattle.bg_http_read.specs.RequestHeads.{ReadsRequestHead};
 ghost use Rattle.bg_http_read.specs.Streams.{to_come};
 
-use crate::intake::{Intake, MOST_TURNS};
+use crate::head_end::HeadEnd;
+use crate::head_limits::MOST_HEAD;
+use crate::intake::{Intake, MOST_TURNS, PIECE};
 use crate::request_head::find_request_head;
 use bg_http::{Duplex, RequestHead, ResponseFault};
 use std::alloc::Global;
 
-/// Reads the head of a request.
+/// Whether a head is looked for: where it may be whole, at the most bytes that it may have, and
+/// where no more come.
+fn is_due(end: HeadEnd, came: usize, waiting: usize) -> bool {
+    end.is_over() || came == 0 || waiting >= MOST_HEAD
+}
+
+/// Reads the head of a request. It is looked for in the first piece, and then where it is due.
 pub(crate) fn read_request_head<S: Duplex>(
     alloc: Global,
     stream: &mut S,
@@ -24,19 +32,25 @@ pub(crate) fn read_request_head<S: Duplex>(
         (λ input. RequestHeadFails input fault)) }
     ensures kept { Keeps (S.contents stream.old) (S.contents stream.new) }
 {
+    let mut piece = [0; PIECE];
+    let mut end = HeadEnd::Over;
     for _ in 0..MOST_TURNS {
-        match find_request_head(alloc, intake.get()) {
-            Ok(Some((head, count))) => {
-                intake.skip(count);
-                return Ok(head);
+        let count = match intake.fill(stream, &mut piece) {
+            Ok(count) => count,
+            Err(fault) => return Err(ResponseFault::from(fault)),
+        };
+        end = end.after_all(&piece[..count]);
+        let waits = intake.get();
+        if is_due(end, count, waits.len()) {
+            match find_request_head(alloc, waits) {
+                Ok(Some((head, taken))) => {
+                    intake.skip(taken);
+                    return Ok(head);
+                }
+                Ok(None) if count == 0 => return Err(ResponseFault::Closed),
+                Ok(None) => end = HeadEnd::of(waits),
+                Err(fault) => return Err(ResponseFault::from(fault)),
             }
-            Ok(None) => {}
-            Err(fault) => return Err(ResponseFault::from(fault)),
-        }
-        match intake.fill(stream) {
-            Ok(true) => {}
-            Ok(false) => return Err(ResponseFault::Closed),
-            Err(fault) => return Err(ResponseFault::from(fault)),
         }
     }
     Err(ResponseFault::ReadFailed)

@@ -2,51 +2,34 @@
 ghost use Rattle.std.specs.Prelude.{◌≡◌, ◌++◌, [], List, ℕ, IfErr, IfOk, IfNone, IfSome, IsFalse};
 ghost use Rattle.bg_http.specs.declared.request.Request.{Request as RequestValue};
 ghost use Rattle.bg_http.specs.declared.response_fault.ResponseFault.TheVariants as response_fault;
-ghost use Rattle.bg_http_read.specs.Bodies.{KeepsLimit};
-ghost use Rattle.bg_http_read.specs.Responses.{ReadsResponse, ResponseFails, SkipsInterim};
-ghost use Rattle.bg_http_read.specs.ResponsesFed.{Advances, IsFed, IsFedBody, IsOpen, IsRead};
-ghost use Rattle.bg_http_read.specs.ResponsesFed.{IsReady, IsRefused, NeedsMore, Wants, is_of_stream};
+ghost use Rattle.bg_http_read.specs.Responses.{ReadsResponse, ResponseFails};
+ghost use Rattle.bg_http_read.specs.ResponsesFed.{IsFed, IsOpen, IsRead};
+ghost use Rattle.bg_http_read.specs.ResponsesFed.{IsOpenStage, IsRefused, IsSeen, NeedsMore, is_of_stream};
 ghost use Rattle.bg_http_read.specs.Streams.{waiting};
 
-use crate::final_head::HeadSearch;
-use crate::intake::Intake;
-use crate::response_body::ResponseBody;
+use crate::intake::{Intake, behind};
+use crate::response_progress::{Advance, ResponseProgress};
 use bg_http::{Request, Response, ResponseFault};
 use std::alloc::Global;
-use std::mem;
-
-/// What of a response is looked for.
-#[derive(Drop)]
-pub(crate) enum ResponseStage {
-    /// The head, after interim responses.
-    Heads(HeadSearch),
-    /// The body.
-    Body(ResponseBody),
-    /// Nothing: an answer or a fault was given.
-    Done,
-}
 
 /// A response, which is fed the bytes of the input as they come (RFC 9112). Where the input is cut
 /// into pieces doesn't matter.
 #[derive(Drop)]
-pub(crate) struct ResponseParser<'a> {
-    alloc: Global,
-    request: &'a Request,
+pub struct ResponseParser<'a> {
+    /// What was fed and not yet taken.
     intake: Intake,
-    stage: ResponseStage,
+    progress: ResponseProgress<'a>,
 }
 
 impl<'a> ResponseParser<'a> {
     /// The response to `request`, of which nothing came.
-    pub(crate) fn new(alloc: Global, request: &'a Request) -> ResponseParser<'a>
+    pub fn new(alloc: Global, request: &'a Request) -> ResponseParser<'a>
         ensures fed { IsFed result request.now [] }
         ensures goes_on { IsOpen result }
     {
         ResponseParser {
-            alloc,
-            request,
             intake: Intake::new(alloc),
-            stage: ResponseStage::Heads(HeadSearch::new()),
+            progress: ResponseProgress::new(alloc, request),
         }
     }
 
@@ -54,9 +37,10 @@ impl<'a> ResponseParser<'a> {
     /// needed, or the end of the input. Bytes past the response are dropped.
     ///
     /// The faults are those of `read_response` that no bytes that follow can mend, and OutOfMemory,
-    /// which may come before another. After a response or a fault the parser is neither fed nor
+    /// which may come before another. Of a head they are told once an empty line has come, once
+    /// 16,384 bytes have, or at the end. After a response or a fault the parser is neither fed nor
     /// ended.
-    pub(crate) fn feed(&mut self, bytes: &[u8]) -> Result<Option<Response>, ResponseFault>
+    pub fn feed(&mut self, bytes: &[u8]) -> Result<Option<Response>, ResponseFault>
         requires { IsOpen self.old }
         ensures response { (request : RequestValue) (seen : List ℕ) → IsFed self.old request seen
             → IfOk result (λ found. IfSome found (λ response.
@@ -69,14 +53,67 @@ impl<'a> ResponseParser<'a> {
         ensures fault { IfErr result (λ fault. IsFalse (is_of_stream fault)) }
         ensures goes_on { IfOk result (λ found. IfNone found (IsOpen self.new)) }
     {
+        if self.intake.is_empty() {
+            return self.feed_first(bytes);
+        }
         match self.intake.add(bytes) {
-            Ok(()) => self.advance(),
+            Ok(()) => self.look(bytes),
             Err(_) => Err(ResponseFault::OutOfMemory),
         }
     }
 
-    /// The response to an input that ends here. Otherwise the fault is Closed, or OutOfMemory.
-    pub(crate) fn end(mut self) -> Result<Response, ResponseFault>
+    /// Adds bytes where none wait: what can be taken of them is copied no second time.
+    fn feed_first(&mut self, bytes: &[u8]) -> Result<Option<Response>, ResponseFault>
+        requires goes_on { IsOpen self.old }
+        requires empty { waiting self.old.intake ≡ [] }
+        ensures response { (request : RequestValue) (seen : List ℕ) → IsFed self.old request seen
+            → IfOk result (λ found. IfSome found (λ response.
+            IsRead request response (seen ++ bytes.now))) }
+        ensures none_yet { (request : RequestValue) (seen : List ℕ) → IsFed self.old request seen
+            → IfOk result (λ found. IfNone found
+            (IsFed self.new request (seen ++ bytes.now) × NeedsMore request (seen ++ bytes.now))) }
+        ensures refused { (request : RequestValue) (seen : List ℕ) → IsFed self.old request seen
+            → IfErr result (λ fault. IsRefused request fault (seen ++ bytes.now)) }
+        ensures fault { IfErr result (λ fault. IsFalse (is_of_stream fault)) }
+        ensures goes_on { IfOk result (λ found. IfNone found (IsOpen self.new)) }
+    {
+        let Advance { response, taken } = self.progress.advance(bytes)?;
+        match response {
+            Some(response) => Ok(Some(response)),
+            None => match self.intake.add(behind(bytes, taken)) {
+                Ok(()) => Ok(None),
+                Err(_) => Err(ResponseFault::OutOfMemory),
+            },
+        }
+    }
+
+    /// Looks at what waits, to which bytes were added, where it is worth while.
+    fn look(&mut self, bytes: &[u8]) -> Result<Option<Response>, ResponseFault>
+        requires goes_on { IsOpenStage self.old.progress.stage }
+        requires seen { (before : List ℕ) × IsSeen self.old.progress.stage before
+            × (waiting self.old.intake ≡ before ++ bytes.now) }
+        ensures response { (request : RequestValue) (seen : List ℕ) → IsFed self.old request seen
+            → IfOk result (λ found. IfSome found (λ response. IsRead request response seen)) }
+        ensures none_yet { (request : RequestValue) (seen : List ℕ) → IsFed self.old request seen
+            → IfOk result (λ found. IfNone found
+            (IsFed self.new request seen × NeedsMore request seen)) }
+        ensures refused { (request : RequestValue) (seen : List ℕ) → IsFed self.old request seen
+            → IfErr result (λ fault. IsRefused request fault seen) }
+        ensures fault { IfErr result (λ fault. IsFalse (is_of_stream fault)) }
+        ensures goes_on { IfOk result (λ found. IfNone found (IsOpen self.new)) }
+    {
+        self.progress.see(bytes);
+        if !self.progress.is_due(self.intake.get().len()) {
+            return Ok(None);
+        }
+        let Advance { response, taken } = self.progress.advance(self.intake.get())?;
+        self.intake.skip(taken);
+        Ok(response)
+    }
+
+    /// The response to an input that ends here. Otherwise the fault is Closed, or one that was not
+    /// told yet, or OutOfMemory.
+    pub fn end(self) -> Result<Response, ResponseFault>
         requires { IsOpen self }
         ensures response { (request : RequestValue) (seen : List ℕ) → IsFed self.entry request seen
             → IfOk result (λ response. ReadsResponse request response seen) }
@@ -84,86 +121,14 @@ impl<'a> ResponseParser<'a> {
             → IfErr result (λ fault. ResponseFails request seen fault) }
         ensures fault { IfErr result (λ fault. ¬ (fault ≡ response_fault.ReadFailed)) }
     {
-        match self.advance()? {
+        let ResponseParser {
+            intake,
+            mut progress,
+        } = self;
+        let Advance { response, taken: _ } = progress.advance(intake.get())?;
+        match response {
             Some(response) => Ok(response),
-            None => self.close(),
-        }
-    }
-
-    /// The response whose body goes to the end of the input, which has come.
-    fn close(&mut self) -> Result<Response, ResponseFault>
-        requires { IsOpen self.old }
-        ensures response { (request : RequestValue) (seen : List ℕ) → IsFed self.old request seen
-            → Wants self.old request seen
-            → IfOk result (λ response. ReadsResponse request response seen) }
-        ensures refused { (request : RequestValue) (seen : List ℕ) → IsFed self.old request seen
-            → Wants self.old request seen
-            → IfErr result (λ fault. ResponseFails request seen fault) }
-        ensures fault { IfErr result (λ fault. ¬ (fault ≡ response_fault.ReadFailed)) }
-    {
-        let ResponseStage::Body(part) = mem::replace(&mut self.stage, ResponseStage::Done) else {
-            return Err(ResponseFault::Closed);
-        };
-        if !part.body.can_end() {
-            return Err(ResponseFault::Closed);
-        }
-        match part.into_response(self.alloc) {
-            Ok(response) => Ok(response),
-            Err(_) => Err(ResponseFault::OutOfMemory),
-        }
-    }
-
-    /// Takes what it can of the bytes that wait.
-    fn advance(&mut self) -> Result<Option<Response>, ResponseFault>
-        requires { IsOpen self.old }
-        ensures answer { (request : RequestValue) (seen : List ℕ) → IsFed self.old request seen
-            → Advances request seen result self.new }
-        ensures fault { IfErr result (λ fault. IsFalse (is_of_stream fault)) }
-        ensures goes_on { IfOk result (λ found. IfNone found (IsOpen self.new)) }
-    {
-        match mem::replace(&mut self.stage, ResponseStage::Done) {
-            ResponseStage::Heads(search) => self.advance_head(search),
-            ResponseStage::Body(part) => self.advance_body(part),
-            ResponseStage::Done => Err(ResponseFault::Bad),
-        }
-    }
-
-    /// Looks for the head in the bytes that wait, and takes what it can of the body.
-    fn advance_head(&mut self, mut search: HeadSearch) -> Result<Option<Response>, ResponseFault>
-        requires { IsReady search }
-        ensures answer { (request : RequestValue) (seen : List ℕ) → self.old.request.now ≡ request
-            → SkipsInterim request search.interim seen (waiting self.old.intake)
-            → Advances request seen result self.new }
-        ensures fault { IfErr result (λ fault. IsFalse (is_of_stream fault)) }
-        ensures goes_on { IfOk result (λ found. IfNone found (IsOpen self.new)) }
-    {
-        let found = search.take_waiting(self.alloc, self.request, &mut self.intake)?;
-        let Some((head, framing)) = found else {
-            self.stage = ResponseStage::Heads(search);
-            return Ok(None);
-        };
-        let Ok(part) = ResponseBody::new(self.alloc, head, framing) else {
-            return Err(ResponseFault::OutOfMemory);
-        };
-        self.advance_body(part)
-    }
-
-    /// Takes what it can of the body.
-    fn advance_body(&mut self, mut part: ResponseBody) -> Result<Option<Response>, ResponseFault>
-        requires { KeepsLimit part.body }
-        ensures answer { (request : RequestValue) (seen : List ℕ) → self.old.request.now ≡ request
-            → IsFedBody request part (waiting self.old.intake) seen
-            → Advances request seen result self.new }
-        ensures fault { IfErr result (λ fault. IsFalse (is_of_stream fault)) }
-        ensures goes_on { IfOk result (λ found. IfNone found (IsOpen self.new)) }
-    {
-        if !part.body.take_waiting(&mut self.intake)? {
-            self.stage = ResponseStage::Body(part);
-            return Ok(None);
-        }
-        match part.into_response(self.alloc) {
-            Ok(response) => Ok(Some(response)),
-            Err(_) => Err(ResponseFault::OutOfMemory),
+            None => progress.close(),
         }
     }
 }

@@ -2,14 +2,22 @@
 #![tactic(auto)]
 
 #[cfg(test)]
-mod expectations_read;
+mod cut_off;
 #[cfg(test)]
-mod limits_read;
+mod expectations;
+#[cfg(test)]
+mod feeding;
+#[cfg(test)]
+mod interrupted;
+#[cfg(test)]
+mod limits;
 #[cfg(test)]
 mod memory;
 #[cfg(test)]
 mod messages;
 #[cfg(test)]
-mod requests_read;
+mod passing;
 #[cfg(test)]
-mod responses_read;
+mod requests;
+#[cfg(test)]
+mod responses;

@@ -2,21 +2,51 @@
 use bg_http::Duplex;
 use std::alloc::Global;
 use std::io;
-use std::io::{Read, Write};
+use std::io::{ErrorKind, Read, Write};
 
-/// Gives the bytes of its input, so many at a time, and holds what was written.
+/// How a stream gives its bytes.
+#[derive(Clone, Copy, Drop)]
+pub enum Pace {
+    /// At most so many in a read.
+    UpTo(usize),
+    /// One in a read, and each read is interrupted once before it.
+    InterruptedOnce,
+    /// None, since each read is interrupted.
+    InterruptedAlways,
+}
+
+/// Gives the bytes of its input, and holds what was written. The last bytes of the input are held
+/// back until so much was written.
 #[derive(Drop)]
 pub struct Memory<'a> {
     input: &'a [u8],
-    most: usize,
+    held_back: &'a [u8],
+    awaited: &'a [u8],
+    pace: Pace,
+    is_interrupted: bool,
     output: Vec<u8>,
 }
 
 impl<'a> Memory<'a> {
-    pub fn new(alloc: Global, input: &'a [u8], most: usize) -> Memory<'a> {
+    pub fn new(alloc: Global, input: &'a [u8], pace: Pace) -> Memory<'a> {
+        Memory::holding_back(alloc, input, b"", b"", pace)
+    }
+
+    /// A stream that ends after `input`, until as many bytes were written as `awaited` has: then
+    /// `held_back` follows.
+    pub fn holding_back(
+        alloc: Global,
+        input: &'a [u8],
+        awaited: &'a [u8],
+        held_back: &'a [u8],
+        pace: Pace,
+    ) -> Memory<'a> {
         Memory {
             input,
-            most,
+            held_back,
+            awaited,
+            pace,
+            is_interrupted: false,
             output: Vec::new(alloc),
         }
     }
@@ -24,11 +54,30 @@ impl<'a> Memory<'a> {
     pub fn written(&self) -> &[u8] {
         self.output.as_slice()
     }
+
+    /// How many bytes a read may give, none where it is interrupted.
+    fn next_count(&mut self) -> Option<usize> {
+        match self.pace {
+            Pace::UpTo(most) => Some(most),
+            Pace::InterruptedOnce => {
+                self.is_interrupted = !self.is_interrupted;
+                if self.is_interrupted { None } else { Some(1) }
+            }
+            Pace::InterruptedAlways => None,
+        }
+    }
 }
 
 impl Read for Memory<'_> {
     fn read(&mut self, buf: &mut [u8]) -> io::Result<usize> {
-        let most = self.most.min(buf.len());
+        let Some(most) = self.next_count() else {
+            return Err(io::Error::from(ErrorKind::Interrupted));
+        };
+        if self.input.is_empty() && self.output.len() == self.awaited.len() {
+            self.input = self.held_back;
+            self.held_back = &[];
+        }
+        let most = most.min(buf.len());
         self.input.read(&mut buf[..most])
     }
 }

@@ -1,4 +1,4 @@
-use Rattle.std.proofs.Common.{◌≡◌}
+use Rattle.std.proofs.Common.{◌≡◌, length}
 use Rattle.std.specs.Io.KnownBytes.{Keeps}
 use Rattle.bg_http_read.specs.Bodies.{Follows, KeepsLimit}
 use Rattle.bg_http_read.specs.BodiesRead.{Leaves}
@@ -12,4 +12,5 @@ invariant-loop g l = record {
   limit : l.body.limit ≡ l.initial.body.limit;
   within : KeepsLimit l.body;
   contents : Keeps (g.S.Write.contents l.initial.stream) (g.S.Write.contents l.stream);
+  size : length l.piece ≡ 8192;
 }

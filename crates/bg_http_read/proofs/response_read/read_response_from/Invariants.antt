@@ -8,5 +8,5 @@ abbrev pub invariant-loop : goal.invariant-loop
 invariant-loop g l = record {
   fed : Leaves (IsFedOf l.parser l.request) (g.S.Read.remaining l.initial.stream) (g.S.Read.remaining l.stream);
   goes_on : IsOpen l.parser;
-  size : length l.piece ≡ 4096;
+  size : length l.piece ≡ 8192;
 }

@@ -1,26 +1,26 @@
-use Rattle.std.proofs.Common.{rules, ◌≡◌, ◌+◌, suc, true, IsFalse, arith, drop, subst, sym}
+use Rattle.std.proofs.Common.{rules, ◌≡◌, ◌+◌, suc, true, IsFalse, arith, drop, length, ap, subst, sym}
+use Rattle.std.proofs.lemmas.List.{drop-drop, length-drop}
 use Rattle.bg_http_read.specs.ResponseHeads.{ReadsResponseHead}
 use Rattle.bg_http_read.specs.Responses.{SkipsInterim, names_another}
 use Rattle.bg_http_read.specs.ResponsesFed.{IsRefused, is_of_stream}
-use Rattle.bg_http_read.specs.Streams.{waiting}
 use Rattle.bg_http_read.specs.HeadFaults.{ResponseHeadFails, of_head}
 use Rattle.bg_http_read.proofs.InterimTaken.{head_refuses, rule_refuses, many_refuse, skips_next}
 use Rattle.bg_http_read.proofs.StreamFaults.{if_err_is, judged_of_bytes}
-use Rattle.bg_http_read.proofs.final_head.HeadSearch.take_waiting.Goals as goal
+use Rattle.bg_http_read.proofs.final_head.HeadSearch.take_from.Goals as goal
 
 pub returns-in_err-found-clause-refused : goal.returns-in_err-found-clause-refused
 returns-in_err-found-clause-refused c seen skips =
     let e = c.in_err-found.field-0.0 in
     if_err_is (λ fault. IsRefused c.args.request.now fault seen) c.from_residual.result (of_head e) c.from_residual.ensures.1
-    (head_refuses c.args.request.now c.loop-self.self.interim seen (waiting c.loop-self.intake) e
+    (head_refuses c.args.request.now c.loop-self.self.interim seen (drop c.loop-self.taken c.args.bytes.now) e
     (omega (arith, c.loop-self-test.true)) (c.loop-self.invariant.skips seen skips)
-    (subst (λ l. ResponseHeadFails l (of_head e)) c.get.ensures c.in_err-found.ensures.none))
+    (subst (λ l. ResponseHeadFails l (of_head e)) c.behind-rest.ensures c.in_err-found.ensures.none))
 
 pub returns-in_err-framing-clause-refused : goal.returns-in_err-framing-clause-refused
 returns-in_err-framing-clause-refused c seen skips =
-    let w = waiting c.loop-self.intake in
+    let w = drop c.loop-self.taken c.args.bytes.now in
     let found = rw c.in-Some.is at c.in_ok-found.ensures.head in
-    let reads = subst (λ l. ReadsResponseHead l c.in-Some.head (drop c.in-Some.count l)) c.get.ensures found in
+    let reads = subst (λ l. ReadsResponseHead l c.in-Some.head (drop c.in-Some.count l)) c.behind-rest.ensures found in
     let e = c.in_err-framing.field-0.0 in
     if_err_is (λ fault. IsRefused c.args.request.now fault seen) c.from_residual-in_err-framing.result e c.from_residual-in_err-framing.ensures.1
     (rule_refuses c.args.request.now c.loop-self.self.interim seen w (drop c.in-Some.count w) c.in-Some.head e
@@ -35,22 +35,25 @@ returns-in_err-framing-clause-fault c =
 
 pub returns-clause-refused : goal.returns-clause-refused
 returns-clause-refused c seen skips =
+    let w = drop c.loop-self.taken c.args.bytes.now in
     let all : c.loop-self.self.interim ≡ 17 = omega (arith, c.loop-self-test.false, c.loop-self.invariant.few) in
-    many_refuse c.args.request.now seen (waiting c.loop-self.intake)
-    (subst (λ n. SkipsInterim c.args.request.now n seen (waiting c.loop-self.intake)) all
-    (c.loop-self.invariant.skips seen skips))
+    many_refuse c.args.request.now seen w
+    (subst (λ n. SkipsInterim c.args.request.now n seen w) all (c.loop-self.invariant.skips seen skips))
 
 pub loop-self-preserved : goal.loop-self-preserved
 loop-self-preserved c =
-    let w = waiting c.loop-self.intake in
+    let w = drop c.loop-self.taken c.args.bytes.now in
     let found = rw c.in-Some.is at c.in_ok-found.ensures.head in
-    let reads = subst (λ l. ReadsResponseHead l c.in-Some.head (drop c.in-Some.count l)) c.get.ensures found in
+    let reads = subst (λ l. ReadsResponseHead l c.in-Some.head (drop c.in-Some.count l)) c.behind-rest.ensures found in
+    let within = rw c.in-Some.is at c.in_ok-found.ensures.within in
     let another : names_another c.in_ok-framing.framing ≡ true = search rules in
     let next : suc c.loop-self.self.interim ≡ c.loop-self.self.interim + 1 = omega arith in
     record {
+      fits = omega (arith, c.loop-self.invariant.fits, within, ap length c.behind-rest.ensures, length-drop c.loop-self.taken c.args.bytes.now);
       skips = λ seen skips.
-          subst (λ n. SkipsInterim c.args.request.now n seen (waiting c.skip.new.self)) next
-          (subst (SkipsInterim c.args.request.now (suc c.loop-self.self.interim) seen) (sym c.skip.ensures)
+          subst (λ n. SkipsInterim c.args.request.now n seen (drop (c.loop-self.taken + c.in-Some.count) c.args.bytes.now)) next
+          (subst (SkipsInterim c.args.request.now (suc c.loop-self.self.interim) seen)
+          (drop-drop c.in-Some.count c.loop-self.taken c.args.bytes.now)
           (skips_next c.args.request.now c.loop-self.self.interim seen w (drop c.in-Some.count w) c.in-Some.head
           c.in_ok-framing.framing (c.loop-self.invariant.skips seen skips) reads (sym c.in_ok-framing.ensures) another));
       few = omega (arith, c.loop-self-test.true);

@@ -1,0 +1,62 @@
+//! Where a head may end, told byte by byte.
+ghost use Rattle.std.specs.Prelude.{◌≡◌};
+ghost use Rattle.bg_http_read.specs.HeadEnds.{after_byte, after_bytes, is_over};
+ghost use Rattle.bg_http_read.specs.declared.head_end.HeadEnd.TheVariants as end;
+
+/// How far the bytes of a head go. A head ends at the first empty line after a line that has a
+/// byte, so before that it needn't be looked for.
+#[derive(Clone, Copy, PartialEq, Eq, Debug, Drop)]
+pub(crate) enum HeadEnd {
+    /// Nothing came but empty lines.
+    Blank,
+    /// Within a line.
+    Inside,
+    /// At the start of a line.
+    LineStart,
+    /// Behind a CR at the start of a line.
+    AfterCr,
+    /// An empty line came.
+    Over,
+}
+
+impl HeadEnd {
+    /// What the bytes at the front of a head tell.
+    pub(crate) fn of(bytes: &[u8]) -> HeadEnd
+        ensures { result ≡ after_bytes end.Blank bytes.now }
+    {
+        HeadEnd::Blank.after_all(bytes)
+    }
+
+    /// What more bytes make of it.
+    pub(crate) fn after_all(self, bytes: &[u8]) -> HeadEnd
+        ensures { result ≡ after_bytes self bytes.now }
+    {
+        let mut end = self;
+        for byte in bytes {
+            end = end.after(*byte);
+        }
+        end
+    }
+
+    fn after(self, byte: u8) -> HeadEnd
+        ensures { result ≡ after_byte self byte }
+    {
+        match self {
+            HeadEnd::Blank if byte == b'\n' || byte == b'\r' => HeadEnd::Blank,
+            HeadEnd::Inside if byte == b'\n' => HeadEnd::LineStart,
+            HeadEnd::LineStart if byte == b'\r' => HeadEnd::AfterCr,
+            HeadEnd::LineStart | HeadEnd::AfterCr if byte == b'\n' => HeadEnd::Over,
+            HeadEnd::Over => HeadEnd::Over,
+            HeadEnd::Blank | HeadEnd::Inside | HeadEnd::LineStart | HeadEnd::AfterCr => {
+                HeadEnd::Inside
+            }
+        }
+    }
+
+    /// Whether an empty line came, so that the head may be whole.
+    pub(crate) fn is_over(&self) -> bool
+        ensures { result ≡ is_over self.now }
+    {
+        *self == HeadEnd::Over
+    }
+}

@@ -1,0 +1,193 @@
+//! How far a response is read.
+ghost use Rattle.std.specs.Prelude.{◌≡◌, ◌≤◌, List, ℕ, IfErr, IfOk, IfNone, IsFalse, drop, length};
+ghost use Rattle.bg_http.specs.declared.request.Request.{Request as RequestValue};
+ghost use Rattle.bg_http.specs.declared.response_fault.ResponseFault.TheVariants as response_fault;
+ghost use Rattle.bg_http_read.specs.Bodies.{KeepsLimit};
+ghost use Rattle.bg_http_read.specs.Responses.{ReadsResponse, ResponseFails, SkipsInterim};
+ghost use Rattle.bg_http_read.specs.ResponsesFed.{Advances, AwaitsHead, IsFedBody, IsFedStage};
+ghost use Rattle.bg_http_read.specs.ResponsesFed.{IsOpenStage, IsReady, IsSeen, Starts, WantsStage};
+ghost use Rattle.bg_http_read.specs.ResponsesFed.{is_of_stream, stage_seen};
+
+use crate::final_head::{HeadFound, HeadSearch};
+use crate::intake::behind;
+use crate::response_body::ResponseBody;
+use bg_http::{Request, Response, ResponseFault};
+use std::alloc::Global;
+use std::mem;
+
+/// What of a response is looked for.
+#[derive(Drop)]
+pub(crate) enum ResponseStage {
+    /// The head, after interim responses.
+    Heads(HeadSearch),
+    /// The body.
+    Body(ResponseBody),
+    /// Nothing: an answer or a fault was given.
+    Done,
+}
+
+/// What came of bytes: the response, where it is whole; and how many of them were taken.
+#[derive(Drop)]
+pub(crate) struct Advance {
+    pub(crate) response: Option<Response>,
+    pub(crate) taken: usize,
+}
+
+/// How far the response to a request is read.
+#[derive(Drop)]
+pub(crate) struct ResponseProgress<'a> {
+    alloc: Global,
+    request: &'a Request,
+    stage: ResponseStage,
+}
+
+impl<'a> ResponseProgress<'a> {
+    /// Nothing came.
+    pub(crate) fn new(alloc: Global, request: &'a Request) -> ResponseProgress<'a>
+        ensures request { result.request.now ≡ request.now }
+        ensures stage { Starts result.stage }
+    {
+        ResponseProgress {
+            alloc,
+            request,
+            stage: ResponseStage::Heads(HeadSearch::new()),
+        }
+    }
+
+    /// More bytes wait.
+    pub(crate) fn see(&mut self, bytes: &[u8])
+        ensures stage { self.new.stage ≡ stage_seen self.old.stage bytes.now }
+        ensures request { self.new.request.now ≡ self.old.request.now }
+    {
+        if let ResponseStage::Heads(search) = &mut self.stage {
+            search.see(bytes);
+        }
+    }
+
+    /// Whether it is worth looking at so many bytes that wait.
+    pub(crate) fn is_due(&self, count: usize) -> bool
+        ensures { IsFalse result → AwaitsHead self.now.stage }
+    {
+        match &self.stage {
+            ResponseStage::Heads(search) => search.is_due(count),
+            ResponseStage::Body(_) | ResponseStage::Done => true,
+        }
+    }
+
+    /// Takes what it can of the bytes.
+    pub(crate) fn advance(&mut self, bytes: &[u8]) -> Result<Advance, ResponseFault>
+        requires { IsOpenStage self.old.stage }
+        ensures fits { IfOk result (λ advance. advance.taken ≤ length bytes.now) }
+        ensures answer { (request : RequestValue) (seen : List ℕ)
+            → self.old.request.now ≡ request → IsFedStage request self.old.stage bytes.now seen
+            → Advances request seen bytes.now result self.new.stage }
+        ensures fault { IfErr result (λ fault. IsFalse (is_of_stream fault)) }
+        ensures goes_on { IfOk result (λ advance. IfNone advance.response
+            (IsOpenStage self.new.stage)) }
+        ensures sees { IfOk result (λ advance. IfNone advance.response
+            (IsSeen self.new.stage (drop advance.taken bytes.now))) }
+        ensures request { self.new.request.now ≡ self.old.request.now }
+    {
+        match mem::replace(&mut self.stage, ResponseStage::Done) {
+            ResponseStage::Heads(search) => self.advance_head(search, bytes),
+            ResponseStage::Body(part) => self.advance_body(part, bytes, 0),
+            ResponseStage::Done => Err(ResponseFault::Bad),
+        }
+    }
+
+    /// Looks for the head in the bytes, and takes what it can of the body.
+    fn advance_head(
+        &mut self,
+        mut search: HeadSearch,
+        bytes: &[u8],
+    ) -> Result<Advance, ResponseFault>
+        requires { IsReady search }
+        ensures fits { IfOk result (λ advance. advance.taken ≤ length bytes.now) }
+        ensures answer { (request : RequestValue) (seen : List ℕ)
+            → self.old.request.now ≡ request
+            → SkipsInterim request search.interim seen bytes.now
+            → Advances request seen bytes.now result self.new.stage }
+        ensures fault { IfErr result (λ fault. IsFalse (is_of_stream fault)) }
+        ensures goes_on { IfOk result (λ advance. IfNone advance.response
+            (IsOpenStage self.new.stage)) }
+        ensures sees { IfOk result (λ advance. IfNone advance.response
+            (IsSeen self.new.stage (drop advance.taken bytes.now))) }
+        ensures request { self.new.request.now ≡ self.old.request.now }
+    {
+        let HeadFound { head, taken } = search.take_from(self.alloc, self.request, bytes)?;
+        let Some((head, framing)) = head else {
+            self.stage = ResponseStage::Heads(search);
+            return Ok(Advance {
+                response: None,
+                taken,
+            });
+        };
+        let Ok(part) = ResponseBody::new(self.alloc, head, framing) else {
+            return Err(ResponseFault::OutOfMemory);
+        };
+        self.advance_body(part, bytes, taken)
+    }
+
+    /// Takes what it can of the body, which begins at a place in the bytes.
+    fn advance_body(
+        &mut self,
+        mut part: ResponseBody,
+        bytes: &[u8],
+        at: usize,
+    ) -> Result<Advance, ResponseFault>
+        requires within { KeepsLimit part.body }
+        requires place { at ≤ length bytes.now }
+        ensures fits { IfOk result (λ advance. advance.taken ≤ length bytes.now) }
+        ensures answer { (request : RequestValue) (seen : List ℕ)
+            → self.old.request.now ≡ request
+            → IsFedBody request part (drop at bytes.now) seen
+            → Advances request seen bytes.now result self.new.stage }
+        ensures fault { IfErr result (λ fault. IsFalse (is_of_stream fault)) }
+        ensures goes_on { IfOk result (λ advance. IfNone advance.response
+            (IsOpenStage self.new.stage)) }
+        ensures sees { IfOk result (λ advance. IfNone advance.response
+            (IsSeen self.new.stage (drop advance.taken bytes.now))) }
+        ensures request { self.new.request.now ≡ self.old.request.now }
+    {
+        let taken = at + part.body.take_from(behind(bytes, at))?;
+        if !part.body.is_whole() {
+            self.stage = ResponseStage::Body(part);
+            return Ok(Advance {
+                response: None,
+                taken,
+            });
+        }
+        match part.into_response(self.alloc) {
+            Ok(response) => Ok(Advance {
+                response: Some(response),
+                taken,
+            }),
+            Err(_) => Err(ResponseFault::OutOfMemory),
+        }
+    }
+
+    /// The response whose body goes to the end of the input, which has come.
+    pub(crate) fn close(&mut self) -> Result<Response, ResponseFault>
+        requires { IsOpenStage self.old.stage }
+        ensures response { (request : RequestValue) (waits seen : List ℕ)
+            → IsFedStage request self.old.stage waits seen
+            → WantsStage request self.old.stage waits seen
+            → IfOk result (λ response. ReadsResponse request response seen) }
+        ensures refused { (request : RequestValue) (waits seen : List ℕ)
+            → IsFedStage request self.old.stage waits seen
+            → WantsStage request self.old.stage waits seen
+            → IfErr result (λ fault. ResponseFails request seen fault) }
+        ensures fault { IfErr result (λ fault. ¬ (fault ≡ response_fault.ReadFailed)) }
+    {
+        let ResponseStage::Body(part) = mem::replace(&mut self.stage, ResponseStage::Done) else {
+            return Err(ResponseFault::Closed);
+        };
+        if !part.body.can_end() {
+            return Err(ResponseFault::Closed);
+        }
+        match part.into_response(self.alloc) {
+            Ok(response) => Ok(response),
+            Err(_) => Err(ResponseFault::OutOfMemory),
+        }
+    }
+}

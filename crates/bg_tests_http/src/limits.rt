@@ -1,0 +1,279 @@
+//! Messages at each limit and one past it.
+use crate::memory::{Memory, Pace};
+use crate::passing::{Kind, read};
+use bg_http::RequestFault;
+use std::alloc::{AllocError, Global};
+
+/// A text of several parts, each so many times.
+type Parts<'a> = &'a [(&'a [u8], usize)];
+
+/// What is sent, and the size of its body or the fault.
+type Row<'a> = (Parts<'a>, Result<usize, RequestFault>);
+
+fn text(alloc: Global, start: &[u8], parts: Parts<'_>) -> Result<Vec<u8>, AllocError> {
+    let mut text = Vec::new(alloc);
+    text.extend_from_slice(start)?;
+    for (part, count) in parts {
+        for _ in 0..*count {
+            text.extend_from_slice(part)?;
+        }
+    }
+    Ok(text)
+}
+
+/// The size of the body, or the fault.
+fn size(alloc: Global, kind: Kind<'_>, input: &[u8], most: usize) -> Result<usize, RequestFault> {
+    let mut stream = Memory::new(alloc, input, Pace::UpTo(most));
+    match read(alloc, kind, &mut stream) {
+        Ok(message) => Ok(message.body_size()),
+        Err(fault) => Err(fault),
+    }
+}
+
+/// Whether a message that begins with `start` has its answer, at once and in pieces of 1,000 bytes.
+fn is_answered(alloc: Global, kind: Kind<'_>, start: &[u8], row: &Row<'_>) -> bool {
+    let Ok(input) = text(alloc, start, row.0) else {
+        return false;
+    };
+    for most in [65_536usize, 1_000] {
+        if size(alloc, kind, &input, most) != row.1 {
+            return false;
+        }
+    }
+    true
+}
+
+/// The place of the first row that has another answer, or for which memory is refused.
+fn first_wrong(alloc: Global, kind: Kind<'_>, start: &[u8], rows: &[Row<'_>]) -> Option<usize> {
+    for (place, row) in rows.iter().enumerate() {
+        if !is_answered(alloc, kind, start, row) {
+            return Some(place);
+        }
+    }
+    None
+}
+
+/// The begin of a head, of 25 bytes and one field.
+const REQUEST: &[u8] = b"PUT / HTTP/1.1\r\nHost: x\r\n";
+
+const RESPONSE: &[u8] = b"HTTP/1.1 200 OK\r\nA: bcd\r\n";
+
+/// The head of a message in chunks.
+const REQUEST_IN_CHUNKS: &[u8] = b"PUT / HTTP/1.1\r\nHost: x\r\nTransfer-Encoding: chunked\r\n\r\n";
+
+const RESPONSE_IN_CHUNKS: &[u8] = b"HTTP/1.1 200 OK\r\nTransfer-Encoding: chunked\r\n\r\n";
+
+const CLOSED: Result<usize, RequestFault> = Err(RequestFault::Closed);
+
+const BAD: Result<usize, RequestFault> = Err(RequestFault::Bad);
+
+const HEAD_TOO_LARGE: Result<usize, RequestFault> = Err(RequestFault::HeadTooLarge);
+
+const TOO_LARGE: Result<usize, RequestFault> = Err(RequestFault::TooLarge);
+
+/// After 25 bytes and one field of a head: it may have 16,384 bytes and 64 fields.
+static HEADS: [Row<'static>; 11] = [
+    (&[(b"A:", 1), (b"a", 16_353), (b"\r\n\r\n", 1)], Ok(0)),
+    (
+        &[(b"A:", 1), (b"a", 16_354), (b"\r\n\r\n", 1)],
+        HEAD_TOO_LARGE,
+    ),
+    (&[(b"A:", 1), (b"a", 16_356)], CLOSED),
+    (&[(b"A:", 1), (b"a", 16_357)], HEAD_TOO_LARGE),
+    (&[(b"A:", 1), (b"a", 16_356), (b"\0", 1)], BAD),
+    (&[(b"A:", 1), (b"a", 16_357), (b"\0", 1)], HEAD_TOO_LARGE),
+    (&[(b"A: b\r\n", 63), (b"\r\n", 1)], Ok(0)),
+    (&[(b"A: b\r\n", 64), (b"\r\n", 1)], HEAD_TOO_LARGE),
+    (&[(b"A: b\r\n", 64)], CLOSED),
+    (&[(b"A: b\r\n", 64), (b": b\r\n", 1)], BAD),
+    (&[(b"A:\n", 5_451), (b"A:bb\n\n", 1)], HEAD_TOO_LARGE),
+];
+
+/// A request's head, whose target may be as long as it has room for.
+static TARGETS: [Row<'static>; 3] = [
+    (
+        &[
+            (b"GET /", 1),
+            (b"a", 16_357),
+            (b" HTTP/1.1\r\nHost: x\r\n\r\n", 1),
+        ],
+        Ok(0),
+    ),
+    (
+        &[
+            (b"GET /", 1),
+            (b"a", 16_358),
+            (b" HTTP/1.1\r\nHost: x\r\n\r\n", 1),
+        ],
+        HEAD_TOO_LARGE,
+    ),
+    (&[(b"GET /", 1), (b"a", 16_384)], HEAD_TOO_LARGE),
+];
+
+/// After a head that names chunks: the line of each may have 1,024 bytes, its end included.
+static CHUNK_LINES: [Row<'static>; 6] = [
+    (
+        &[(b"2;", 1), (b"a", 1_020), (b"\r\nhi\r\n0\r\n\r\n", 1)],
+        Ok(2),
+    ),
+    (
+        &[(b"2;", 1), (b"a", 1_021), (b"\r\nhi\r\n0\r\n\r\n", 1)],
+        BAD,
+    ),
+    (
+        &[(b"2\r\nhi\r\n0;", 1), (b"a", 1_020), (b"\r\n\r\n", 1)],
+        Ok(2),
+    ),
+    (
+        &[(b"2\r\nhi\r\n0;", 1), (b"a", 1_021), (b"\r\n\r\n", 1)],
+        BAD,
+    ),
+    (&[(b"2;", 1), (b"a", 1_021)], CLOSED),
+    (&[(b"2;", 1), (b"a", 1_022)], BAD),
+];
+
+/// After a head that names chunks: trailers may have 16,384 bytes and 64 fields.
+static TRAILERS: [Row<'static>; 7] = [
+    (&[(b"0\r\n", 1), (b"A: b\r\n", 64), (b"\r\n", 1)], Ok(0)),
+    (&[(b"0\r\n", 1), (b"A: b\r\n", 65), (b"\r\n", 1)], BAD),
+    (&[(b"0\r\n", 1), (b"A: b\r\n", 64)], CLOSED),
+    (&[(b"0\r\nA:", 1), (b"a", 16_378), (b"\r\n\r\n", 1)], Ok(0)),
+    (&[(b"0\r\nA:", 1), (b"a", 16_379), (b"\r\n\r\n", 1)], BAD),
+    (&[(b"0\r\nA:", 1), (b"a", 16_381)], CLOSED),
+    (&[(b"0\r\nA:", 1), (b"a", 16_382)], BAD),
+];
+
+/// After a request's head up to its first field: its body may have 1,048,576 bytes.
+static REQUEST_BODIES: [Row<'static>; 3] = [
+    (
+        &[
+            (b"Content-Length: 1048576\r\n\r\n", 1),
+            (b"0123456789abcdef", 65_536),
+        ],
+        Ok(1_048_576),
+    ),
+    (
+        &[
+            (b"Transfer-Encoding: chunked\r\n\r\n100000\r\n", 1),
+            (b"0123456789abcdef", 65_536),
+            (b"\r\n0\r\n\r\n", 1),
+        ],
+        Ok(1_048_576),
+    ),
+    (
+        &[
+            (b"Transfer-Encoding: chunked\r\n\r\n100000\r\n", 1),
+            (b"0123456789abcdef", 65_536),
+            (b"\r\n1\r\n", 1),
+        ],
+        TOO_LARGE,
+    ),
+];
+
+/// After a response's head up to its first field: its body may have 4,194,304 bytes.
+static RESPONSE_BODIES: [Row<'static>; 5] = [
+    (
+        &[
+            (b"Content-Length: 4194304\r\n\r\n", 1),
+            (b"0123456789abcdef", 262_144),
+        ],
+        Ok(4_194_304),
+    ),
+    (
+        &[
+            (b"Transfer-Encoding: chunked\r\n\r\n400000\r\n", 1),
+            (b"0123456789abcdef", 262_144),
+            (b"\r\n0\r\n\r\n", 1),
+        ],
+        Ok(4_194_304),
+    ),
+    (
+        &[
+            (b"Transfer-Encoding: chunked\r\n\r\n400000\r\n", 1),
+            (b"0123456789abcdef", 262_144),
+            (b"\r\n1\r\n", 1),
+        ],
+        TOO_LARGE,
+    ),
+    (
+        &[(b"\r\n", 1), (b"0123456789abcdef", 262_144)],
+        Ok(4_194_304),
+    ),
+    (
+        &[(b"\r\n", 1), (b"0123456789abcdef", 262_144), (b"a", 1)],
+        TOO_LARGE,
+    ),
+];
+
+/// 16 interim responses may come before a response, each with a head of 16,384 bytes.
+static INTERIM: [Row<'static>; 5] = [
+    (
+        &[
+            (b"HTTP/1.1 102 a\r\n\r\n", 16),
+            (b"HTTP/1.1 200 OK\r\n\r\nhi", 1),
+        ],
+        Ok(2),
+    ),
+    (
+        &[
+            (b"HTTP/1.1 102 a\r\n\r\n", 17),
+            (b"HTTP/1.1 200 OK\r\n\r\nhi", 1),
+        ],
+        BAD,
+    ),
+    (&[(b"HTTP/1.1 102 a\r\n\r\n", 16)], CLOSED),
+    (
+        &[
+            (b"HTTP/1.1 102 a\r\n", 1),
+            (b"A:", 1),
+            (b"a", 16_362),
+            (b"\r\n\r\n", 1),
+            (b"HTTP/1.1 200 OK\r\n\r\nhi", 1),
+        ],
+        Ok(2),
+    ),
+    (
+        &[
+            (b"HTTP/1.1 102 a\r\n", 1),
+            (b"A:", 1),
+            (b"a", 16_363),
+            (b"\r\n\r\n", 1),
+            (b"HTTP/1.1 200 OK\r\n\r\nhi", 1),
+        ],
+        HEAD_TOO_LARGE,
+    ),
+];
+
+#[test]
+fn requests_at_their_limits(rt: HostRuntime) {
+    let alloc = rt.alloc();
+    let kind = Kind::Request;
+    assert_eq!(rt; first_wrong(alloc, kind, REQUEST, &HEADS), None);
+    assert_eq!(rt; first_wrong(alloc, kind, b"", &TARGETS), None);
+    assert_eq!(rt; first_wrong(alloc, kind, REQUEST, &REQUEST_BODIES), None);
+    assert_eq!(rt;
+        first_wrong(alloc, kind, REQUEST_IN_CHUNKS, &CHUNK_LINES),
+        None
+    );
+    assert_eq!(rt;
+        first_wrong(alloc, kind, REQUEST_IN_CHUNKS, &TRAILERS),
+        None
+    );
+}
+
+#[test]
+fn responses_at_their_limits(rt: HostRuntime) {
+    let alloc = rt.alloc();
+    let kind = Kind::ResponseTo(b"GET");
+    assert_eq!(rt; first_wrong(alloc, kind, RESPONSE, &HEADS), None);
+    assert_eq!(rt; first_wrong(alloc, kind, b"", &INTERIM), None);
+    assert_eq!(rt; first_wrong(alloc, kind, RESPONSE, &RESPONSE_BODIES), None);
+    assert_eq!(rt;
+        first_wrong(alloc, kind, RESPONSE_IN_CHUNKS, &CHUNK_LINES),
+        None
+    );
+    assert_eq!(rt;
+        first_wrong(alloc, kind, RESPONSE_IN_CHUNKS, &TRAILERS),
+        None
+    );
+}
