@@ -106,15 +106,15 @@ deadline_after_an_error : deadline with_post 2 (Verdict Post Error ∷ switched)
 deadline_after_an_error = refl
 
 -- an entry that changes nothing for a revision is no mark of it
-tick_is_no_mark : kind_of 1 (Tick 5) [] ≡ None
+tick_is_no_mark : kind_of plain 1 (Tick 5) [] ≡ None
 tick_is_no_mark = refl
 
 -- a stop clears the deadline of the newest revision
-abort_clears : kind_of 2 Abort ready ≡ Some Cleared
+abort_clears : kind_of plain 2 Abort ready ≡ Some Cleared
 abort_clears = refl
 
 -- so does a retry
-retry_clears : kind_of 2 Retry aborted ≡ Some Cleared
+retry_clears : kind_of plain 2 Retry aborted ≡ Some Cleared
 retry_clears = refl
 
 -- an aborted revision, if it were scaled down

@@ -1,5 +1,6 @@
 mod Examples
 mod WorkedHistories
+mod WorkedCompactions
 mod AllowedDeploys
 mod AllowedEvents
 mod AllowedRequests
@@ -12,3 +13,7 @@ mod Deadlines
 mod Promotion
 mod Steps
 mod Ascending
+mod Raised
+mod Laying
+mod Sound
+mod Looping

@@ -20,7 +20,7 @@ deadline_of s (Some m) = time_of s m.kind m.moment
 
 -- the moment at which r may be scaled down
 abbrev pub deadline : Strategy → ℕ → List Entry → Option ℕ
-deadline s r past = deadline_of s (mark r past)
+deadline s r past = deadline_of s (mark s r past)
 
 abbrev pub exists_in : ℕ → List Entry → Bool
 exists_in r past = list_any (λ q. q == r) (existing past)
@@ -41,14 +41,14 @@ left_later stood (Some m) = is_left m.kind && nat_lt stood m.stood
 -- how many spare revisions left the active service after that many entries
 abbrev pub rank_after : Strategy → ℕ → List Entry → ℕ
 rank_after s stood past =
-    count_by (λ q. is_spare s q past && left_later stood (mark q past)) (existing past)
+    count_by (λ q. is_spare s q past && left_later stood (mark s q past)) (existing past)
 
 abbrev pub rank_of : Strategy → Option Mark → List Entry → ℕ
 rank_of s None past = 0
 rank_of s (Some m) past = rank_after s m.stood past
 
 abbrev pub rank : Strategy → ℕ → List Entry → ℕ
-rank s r past = rank_of s (mark r past) past
+rank s r past = rank_of s (mark s r past) past
 
 abbrev pub is_over : Option ℕ → ℕ → Bool
 is_over None n = false
@@ -66,7 +66,7 @@ marks_due s (Some m) past =
     || (is_left m.kind && is_over s.revision_limit (rank_after s m.stood past))
 
 abbrev pub is_due : Strategy → ℕ → List Entry → Bool
-is_due s r past = exists_in r past && is_spare s r past && marks_due s (mark r past) past
+is_due s r past = exists_in r past && is_spare s r past && marks_due s (mark s r past) past
 
 abbrev pub is_empty : List ℕ → Bool
 is_empty [] = true

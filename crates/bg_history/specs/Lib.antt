@@ -11,3 +11,6 @@ pub mod Deadlines
 pub mod Templates
 pub mod Allowed
 pub mod Steps
+pub mod Compacted
+pub mod Sound
+pub mod Compacting

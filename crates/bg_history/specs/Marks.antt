@@ -7,6 +7,7 @@ use Rattle.bg_history.specs.declared.entry.Outcome.TheVariants.{ScaledDown}
 use Rattle.bg_history.specs.Turns.{moment, stable_of, newest_of, is_halt}
 use Rattle.bg_history.specs.Selections.{active_of}
 use Rattle.bg_history.specs.Sizes.{begins}
+use Rattle.bg_strategy.specs.declared.strategy.Strategy.{Strategy}
 
 -- what became of a revision: it left the active service, it was superseded, or its deadline was
 -- cleared
@@ -43,22 +44,22 @@ clears r e before =
     begins r e before || (not (active_of before == r) && (active_of (e ∷ before) == r))
     || scales_down r e || halts r e before
 
--- the kind of mark that an entry is for r, if it is one
-abbrev pub kind_of : ℕ → Entry → List Entry → Option MarkKind
-kind_of r e before =
+-- the kind of mark that an entry is for r under the strategy, if it is one
+abbrev pub kind_of : Strategy → ℕ → Entry → List Entry → Option MarkKind
+kind_of s r e before =
     if leaves_active r e before then Some Left
     else if supersedes r e before then Some Superseded
     else if clears r e before then Some Cleared
     else None
 
 -- the newest mark of r
-abbrev pub mark : ℕ → List Entry → Option Mark
-mark r [] = None
-mark r (e ∷ before) =
+abbrev pub mark : Strategy → ℕ → List Entry → Option Mark
+mark s r [] = None
+mark s r (e ∷ before) =
     option_or
     (option_map (λ kind. record {
       kind = kind;
       moment = moment (e ∷ before);
       stood = length before;
-    }) (kind_of r e before))
-    (mark r before)
+    }) (kind_of s r e before))
+    (mark s r before)

@@ -1,15 +1,19 @@
 //! The list of entries.
-ghost use Rattle.std.specs.Prelude.{◌≡◌, ◌+◌, ◌<◌, ◌≤◌, ◌∷◌, [], IfOk, OnOk, OnErr, slice_get, slice_index, length, reverse, option_map, replicate};
+ghost use Rattle.std.specs.Prelude.{◌≡◌, ◌+◌, ◌^◌, ◌≤◌, ◌∷◌, [], IfOk, IsTrue, OnOk, OnErr, slice_get, slice_index, length, reverse, option_map, replicate};
+ghost use Rattle.bg_history.specs.Compacted.{compacted, closed_after};
+ghost use Rattle.bg_history.specs.Requests.{given};
+ghost use Rattle.bg_history.specs.Sound.{is_sound};
 
+use crate::compacting::compact;
 use crate::entry::Entry;
 use bg_revisions::{Name, Ports};
 use std::alloc::{AllocError, Global};
 use std::marker::Model;
 
-/// The entries of a book since its opening, which only grow.
+/// The entries of a book since its opening.
 ///
-/// Contracts see the past newest first, the revision and the seats of the opening, the closed requests of
-/// each seat, and `spare`: the places that are reserved for further entries.
+/// Contracts see the past newest first, the revision and the seats of the opening, for each seat the number of
+/// its closed requests whose entries were dropped, and `spare`: the places that are reserved for further entries.
 #[derive(Drop)]
 pub struct History {
     name: Name,
@@ -91,6 +95,28 @@ impl History {
         self.spare -= 1;
     }
 
+    /// The number of seats.
+    pub fn seats(&self) -> usize
+        ensures seats { result ≡ self.now.opening.seats }
+        ensures closed { length self.now.closed ≡ result }
+    {
+        self.closed.len()
+    }
+
+    /// The name that revision 1 was opened with.
+    pub fn first_name(&self) -> &str
+        ensures { result.now ≡ self.now.opening.template.name }
+    {
+        self.name.get()
+    }
+
+    /// The ports that revision 1 was opened with.
+    pub fn first_ports(&self) -> &[u16]
+        ensures { result.now ≡ self.now.opening.template.ports }
+    {
+        self.ports.get()
+    }
+
     /// The number of entries.
     pub fn len(&self) -> u64
         ensures { result ≡ length self.now.past }
@@ -105,11 +131,24 @@ impl History {
         self.entries.get(place as usize)
     }
 
-    /// The number of a seat's requests whose entries were dropped.
+    /// The number of a seat's closed requests whose entries were dropped; 0 where there is no such seat.
     pub fn closed(&self, seat: u32) -> u64
-        requires { seat < self.now.opening.seats }
         ensures { result ≡ slice_index self.now.closed seat }
     {
-        self.closed[seat as usize]
+        self.closed.get(seat as usize).copied().unwrap_or(0)
+    }
+
+    /// Drops the entries of each closed request, counts it for its seat, and keeps of neighbouring ticks the
+    /// newest alone. Gives the number of entries that were dropped. It takes no memory.
+    pub fn compact(&mut self) -> u64
+        requires sound { IsTrue (is_sound self.old.opening.seats self.old.past) }
+        requires given { given self.old.closed self.old.past ≤ 2 ^ 53 }
+        ensures new { self.new ≡ record self.old {
+          closed = closed_after self.old.past self.old.closed;
+          past = compacted self.old.past;
+        } }
+        ensures dropped { result + length self.new.past ≡ length self.old.past }
+    {
+        compact(&mut self.entries, &mut self.closed)
     }
 }

@@ -72,14 +72,14 @@ promoted-switched s r past h = (promoted-parts s r past h).1
 -- what a revision that is scaled down is: not selected, due by its mark, and without an open request
 pub record ScalesDown (s : Strategy) (r : ℕ) (past : List Entry) : Type 0 where
   pub unselected : is_selected r past ≡ false
-  pub due : marks_due s (mark r past) past ≡ true
+  pub due : marks_due s (mark s r past) past ≡ true
   pub empty : is_empty (open_at r past) ≡ true
 
 -- each that is allowed to be scaled down is that
 pub scaled_down : (s : Strategy) (r : ℕ) (past : List Entry) → may_scale_down s r past ≡ true → ScalesDown s r past
 scaled_down s r past h =
-    let both = and_parts (exists_in r past && is_spare s r past && marks_due s (mark r past) past) (is_empty (open_at r past)) h in
-    let due = and_parts (exists_in r past && is_spare s r past) (marks_due s (mark r past) past) both.0 in
+    let both = and_parts (exists_in r past && is_spare s r past && marks_due s (mark s r past) past) (is_empty (open_at r past)) h in
+    let due = and_parts (exists_in r past && is_spare s r past) (marks_due s (mark s r past) past) both.0 in
     let spare = and_parts (exists_in r past) (is_spare s r past) due.0 in
     let two = and_parts (is_scaled s r past) (not (is_selected r past)) spare.1 in
     record { unselected = not_true (is_selected r past) two.1; due = due.1; empty = both.1 }

@@ -77,14 +77,14 @@ due_marked s (Some m) past h = go m.kind m.moment m.stood h where
   go Cleared at stood h = refl
 
 -- so the newest revision isn't scaled down
-down_older : (s : Strategy) (o : Opening) (r : ℕ) (before : List Entry) → all_allowed s o before ≡ true → marks_due s (mark r before) before ≡ true
+down_older : (s : Strategy) (o : Opening) (r : ℕ) (before : List Entry) → all_allowed s o before ≡ true → marks_due s (mark s r before) before ≡ true
     → (r == newest_of before) ≡ false
 down_older s o r before a due = go (r == newest_of before) refl where
   go : (b : Bool) → (r == newest_of before) ≡ b → b ≡ false
   go false is = refl
   go true is =
       let none : deadline s r before ≡ None = subst (λ (k : ℕ). deadline s k before ≡ None) (sym (equal_numbers r (newest_of before) is)) (newest_unmarked s o before a) in
-      sym due ∙ due_marked s (mark r before) before none
+      sym due ∙ due_marked s (mark s r before) before none
 
 -- they do after a revision is scaled down, which is none of them
 standing-ScaledDown : (s : Strategy) (o : Opening) (r : ℕ) (before : List Entry) → all_allowed s o before ≡ true → ScalesDown s r before → Standing s before

@@ -27,7 +27,7 @@ deadline_by s r e before left superseded cleared =
     (option_or
     (option_map (λ kind. record { kind = kind; moment = moment (e ∷ before); stood = length before })
     (cond left (Some Left) (cond superseded (Some Superseded) (cond cleared (Some Cleared) None))))
-    (mark r before))
+    (mark s r before))
 
 -- a revision without a deadline that neither leaves nor is superseded gets none
 stays_unmarked : (s : Strategy) (r : ℕ) (e : Entry) (before : List Entry) → leaves_active r e before ≡ false → supersedes r e before ≡ false

@@ -127,7 +127,7 @@ record OneTooMany (s : Strategy) (past : List Entry) : Type 0 where
 lowered-apart : (s : Strategy) (r : ℕ) (past : List Entry) → may_scale_down s r past ≡ true → is_selected r past ≡ false
 lowered-apart s r past may =
     let due = both (is_due s r past) (is_empty (open_at r past)) may in
-    let spare = both (exists_in r past && is_spare s r past) (marks_due s (mark r past) past) due.0 in
+    let spare = both (exists_in r past && is_spare s r past) (marks_due s (mark s r past) past) due.0 in
     let is = both (exists_in r past) (is_spare s r past) spare.0 in
     grind (arith, is.1)
 

@@ -6,3 +6,4 @@ mod Settled
 mod Lowering
 mod Entering
 mod Leaving
+pub mod Once

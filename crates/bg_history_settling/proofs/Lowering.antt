@@ -20,7 +20,7 @@ pub record IsCalm (s : Strategy) (e : Entry) (before : List Entry) : Type 0 wher
   pub existed : (q : ℕ) → exists_in q (e ∷ before) ≡ true → exists_in q before ≡ true
   pub no_more : (p : ℕ → Bool) → count_by p (existing (e ∷ before)) ≤ count_by p (existing before)
   pub was_spare : (q : ℕ) → is_spare s q (e ∷ before) ≡ true → is_spare s q before ≡ true
-  pub mark_is : (q : ℕ) → is_spare s q (e ∷ before) ≡ true → mark q (e ∷ before) ≡ mark q before
+  pub mark_is : (q : ℕ) → is_spare s q (e ∷ before) ≡ true → mark s q (e ∷ before) ≡ mark s q before
 
 -- the parts of a conjunction
 pub both : (a b : Bool) → a && b ≡ true → (a ≡ true) × (b ≡ true)
@@ -30,12 +30,12 @@ both false b h = absurd (cc)
 -- no rank rises
 rank-calm : (s : Strategy) (stood : ℕ) (e : Entry) (before : List Entry) → IsCalm s e before → rank_after s stood (e ∷ before) ≤ rank_after s stood before
 rank-calm s stood e before calm =
-    let after : ℕ → Bool = λ q. is_spare s q (e ∷ before) && left_later stood (mark q (e ∷ before)) in
-    let earlier : ℕ → Bool = λ q. is_spare s q before && left_later stood (mark q before) in
+    let after : ℕ → Bool = λ q. is_spare s q (e ∷ before) && left_later stood (mark s q (e ∷ before)) in
+    let earlier : ℕ → Bool = λ q. is_spare s q before && left_later stood (mark s q before) in
     let fewer : count_by after (existing (e ∷ before)) ≤ count_by earlier (existing (e ∷ before))
     = count-fewer earlier after (existing (e ∷ before)) (λ q h.
-    let parts = both (is_spare s q (e ∷ before)) (left_later stood (mark q (e ∷ before))) h in
-    let later : left_later stood (mark q before) ≡ true = ap (λ m. left_later stood m) (sym (calm.mark_is q parts.0)) ∙ parts.1 in
+    let parts = both (is_spare s q (e ∷ before)) (left_later stood (mark s q (e ∷ before))) h in
+    let later : left_later stood (mark s q before) ≡ true = ap (λ m. left_later stood m) (sym (calm.mark_is q parts.0)) ∙ parts.1 in
     rw (calm.was_spare q parts.0, later) refl) in
     omega (arith, fewer, calm.no_more earlier)
 
@@ -62,10 +62,10 @@ marks_due-calm s (Some m) e before calm h =
 -- what is due was due before
 due-calm : (s : Strategy) (q : ℕ) (e : Entry) (before : List Entry) → IsCalm s e before → is_due s q (e ∷ before) ≡ true → is_due s q before ≡ true
 due-calm s q e before calm h =
-    let two = both (exists_in q (e ∷ before) && is_spare s q (e ∷ before)) (marks_due s (mark q (e ∷ before)) (e ∷ before)) h in
+    let two = both (exists_in q (e ∷ before) && is_spare s q (e ∷ before)) (marks_due s (mark s q (e ∷ before)) (e ∷ before)) h in
     let one = both (exists_in q (e ∷ before)) (is_spare s q (e ∷ before)) two.0 in
-    let due : marks_due s (mark q before) (e ∷ before) ≡ true = ap (λ m. marks_due s m (e ∷ before)) (sym (calm.mark_is q one.1)) ∙ two.1 in
-    rw (calm.existed q one.0, calm.was_spare q one.1, marks_due-calm s (mark q before) e before calm due) refl
+    let due : marks_due s (mark s q before) (e ∷ before) ≡ true = ap (λ m. marks_due s m (e ∷ before)) (sym (calm.mark_is q one.1)) ∙ two.1 in
+    rw (calm.existed q one.0, calm.was_spare q one.1, marks_due-calm s (mark s q before) e before calm due) refl
 
 -- what still fails: two tests at once that did so before, where each still passes no more
 still-fails : (a b c d : Bool) → (a ≡ true → c ≡ true) → (b ≡ true → d ≡ true) → c && d ≡ false → a && b ≡ false
@@ -80,10 +80,10 @@ not-lowered s q e before calm empty fails =
     still-fails (is_due s q (e ∷ before)) (is_empty (open_at q (e ∷ before))) (is_due s q before) (is_empty (open_at q before)) (due-calm s q e before calm) empty fails
 
 -- an entry marks no revision that it neither selects, begins, supersedes, stops nor scales down
-unmarked : (q : ℕ) (e : Entry) (before : List Entry) → active_of (e ∷ before) ≡ active_of before → begins q e before ≡ false → supersedes q e before ≡ false
-    → scales_down q e ≡ false → is_halt e ≡ false → mark q (e ∷ before) ≡ mark q before
-unmarked q e before active begin supersede lower halt =
-    let none : kind_of q e before ≡ None = rw (active, begin, supersede, lower, halt) (by-active (active_of before == q)) in
+unmarked : (s : Strategy) (q : ℕ) (e : Entry) (before : List Entry) → active_of (e ∷ before) ≡ active_of before → begins q e before ≡ false → supersedes q e before ≡ false
+    → scales_down q e ≡ false → is_halt e ≡ false → mark s q (e ∷ before) ≡ mark s q before
+unmarked s q e before active begin supersede lower halt =
+    let none : kind_of s q e before ≡ None = rw (active, begin, supersede, lower, halt) (by-active (active_of before == q)) in
     rw none refl where
       by-active : (a : Bool) → cond (a && not a && true) (Some Left) (cond (not a && a || false || false) (Some Cleared) None) ≡ None
       by-active true = refl
@@ -96,7 +96,7 @@ enter-calm s seat service number r port before = record {
   existed = λ q h. h;
   no_more = λ p. omega arith;
   was_spare = λ q h. h;
-  mark_is = λ q h. unmarked q (Enter seat service number r port) before refl refl refl refl refl;
+  mark_is = λ q h. unmarked s q (Enter seat service number r port) before refl refl refl refl refl;
 }
 
 -- a request that leaves
@@ -106,7 +106,7 @@ leave-calm s seat number r before = record {
   existed = λ q h. h;
   no_more = λ p. omega arith;
   was_spare = λ q h. h;
-  mark_is = λ q h. unmarked q (Leave seat number r) before refl refl refl refl refl;
+  mark_is = λ q h. unmarked s q (Leave seat number r) before refl refl refl refl refl;
 }
 
 -- a revision that is removed
@@ -116,7 +116,7 @@ removed-calm s r before = record {
   existed = λ q h. member-part (λ p. not (p == r)) q (existing before) h;
   no_more = λ p. count-filter p (λ q. not (q == r)) (existing before);
   was_spare = λ q h. h;
-  mark_is = λ q h. unmarked q (Outcome (Removed r)) before refl refl refl refl refl;
+  mark_is = λ q h. unmarked s q (Outcome (Removed r)) before refl refl refl refl refl;
 }
 
 -- what is still spare is another revision, and was spare
@@ -130,5 +130,5 @@ scaled_down-calm s r before = record {
   existed = λ q h. h;
   no_more = λ p. omega arith;
   was_spare = λ q h. (spare-other s q r before h).1;
-  mark_is = λ q h. unmarked q (Outcome (ScaledDown r)) before refl refl refl (spare-other s q r before h).0 refl;
+  mark_is = λ q h. unmarked s q (Outcome (ScaledDown r)) before refl refl refl (spare-other s q r before h).0 refl;
 }

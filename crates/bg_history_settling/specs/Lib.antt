@@ -1,2 +1,3 @@
 pub mod Removals
 pub mod Work
+pub mod Steps

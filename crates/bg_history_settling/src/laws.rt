@@ -9,8 +9,9 @@ ghost use Rattle.bg_history.specs.declared.entry.Outcome.{Outcome};
 ghost use Rattle.bg_history.specs.Sizes.{existing};
 ghost use Rattle.bg_history.specs.Requests.{open_requests};
 ghost use Rattle.bg_history.specs.Deadlines.{old_revisions, may_remove, may_scale_down};
-ghost use Rattle.bg_history.specs.Steps.{first_allowed, is_settled, Follows};
+ghost use Rattle.bg_history.specs.Steps.{first_allowed, is_settled, Follows, Step};
 ghost use Rattle.bg_history_settling.specs.Removals.{first_of};
+ghost use Rattle.bg_history_settling.specs.Steps.{Settling};
 ghost use Rattle.bg_history_settling.specs.Work.{work};
 
 use bg_history::laws::existing_ascends;
@@ -30,6 +31,18 @@ pub fn work_is_bounded()
     ensures { (s : Strategy) (past : List Entry) → length (existing past) ≤ 64
         → work s past ≤ 136 }
 {}
+
+/// After each event, and after each past, the outcomes come to an end, in one settled past, and in
+/// one only: the history after a call is a function of the history before it and of the event. This
+/// asks nothing of the past.
+pub fn settles_once()
+    ensures some { (s : Strategy) (e : Entry) (past : List Entry) → Settling s e past }
+    ensures one { (s : Strategy) (e : Entry) (past : List Entry) (outcomes others : List Outcome)
+        (new other : List Entry) → Step s e past outcomes new → Step s e past others other
+        → (outcomes ≡ others) × (new ≡ other) }
+{
+    existing_ascends();
+}
 
 /// Where nothing is left undone, a request that enters allows no outcome.
 pub fn entering_settles()

@@ -4,10 +4,10 @@ ghost use Rattle.std.specs.Prelude.{◌≡◌, IfOk};
 use std::alloc::{AllocError, Global};
 use std::marker::Model;
 
-/// The name of a revision, which contracts see as the list of its bytes.
+/// The name of a revision, which contracts see as the list of its bytes. It is one pointer wide.
 #[derive(Drop, Debug)]
 pub struct Name {
-    text: String,
+    text: Box<String>,
 }
 
 impl Model for Name {
@@ -15,7 +15,7 @@ impl Model for Name {
 
     ghost Value = { List ℕ };
 
-    ghost view = { λ n. string_bytes n.text };
+    ghost view = { λ n. string_bytes n.text.value };
 }
 
 impl Name {
@@ -24,7 +24,9 @@ impl Name {
         ensures { IfOk result (λ n. n ≡ text.now) }
     {
         let copy = String::from_str(alloc, text)?;
-        Ok(Name { text: copy })
+        Ok(Name {
+            text: Box::new(alloc, copy)?,
+        })
     }
 
     /// The text.

@@ -4,10 +4,10 @@ ghost use Rattle.std.specs.Prelude.{◌≡◌, IfOk};
 use std::alloc::{AllocError, Global};
 use std::marker::Model;
 
-/// The ports at which a revision's endpoints listen, in order, which contracts see as a list.
+/// The ports at which a revision's endpoints listen, in order, which contracts see as a list. They are one pointer wide.
 #[derive(Drop, Debug)]
 pub struct Ports {
-    numbers: Vec<u16>,
+    numbers: Box<Vec<u16>>,
 }
 
 impl Model for Ports {
@@ -15,7 +15,7 @@ impl Model for Ports {
 
     ghost Value = { List ℕ };
 
-    ghost view = { λ p. p.numbers.items };
+    ghost view = { λ p. p.numbers.value.items };
 }
 
 impl Ports {
@@ -24,7 +24,9 @@ impl Ports {
         ensures { IfOk result (λ p. p ≡ numbers.now) }
     {
         let copy = numbers.to_vec(alloc)?;
-        Ok(Ports { numbers: copy })
+        Ok(Ports {
+            numbers: Box::new(alloc, copy)?,
+        })
     }
 
     /// The ports in order.

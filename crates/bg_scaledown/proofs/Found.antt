@@ -54,7 +54,7 @@ first-due s past p None stands ascends least =
     absurd (cc))))
 first-due s past p (Some r) stands ascends least =
     let due : is_due s r past ≡ true = sym (due-is_due s r past stands ascends) ∙ least.due in
-    let exists : exists_in r past ≡ true = (both (exists_in r past) (is_spare s r past) (both (exists_in r past && is_spare s r past) (marks_due s (mark r past) past) due).0).0 in
+    let exists : exists_in r past ≡ true = (both (exists_in r past) (is_spare s r past) (both (exists_in r past && is_spare s r past) (marks_due s (mark s r past) past) due).0).0 in
     sym (find-least (λ q. is_due s q past && p q) r (existing past) ascends exists (rw (due, least.passes) refl) (λ q h.
     let parts : (is_due s q past ≡ true) × (p q ≡ true) = both (is_due s q past) (p q) h in
     least.least q (due-is_due s q past stands ascends ∙ parts.0) parts.1))

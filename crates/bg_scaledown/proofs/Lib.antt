@@ -1,5 +1,7 @@
 pub mod Least
 pub mod Room
+pub mod Sorting
+pub mod Passed
 pub mod Filters
 pub mod Counts
 pub mod Lookups

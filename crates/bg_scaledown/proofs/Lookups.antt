@@ -1,5 +1,5 @@
 -- The stamp of a revision after a past.
-use Rattle.std.proofs.Common.{◌≡◌, ℕ, Bool, true, false, cond, ◌==◌, List, [], ◌∷◌, length, Option, Some, None, is_some, refl, arith, ◌∙◌, ap, sym, inl, inr}
+use Rattle.std.proofs.Common.{◌≡◌, ◌+◌, ℕ, Bool, true, false, cond, ◌==◌, List, [], ◌∷◌, length, Option, Some, None, is_some, refl, arith, ◌∙◌, ap, sym, inl, inr}
 use Rattle.std.specs.List.{list_any}
 use Rattle.std.specs.Option.{option_or, option_map}
 use Rattle.std.proofs.lemmas.Bool.Decides.{nat_tests, eqb_tells}
@@ -15,16 +15,16 @@ use Rattle.bg_scaledown.specs.declared.mark.Cause.TheVariants as cause
 use Rattle.bg_scaledown.specs.Past.{Stamp, stamp_at, others, stamp_of, stamped, touched, stamp_all, stamps_of}
 
 -- the stamp of r after a mark of that kind
-abbrev pub after : Option MarkKind → ℕ → ℕ → ℕ → Option Stamp → Option Stamp
-after None r at stood stamp = stamp
-after (Some Left) r at stood stamp = Some (stamp_at r cause.Left at stood)
-after (Some Superseded) r at stood stamp = Some (stamp_at r cause.Superseded at stood)
-after (Some Cleared) r at stood stamp = None
+abbrev pub after : Strategy → Option MarkKind → ℕ → ℕ → ℕ → Option Stamp → Option Stamp
+after s None r at stood stamp = stamp
+after s (Some Left) r at stood stamp = Some (stamp_at r cause.Left (at + s.delay) stood)
+after s (Some Superseded) r at stood stamp = Some (stamp_at r cause.Superseded at stood)
+after s (Some Cleared) r at stood stamp = None
 
 -- the stamp that the newest mark of r makes
-abbrev pub live : ℕ → Option Mark → Option Stamp
-live r None = None
-live r (Some m) = after (Some m.kind) r m.moment m.stood None
+abbrev pub live : Strategy → ℕ → Option Mark → Option Stamp
+live s r None = None
+live s r (Some m) = after s (Some m.kind) r m.moment m.stood None
 
 -- among the stamps of other revisions there is none of r
 stamp_of-others_same : (r : ℕ) (stamps : List Stamp) → stamp_of r (others r stamps) ≡ None
@@ -37,103 +37,103 @@ stamp_of-others_other q r [] ne = refl
 stamp_of-others_other q r (stamp ∷ stamps) ne = grind (arith, nat_tests, stamp_of-others_other q r stamps ne)
 
 -- a mark for r changes the stamp of r, and that of no other revision
-stamp_of-stamped_same : (k : Option MarkKind) (r at stood : ℕ) (stamps : List Stamp) → stamp_of r (stamped k r at stood stamps) ≡ after k r at stood (stamp_of r stamps)
-stamp_of-stamped_same None r at stood stamps = refl
-stamp_of-stamped_same (Some Left) r at stood stamps = grind (arith, nat_tests)
-stamp_of-stamped_same (Some Superseded) r at stood stamps = grind (arith, nat_tests)
-stamp_of-stamped_same (Some Cleared) r at stood stamps = stamp_of-others_same r stamps
+stamp_of-stamped_same : (s : Strategy) (k : Option MarkKind) (r at stood : ℕ) (stamps : List Stamp) → stamp_of r (stamped s k r at stood stamps) ≡ after s k r at stood (stamp_of r stamps)
+stamp_of-stamped_same s None r at stood stamps = refl
+stamp_of-stamped_same s (Some Left) r at stood stamps = grind (arith, nat_tests)
+stamp_of-stamped_same s (Some Superseded) r at stood stamps = grind (arith, nat_tests)
+stamp_of-stamped_same s (Some Cleared) r at stood stamps = stamp_of-others_same r stamps
 
-stamp_of-stamped_other : (k : Option MarkKind) (q r at stood : ℕ) (stamps : List Stamp) → (q == r) ≡ false → stamp_of r (stamped k q at stood stamps) ≡ stamp_of r stamps
-stamp_of-stamped_other None q r at stood stamps ne = refl
-stamp_of-stamped_other (Some Left) q r at stood stamps ne = grind (arith, nat_tests, stamp_of-others_other q r stamps ne)
-stamp_of-stamped_other (Some Superseded) q r at stood stamps ne = grind (arith, nat_tests, stamp_of-others_other q r stamps ne)
-stamp_of-stamped_other (Some Cleared) q r at stood stamps ne = stamp_of-others_other q r stamps ne
+stamp_of-stamped_other : (s : Strategy) (k : Option MarkKind) (q r at stood : ℕ) (stamps : List Stamp) → (q == r) ≡ false → stamp_of r (stamped s k q at stood stamps) ≡ stamp_of r stamps
+stamp_of-stamped_other s None q r at stood stamps ne = refl
+stamp_of-stamped_other s (Some Left) q r at stood stamps ne = grind (arith, nat_tests, stamp_of-others_other q r stamps ne)
+stamp_of-stamped_other s (Some Superseded) q r at stood stamps ne = grind (arith, nat_tests, stamp_of-others_other q r stamps ne)
+stamp_of-stamped_other s (Some Cleared) q r at stood stamps ne = stamp_of-others_other q r stamps ne
 
 -- an entry marks no revision but those that it touches
-untouched : (r : ℕ) (e : Entry) (before : List Entry) → list_any (λ q. q == r) (touched e before) ≡ false → kind_of r e before ≡ None
-untouched r (Deploy q name ports) before out = grind (arith, nat_tests)
-untouched r Retry before out = grind (arith, nat_tests)
-untouched r (Outcome (Switched q)) before out = grind (arith, nat_tests)
-untouched r (Outcome (ScaledDown q)) before out = grind (arith, nat_tests)
-untouched r Abort before out = grind (arith, nat_tests)
-untouched r (Verdict analysis Failed) before out = grind (arith, nat_tests)
-untouched r (Verdict analysis Error) before out = grind (arith, nat_tests)
-untouched r (Verdict analysis Successful) before out = grind (arith, nat_tests)
-untouched r _ before out = grind (arith, nat_tests)
+untouched : (s : Strategy) (r : ℕ) (e : Entry) (before : List Entry) → list_any (λ q. q == r) (touched e before) ≡ false → kind_of s r e before ≡ None
+untouched s r (Deploy q name ports) before out = grind (arith, nat_tests)
+untouched s r Retry before out = grind (arith, nat_tests)
+untouched s r (Outcome (Switched q)) before out = grind (arith, nat_tests)
+untouched s r (Outcome (ScaledDown q)) before out = grind (arith, nat_tests)
+untouched s r Abort before out = grind (arith, nat_tests)
+untouched s r (Verdict analysis Failed) before out = grind (arith, nat_tests)
+untouched s r (Verdict analysis Error) before out = grind (arith, nat_tests)
+untouched s r (Verdict analysis Successful) before out = grind (arith, nat_tests)
+untouched s r _ before out = grind (arith, nat_tests)
 
 -- a mark that comes twice counts once
-after_twice : (k : Option MarkKind) (r at stood : ℕ) (stamp : Option Stamp) → after k r at stood (after k r at stood stamp) ≡ after k r at stood stamp
-after_twice None r at stood stamp = refl
-after_twice (Some Left) r at stood stamp = refl
-after_twice (Some Superseded) r at stood stamp = refl
-after_twice (Some Cleared) r at stood stamp = refl
+after_twice : (s : Strategy) (k : Option MarkKind) (r at stood : ℕ) (stamp : Option Stamp) → after s k r at stood (after s k r at stood stamp) ≡ after s k r at stood stamp
+after_twice s None r at stood stamp = refl
+after_twice s (Some Left) r at stood stamp = refl
+after_twice s (Some Superseded) r at stood stamp = refl
+after_twice s (Some Cleared) r at stood stamp = refl
 
-after_cond : (b : Bool) (k : Option MarkKind) (r at stood : ℕ) (stamp : Option Stamp) → after k r at stood (cond b (after k r at stood stamp) stamp) ≡ after k r at stood stamp
-after_cond true k r at stood stamp = after_twice k r at stood stamp
-after_cond false k r at stood stamp = refl
+after_cond : (s : Strategy) (b : Bool) (k : Option MarkKind) (r at stood : ℕ) (stamp : Option Stamp) → after s k r at stood (cond b (after s k r at stood stamp) stamp) ≡ after s k r at stood stamp
+after_cond s true k r at stood stamp = after_twice s k r at stood stamp
+after_cond s false k r at stood stamp = refl
 
 -- the stamp of r after an entry, as far as it marks these revisions
-abbrev renewed : ℕ → Entry → List Entry → List ℕ → Option Stamp → Option Stamp
-renewed r e before qs stamp = cond (list_any (λ q. q == r) qs) (after (kind_of r e before) r (moment (e ∷ before)) (length before) stamp) stamp
+abbrev renewed : Strategy → ℕ → Entry → List Entry → List ℕ → Option Stamp → Option Stamp
+renewed s r e before qs stamp = cond (list_any (λ q. q == r) qs) (after s (kind_of s r e before) r (moment (e ∷ before)) (length before) stamp) stamp
 
 -- one more revision that is marked, r itself or another
-stamp_of-stamp_here : (r : ℕ) (e : Entry) (before : List Entry) (q : ℕ) (qs : List ℕ) (stamps : List Stamp) → (q == r) ≡ true → q ≡ r
-    → stamp_of r (stamp_all e before qs stamps) ≡ renewed r e before qs (stamp_of r stamps)
-    → stamp_of r (stamp_all e before (q ∷ qs) stamps) ≡ renewed r e before (q ∷ qs) (stamp_of r stamps)
-stamp_of-stamp_here r e before q qs stamps same is below =
-    rw (same, is, stamp_of-stamped_same (kind_of r e before) r (moment (e ∷ before)) (length before) (stamp_all e before qs stamps), below)
-    (after_cond (list_any (λ q. q == r) qs) (kind_of r e before) r (moment (e ∷ before)) (length before) (stamp_of r stamps))
+stamp_of-stamp_here : (s : Strategy) (r : ℕ) (e : Entry) (before : List Entry) (q : ℕ) (qs : List ℕ) (stamps : List Stamp) → (q == r) ≡ true → q ≡ r
+    → stamp_of r (stamp_all s e before qs stamps) ≡ renewed s r e before qs (stamp_of r stamps)
+    → stamp_of r (stamp_all s e before (q ∷ qs) stamps) ≡ renewed s r e before (q ∷ qs) (stamp_of r stamps)
+stamp_of-stamp_here s r e before q qs stamps same is below =
+    rw (same, is, stamp_of-stamped_same s (kind_of s r e before) r (moment (e ∷ before)) (length before) (stamp_all s e before qs stamps), below)
+    (after_cond s (list_any (λ q. q == r) qs) (kind_of s r e before) r (moment (e ∷ before)) (length before) (stamp_of r stamps))
 
-stamp_of-stamp_there : (r : ℕ) (e : Entry) (before : List Entry) (q : ℕ) (qs : List ℕ) (stamps : List Stamp) → (q == r) ≡ false
-    → stamp_of r (stamp_all e before qs stamps) ≡ renewed r e before qs (stamp_of r stamps)
-    → stamp_of r (stamp_all e before (q ∷ qs) stamps) ≡ renewed r e before (q ∷ qs) (stamp_of r stamps)
-stamp_of-stamp_there r e before q qs stamps other below =
-    rw (other, stamp_of-stamped_other (kind_of q e before) q r (moment (e ∷ before)) (length before) (stamp_all e before qs stamps) other) below
+stamp_of-stamp_there : (s : Strategy) (r : ℕ) (e : Entry) (before : List Entry) (q : ℕ) (qs : List ℕ) (stamps : List Stamp) → (q == r) ≡ false
+    → stamp_of r (stamp_all s e before qs stamps) ≡ renewed s r e before qs (stamp_of r stamps)
+    → stamp_of r (stamp_all s e before (q ∷ qs) stamps) ≡ renewed s r e before (q ∷ qs) (stamp_of r stamps)
+stamp_of-stamp_there s r e before q qs stamps other below =
+    rw (other, stamp_of-stamped_other s (kind_of s q e before) q r (moment (e ∷ before)) (length before) (stamp_all s e before qs stamps) other) below
 
 -- the stamp of r after several marks of one entry
-stamp_of-stamp_all : (r : ℕ) (e : Entry) (before : List Entry) (qs : List ℕ) (stamps : List Stamp)
-    → stamp_of r (stamp_all e before qs stamps)
-    ≡ renewed r e before qs (stamp_of r stamps)
-stamp_of-stamp_all r e before [] stamps = refl
-stamp_of-stamp_all r e before (q ∷ qs) stamps =
+stamp_of-stamp_all : (s : Strategy) (r : ℕ) (e : Entry) (before : List Entry) (qs : List ℕ) (stamps : List Stamp)
+    → stamp_of r (stamp_all s e before qs stamps)
+    ≡ renewed s r e before qs (stamp_of r stamps)
+stamp_of-stamp_all s r e before [] stamps = refl
+stamp_of-stamp_all s r e before (q ∷ qs) stamps =
     elim (eqb_tells q r) [
-      | inl h ↦ stamp_of-stamp_here r e before q qs stamps h.0 h.1 (stamp_of-stamp_all r e before qs stamps)
-      | inr h ↦ stamp_of-stamp_there r e before q qs stamps h.0 (stamp_of-stamp_all r e before qs stamps)
+      | inl h ↦ stamp_of-stamp_here s r e before q qs stamps h.0 h.1 (stamp_of-stamp_all s r e before qs stamps)
+      | inr h ↦ stamp_of-stamp_there s r e before q qs stamps h.0 (stamp_of-stamp_all s r e before qs stamps)
     ]
 
 -- the stamp of r after one more entry
-stamp_of-step : (r : ℕ) (e : Entry) (before : List Entry)
-    → stamp_of r (stamps_of (e ∷ before)) ≡ after (kind_of r e before) r (moment (e ∷ before)) (length before) (stamp_of r (stamps_of before))
-stamp_of-step r e before =
-    stamp_of-stamp_all r e before (touched e before) (stamps_of before)
-    ∙ settled r e before (list_any (λ q. q == r) (touched e before)) (untouched r e before) where
-      settled : (r : ℕ) (e : Entry) (before : List Entry) (b : Bool) → (b ≡ false → kind_of r e before ≡ None)
-          → cond b (after (kind_of r e before) r (moment (e ∷ before)) (length before) (stamp_of r (stamps_of before))) (stamp_of r (stamps_of before))
-          ≡ after (kind_of r e before) r (moment (e ∷ before)) (length before) (stamp_of r (stamps_of before))
-      settled r e before true none = refl
-      settled r e before false none = rw (none refl) refl
+stamp_of-step : (s : Strategy) (r : ℕ) (e : Entry) (before : List Entry)
+    → stamp_of r (stamps_of s (e ∷ before)) ≡ after s (kind_of s r e before) r (moment (e ∷ before)) (length before) (stamp_of r (stamps_of s before))
+stamp_of-step s r e before =
+    stamp_of-stamp_all s r e before (touched e before) (stamps_of s before)
+    ∙ settled s r e before (list_any (λ q. q == r) (touched e before)) (untouched s r e before) where
+      settled : (s : Strategy) (r : ℕ) (e : Entry) (before : List Entry) (b : Bool) → (b ≡ false → kind_of s r e before ≡ None)
+          → cond b (after s (kind_of s r e before) r (moment (e ∷ before)) (length before) (stamp_of r (stamps_of s before))) (stamp_of r (stamps_of s before))
+          ≡ after s (kind_of s r e before) r (moment (e ∷ before)) (length before) (stamp_of r (stamps_of s before))
+      settled s r e before true none = refl
+      settled s r e before false none = rw (none refl) refl
 
 -- one more mark is the newest
-live_step : (k : Option MarkKind) (r at stood : ℕ) (m : Option Mark)
-    → live r (option_or (option_map (λ kind. record { kind = kind; moment = at; stood = stood }) k) m) ≡ after k r at stood (live r m)
-live_step None r at stood m = refl
-live_step (Some Left) r at stood m = refl
-live_step (Some Superseded) r at stood m = refl
-live_step (Some Cleared) r at stood m = refl
+live_step : (s : Strategy) (k : Option MarkKind) (r at stood : ℕ) (m : Option Mark)
+    → live s r (option_or (option_map (λ kind. record { kind = kind; moment = at; stood = stood }) k) m) ≡ after s k r at stood (live s r m)
+live_step s None r at stood m = refl
+live_step s (Some Left) r at stood m = refl
+live_step s (Some Superseded) r at stood m = refl
+live_step s (Some Cleared) r at stood m = refl
 
 -- a past has of each revision the stamp that its newest mark makes
-pub stamp_of-past : (r : ℕ) (past : List Entry) → stamp_of r (stamps_of past) ≡ live r (mark r past)
-stamp_of-past r [] = refl
-stamp_of-past r (e ∷ before) =
-    stamp_of-step r e before
-    ∙ ap (λ stamp. after (kind_of r e before) r (moment (e ∷ before)) (length before) stamp) (stamp_of-past r before)
-    ∙ sym (live_step (kind_of r e before) r (moment (e ∷ before)) (length before) (mark r before))
+pub stamp_of-past : (s : Strategy) (r : ℕ) (past : List Entry) → stamp_of r (stamps_of s past) ≡ live s r (mark s r past)
+stamp_of-past s r [] = refl
+stamp_of-past s r (e ∷ before) =
+    stamp_of-step s r e before
+    ∙ ap (λ stamp. after s (kind_of s r e before) r (moment (e ∷ before)) (length before) stamp) (stamp_of-past s r before)
+    ∙ sym (live_step s (kind_of s r e before) r (moment (e ∷ before)) (length before) (mark s r before))
 
 -- a revision has a deadline where its newest mark makes a stamp
-pub live-deadline : (s : Strategy) (r : ℕ) (m : Option Mark) → is_some (deadline_of s m) ≡ is_some (live r m)
+pub live-deadline : (s : Strategy) (r : ℕ) (m : Option Mark) → is_some (deadline_of s m) ≡ is_some (live s r m)
 live-deadline s r None = refl
 live-deadline s r (Some m) = go m.kind m.moment m.stood where
-  go : (k : MarkKind) (at stood : ℕ) → is_some (deadline_of s (Some (record { kind = k; moment = at; stood = stood }))) ≡ is_some (live r (Some (record { kind = k; moment = at; stood = stood })))
+  go : (k : MarkKind) (at stood : ℕ) → is_some (deadline_of s (Some (record { kind = k; moment = at; stood = stood }))) ≡ is_some (live s r (Some (record { kind = k; moment = at; stood = stood })))
   go Left at stood = refl
   go Superseded at stood = refl
   go Cleared at stood = refl

@@ -1,6 +1,7 @@
 -- The stamps of a past name each revision once.
 use Rattle.std.proofs.Common.{◌≡◌, ℕ, Bool, true, false, not, cond, ◌==◌, List, [], ◌∷◌, length, Option, Some, None, refl, arith}
 use Rattle.std.proofs.lemmas.Bool.Decides.{nat_tests}
+use Rattle.bg_strategy.specs.declared.strategy.Strategy.{Strategy}
 use Rattle.bg_history.specs.declared.entry.Entry.{Entry}
 use Rattle.bg_history.specs.Turns.{moment}
 use Rattle.bg_history.specs.Marks.{MarkKind, Left, Superseded, Cleared, kind_of}
@@ -39,17 +40,17 @@ distinct-others q (stamp ∷ stamps) h =
     distinct-cond (not (stamp.mark.revision == q)) stamp (others q stamps) (member-others stamp.mark.revision q stamps h.0) (distinct-others q stamps h.1)
 
 -- and over an entry's marks
-distinct-stamped : (k : Option MarkKind) (q at stood : ℕ) (stamps : List Stamp) → Distinct (revisions stamps) → Distinct (revisions (stamped k q at stood stamps))
-distinct-stamped None q at stood stamps h = h
-distinct-stamped (Some Left) q at stood stamps h = (member-others_same q stamps, distinct-others q stamps h)
-distinct-stamped (Some Superseded) q at stood stamps h = (member-others_same q stamps, distinct-others q stamps h)
-distinct-stamped (Some Cleared) q at stood stamps h = distinct-others q stamps h
+distinct-stamped : (s : Strategy) (k : Option MarkKind) (q at stood : ℕ) (stamps : List Stamp) → Distinct (revisions stamps) → Distinct (revisions (stamped s k q at stood stamps))
+distinct-stamped s None q at stood stamps h = h
+distinct-stamped s (Some Left) q at stood stamps h = (member-others_same q stamps, distinct-others q stamps h)
+distinct-stamped s (Some Superseded) q at stood stamps h = (member-others_same q stamps, distinct-others q stamps h)
+distinct-stamped s (Some Cleared) q at stood stamps h = distinct-others q stamps h
 
-distinct-stamp_all : (e : Entry) (before : List Entry) (qs : List ℕ) (stamps : List Stamp) → Distinct (revisions stamps) → Distinct (revisions (stamp_all e before qs stamps))
-distinct-stamp_all e before [] stamps h = h
-distinct-stamp_all e before (q ∷ qs) stamps h = distinct-stamped (kind_of q e before) q (moment (e ∷ before)) (length before) (stamp_all e before qs stamps) (distinct-stamp_all e before qs stamps h)
+distinct-stamp_all : (s : Strategy) (e : Entry) (before : List Entry) (qs : List ℕ) (stamps : List Stamp) → Distinct (revisions stamps) → Distinct (revisions (stamp_all s e before qs stamps))
+distinct-stamp_all s e before [] stamps h = h
+distinct-stamp_all s e before (q ∷ qs) stamps h = distinct-stamped s (kind_of s q e before) q (moment (e ∷ before)) (length before) (stamp_all s e before qs stamps) (distinct-stamp_all s e before qs stamps h)
 
 -- a past's stamps name each revision once
-pub stamps-distinct : (past : List Entry) → Distinct (revisions (stamps_of past))
-stamps-distinct [] = tt
-stamps-distinct (e ∷ before) = distinct-stamp_all e before (touched e before) (stamps_of before) (stamps-distinct before)
+pub stamps-distinct : (s : Strategy) (past : List Entry) → Distinct (revisions (stamps_of s past))
+stamps-distinct s [] = tt
+stamps-distinct s (e ∷ before) = distinct-stamp_all s e before (touched e before) (stamps_of s before) (stamps-distinct s before)

@@ -1,6 +1,7 @@
 -- The order in which the revisions of a past left the active service.
-use Rattle.std.proofs.Common.{◌≡◌, ◌<◌, ◌≤◌, ℕ, suc, Bool, true, false, not, cond, ◌==◌, List, [], ◌∷◌, length, Option, Some, None, refl, arith}
+use Rattle.std.proofs.Common.{◌≡◌, ◌<◌, ◌≤◌, ◌+◌, ℕ, suc, Bool, true, false, not, cond, ◌==◌, List, [], ◌∷◌, length, Option, Some, None, refl, arith}
 use Rattle.std.proofs.lemmas.Bool.Decides.{nat_tests}
+use Rattle.bg_strategy.specs.declared.strategy.Strategy.{Strategy}
 use Rattle.bg_history.specs.declared.entry.Entry.{Entry}
 use Rattle.bg_history.specs.Turns.{moment}
 use Rattle.bg_history.specs.Selections.{active_of}
@@ -72,8 +73,8 @@ within-others n a q stamps h = record {
 }
 
 -- an entry makes no other revision leave than the active one
-left_is_active : (q : ℕ) (e : Entry) (before : List Entry) → kind_of q e before ≡ Some Left → active_of before ≡ q
-left_is_active q e before h = grind (arith, nat_tests)
+left_is_active : (s : Strategy) (q : ℕ) (e : Entry) (before : List Entry) → kind_of s q e before ≡ Some Left → active_of before ≡ q
+left_is_active s q e before h = grind (arith, nat_tests)
 
 -- a stamp of the revision is dropped with its others
 others-drops : (a : ℕ) (stamp : Stamp) (stamps : List Stamp) → stamp.mark.revision ≡ a → others a (stamp ∷ stamps) ≡ others a stamps
@@ -99,27 +100,27 @@ within-superseded n a q at stamps h =
     }
 
 -- over an entry's mark for one revision, and for several
-within-stamped : (q : ℕ) (e : Entry) (before : List Entry) (k : Option MarkKind) (at : ℕ) (stamps : List Stamp) → kind_of q e before ≡ k
-    → Within (length before) (active_of before) stamps → Within (length before) (active_of before) (stamped k q at (length before) stamps)
-within-stamped q e before None at stamps is h = h
-within-stamped q e before (Some Left) at stamps is h = rw (← left_is_active q e before is) (within-left (length before) (active_of before) at stamps h)
-within-stamped q e before (Some Superseded) at stamps is h = within-superseded (length before) (active_of before) q at stamps h
-within-stamped q e before (Some Cleared) at stamps is h = within-others (length before) (active_of before) q stamps h
+within-stamped : (s : Strategy) (q : ℕ) (e : Entry) (before : List Entry) (k : Option MarkKind) (at : ℕ) (stamps : List Stamp) → kind_of s q e before ≡ k
+    → Within (length before) (active_of before) stamps → Within (length before) (active_of before) (stamped s k q at (length before) stamps)
+within-stamped s q e before None at stamps is h = h
+within-stamped s q e before (Some Left) at stamps is h = rw (← left_is_active s q e before is) (within-left (length before) (active_of before) (at + s.delay) stamps h)
+within-stamped s q e before (Some Superseded) at stamps is h = within-superseded (length before) (active_of before) q at stamps h
+within-stamped s q e before (Some Cleared) at stamps is h = within-others (length before) (active_of before) q stamps h
 
-within-stamp_all : (e : Entry) (before : List Entry) (qs : List ℕ) (stamps : List Stamp)
-    → Within (length before) (active_of before) stamps → Within (length before) (active_of before) (stamp_all e before qs stamps)
-within-stamp_all e before [] stamps h = h
-within-stamp_all e before (q ∷ qs) stamps h =
-    within-stamped q e before (kind_of q e before) (moment (e ∷ before)) (stamp_all e before qs stamps) refl (within-stamp_all e before qs stamps h)
+within-stamp_all : (s : Strategy) (e : Entry) (before : List Entry) (qs : List ℕ) (stamps : List Stamp)
+    → Within (length before) (active_of before) stamps → Within (length before) (active_of before) (stamp_all s e before qs stamps)
+within-stamp_all s e before [] stamps h = h
+within-stamp_all s e before (q ∷ qs) stamps h =
+    within-stamped s q e before (kind_of s q e before) (moment (e ∷ before)) (stamp_all s e before qs stamps) refl (within-stamp_all s e before qs stamps h)
 
 -- in a past's stamps those that left later stand in front
-pub stamps-ordered : (past : List Entry) → LeftBefore (length past) (stamps_of past) × Ordered (stamps_of past)
-stamps-ordered [] = (tt, tt)
-stamps-ordered (e ∷ before) =
-    let h : LeftBefore (length before) (stamps_of before) × Ordered (stamps_of before) = stamps-ordered before in
-    let w : Within (length before) (active_of before) (stamps_of (e ∷ before)) = within-stamp_all e before (touched e before) (stamps_of before) (record {
-      all = left_before-more (length before) (suc (length before)) (stamps_of before) (omega arith) h.0;
-      but = left_before-others (length before) (active_of before) (stamps_of before) h.0;
+pub stamps-ordered : (s : Strategy) (past : List Entry) → LeftBefore (length past) (stamps_of s past) × Ordered (stamps_of s past)
+stamps-ordered s [] = (tt, tt)
+stamps-ordered s (e ∷ before) =
+    let h : LeftBefore (length before) (stamps_of s before) × Ordered (stamps_of s before) = stamps-ordered s before in
+    let w : Within (length before) (active_of before) (stamps_of s (e ∷ before)) = within-stamp_all s e before (touched e before) (stamps_of s before) (record {
+      all = left_before-more (length before) (suc (length before)) (stamps_of s before) (omega arith) h.0;
+      but = left_before-others (length before) (active_of before) (stamps_of s before) h.0;
       ordered = h.1;
     }) in
     (w.all, w.ordered)

@@ -28,10 +28,10 @@ mark_of-stamps r (stamp ∷ stamps) = go (stamp.mark.revision == r) r stamp stam
   go false r stamp stamps h = h
 
 -- the time of a revision's stamp is the deadline that its newest mark gives
-time-live : (s : Strategy) (r : ℕ) (m : Option Mark) → option_map (due.time_after s.delay) (option_map (λ stamp. stamp.mark) (live r m)) ≡ history.deadline_of s m
+time-live : (s : Strategy) (r : ℕ) (m : Option Mark) → option_map (λ m. m.deadline) (option_map (λ stamp. stamp.mark) (live s r m)) ≡ history.deadline_of s m
 time-live s r None = refl
 time-live s r (Some m) = go m.kind m.moment m.stood where
-  go : (k : MarkKind) (at stood : ℕ) → option_map (due.time_after s.delay) (option_map (λ stamp. stamp.mark) (live r (Some (record { kind = k; moment = at; stood = stood })))) ≡ history.time_of s k at
+  go : (k : MarkKind) (at stood : ℕ) → option_map (λ m. m.deadline) (option_map (λ stamp. stamp.mark) (live s r (Some (record { kind = k; moment = at; stood = stood })))) ≡ history.time_of s k at
   go Left at stood = refl
   go Superseded at stood = refl
   go Cleared at stood = refl
@@ -39,8 +39,8 @@ time-live s r (Some m) = go m.kind m.moment m.stood where
 -- the table's deadlines are the past's
 deadline-is_deadline : (s : Strategy) (r : ℕ) (past : List Entry) → due.deadline_in (table_of s past) r ≡ history.deadline s r past
 deadline-is_deadline s r past =
-    ap (option_map (due.time_after s.delay)) (mark_of-stamps r (stamps_of past) ∙ ap (option_map (λ stamp. stamp.mark)) (stamp_of-past r past))
-    ∙ time-live s r (mark r past)
+    ap (option_map (λ m. m.deadline)) (mark_of-stamps r (stamps_of s past) ∙ ap (option_map (λ stamp. stamp.mark)) (stamp_of-past s r past))
+    ∙ time-live s r (mark s r past)
 
 -- so an answer by the table is one by the past
 pub deadline-by_past : (s : Strategy) (r : ℕ) (past : List Entry) (t : Table) (result : Option ℕ) → t ≡ table_of s past → result ≡ due.deadline_in t r → result ≡ history.deadline s r past
@@ -52,39 +52,39 @@ stamp_of-member r [] me h = absurd (cc)
 stamp_of-member r (stamp ∷ stamps) me h = grind (arith, nat_tests, stamp_of-member r stamps me)
 
 -- a revision without a stamp isn't due
-due-none : (s : Strategy) (r : ℕ) (past : List Entry) → stamp_of r (stamps_of past) ≡ None → history.marks_due s (mark r past) past ≡ false
+due-none : (s : Strategy) (r : ℕ) (past : List Entry) → stamp_of r (stamps_of s past) ≡ None → history.marks_due s (mark s r past) past ≡ false
     → due.is_due_in (table_of s past) r (moment past) (selectors_of past) ≡ history.is_due s r past
-due-none s r past none no_mark = rw (mark_of-stamps r (stamps_of past), none, no_mark) (grind (arith, nat_tests))
+due-none s r past none no_mark = rw (mark_of-stamps r (stamps_of s past), none, no_mark) (grind (arith, nat_tests))
 
 -- one with a stamp is due where its mark is
-due-some : (s : Strategy) (r : ℕ) (past : List Entry) (me : Stamp) → DeadlinesStand s past → stamp_of r (stamps_of past) ≡ Some me
-    → history.marks_due s (mark r past) past ≡ due.mark_is_due (table_of s past) (moment past) (due.rank_among (selectors_of past) r (marks_of (stamps_of past))) me.mark
+due-some : (s : Strategy) (r : ℕ) (past : List Entry) (me : Stamp) → DeadlinesStand s past → stamp_of r (stamps_of s past) ≡ Some me
+    → history.marks_due s (mark s r past) past ≡ due.mark_is_due (table_of s past) (moment past) (due.rank_among (selectors_of past) r (marks_of (stamps_of s past))) me.mark
     → due.is_due_in (table_of s past) r (moment past) (selectors_of past) ≡ history.is_due s r past
 due-some s r past me stands here same =
-    let within : member r (revisions (stamps_of past)) ≡ true = stamp_of-member r (stamps_of past) me here in
+    let within : member r (revisions (stamps_of s past)) ≡ true = stamp_of-member r (stamps_of s past) me here in
     let has : is_some (history.deadline s r past) ≡ true = stamped-deadline s r past within in
     let exists : history.exists_in r past ≡ true = stands.exist r has in
-    rw (mark_of-stamps r (stamps_of past), here, exists, stands.scaled r has, same) refl
+    rw (mark_of-stamps r (stamps_of s past), here, exists, stands.scaled r has, same) refl
 
 -- by the newest mark
-due-by_mark : (s : Strategy) (r : ℕ) (past : List Entry) (m : Option Mark) → mark r past ≡ m → DeadlinesStand s past → Ascends (existing past)
+due-by_mark : (s : Strategy) (r : ℕ) (past : List Entry) (m : Option Mark) → mark s r past ≡ m → DeadlinesStand s past → Ascends (existing past)
     → due.is_due_in (table_of s past) r (moment past) (selectors_of past) ≡ history.is_due s r past
-due-by_mark s r past None is stands ascends = due-none s r past (stamp_of-past r past ∙ ap (live r) is) (rw is refl)
+due-by_mark s r past None is stands ascends = due-none s r past (stamp_of-past s r past ∙ ap (live s r) is) (rw is refl)
 due-by_mark s r past (Some m) is stands ascends = due-by_kind s r past m.kind m.moment m.stood is stands ascends where
-  due-by_kind : (s : Strategy) (r : ℕ) (past : List Entry) (k : MarkKind) (at stood : ℕ) → mark r past ≡ Some (record { kind = k; moment = at; stood = stood }) → DeadlinesStand s past → Ascends (existing past)
+  due-by_kind : (s : Strategy) (r : ℕ) (past : List Entry) (k : MarkKind) (at stood : ℕ) → mark s r past ≡ Some (record { kind = k; moment = at; stood = stood }) → DeadlinesStand s past → Ascends (existing past)
       → due.is_due_in (table_of s past) r (moment past) (selectors_of past) ≡ history.is_due s r past
   due-by_kind s r past Left at stood is stands ascends =
-      let me : Stamp = stamp_at r cause.Left at stood in
-      let here : stamp_of r (stamps_of past) ≡ Some me = stamp_of-past r past ∙ ap (live r) is in
+      let me : Stamp = stamp_at r cause.Left (at + s.delay) stood in
+      let here : stamp_of r (stamps_of s past) ≡ Some me = stamp_of-past s r past ∙ ap (live s r) is in
       due-some s r past me stands here
       (ap (λ m. history.marks_due s m past) is
       ∙ ap (λ n. nat_le (at + s.delay) (moment past) || history.is_over s.revision_limit n) (sym (rank_in-is_rank s r past me stands ascends here refl)))
   due-by_kind s r past Superseded at stood is stands ascends =
       let me : Stamp = stamp_at r cause.Superseded at stood in
-      due-some s r past me stands (stamp_of-past r past ∙ ap (live r) is) (ap (λ m. history.marks_due s m past) is)
-  due-by_kind s r past Cleared at stood is stands ascends = due-none s r past (stamp_of-past r past ∙ ap (live r) is) (rw is refl)
+      due-some s r past me stands (stamp_of-past s r past ∙ ap (live s r) is) (ap (λ m. history.marks_due s m past) is)
+  due-by_kind s r past Cleared at stood is stands ascends = due-none s r past (stamp_of-past s r past ∙ ap (live s r) is) (rw is refl)
 
 -- the table's revisions that are due are the past's
 pub due-is_due : (s : Strategy) (r : ℕ) (past : List Entry) → DeadlinesStand s past → Ascends (existing past)
     → due.is_due_in (table_of s past) r (moment past) (selectors_of past) ≡ history.is_due s r past
-due-is_due s r past stands ascends = due-by_mark s r past (mark r past) refl stands ascends
+due-is_due s r past stands ascends = due-by_mark s r past (mark s r past) refl stands ascends

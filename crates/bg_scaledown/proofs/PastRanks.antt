@@ -43,13 +43,13 @@ later-is_count counted stood (stamp ∷ stamps) distinct =
     grind (arith, nat_tests, later-is_count counted stood stamps distinct.1, count-by_stamp_absent counted stood stamp stamps (revisions stamps) distinct.0)
 
 -- a stamp left later where its mark did
-stamp_later-live : (stood q : ℕ) (m : Option Mark) → stamp_later stood (live q m) ≡ left_later stood m
-stamp_later-live stood q None = refl
-stamp_later-live stood q (Some m) = stamp_later-kind stood q m.kind m.moment m.stood where
-  stamp_later-kind : (stood q : ℕ) (k : MarkKind) (at n : ℕ) → stamp_later stood (live q (Some (record { kind = k; moment = at; stood = n }))) ≡ left_later stood (Some (record { kind = k; moment = at; stood = n }))
-  stamp_later-kind stood q Left at n = refl
-  stamp_later-kind stood q Superseded at n = refl
-  stamp_later-kind stood q Cleared at n = refl
+stamp_later-live : (s : Strategy) (stood q : ℕ) (m : Option Mark) → stamp_later stood (live s q m) ≡ left_later stood m
+stamp_later-live s stood q None = refl
+stamp_later-live s stood q (Some m) = stamp_later-kind s stood q m.kind m.moment m.stood where
+  stamp_later-kind : (s : Strategy) (stood q : ℕ) (k : MarkKind) (at n : ℕ) → stamp_later stood (live s q (Some (record { kind = k; moment = at; stood = n }))) ≡ left_later stood (Some (record { kind = k; moment = at; stood = n }))
+  stamp_later-kind s stood q Left at n = refl
+  stamp_later-kind s stood q Superseded at n = refl
+  stamp_later-kind s stood q Cleared at n = refl
 
 -- what is counted has a stamp
 by_stamp-member : (counted : ℕ → Bool) (stood q : ℕ) (stamps : List Stamp) → by_stamp counted stood stamps q ≡ true → member q (revisions stamps) ≡ true
@@ -74,21 +74,21 @@ stamp_of-found : (q : ℕ) (stamps : List Stamp) → member q (revisions stamps)
 stamp_of-found q [] h = cc
 stamp_of-found q (stamp ∷ stamps) h = grind (arith, nat_tests, stamp_of-found q stamps)
 
-pub stamped-deadline : (s : Strategy) (q : ℕ) (past : List Entry) → member q (revisions (stamps_of past)) ≡ true → is_some (deadline s q past) ≡ true
-stamped-deadline s q past h = live-deadline s q (mark q past) ∙ ap is_some (sym (stamp_of-past q past)) ∙ stamp_of-found q (stamps_of past) h
+pub stamped-deadline : (s : Strategy) (q : ℕ) (past : List Entry) → member q (revisions (stamps_of s past)) ≡ true → is_some (deadline s q past) ≡ true
+stamped-deadline s q past h = live-deadline s q (mark s q past) ∙ ap is_some (sym (stamp_of-past s q past)) ∙ stamp_of-found q (stamps_of s past) h
 
 -- the rank in the table is the number of spare revisions that left later
-pub rank_in-is_rank : (s : Strategy) (r : ℕ) (past : List Entry) (me : Stamp) → DeadlinesStand s past → Ascends (existing past) → stamp_of r (stamps_of past) ≡ Some me → stamp_has_left me ≡ true
-    → rank_in (λ q. not (is_selected q past)) r (marks_of (stamps_of past)) ≡ rank_after s me.stood past
+pub rank_in-is_rank : (s : Strategy) (r : ℕ) (past : List Entry) (me : Stamp) → DeadlinesStand s past → Ascends (existing past) → stamp_of r (stamps_of s past) ≡ Some me → stamp_has_left me ≡ true
+    → rank_in (λ q. not (is_selected q past)) r (marks_of (stamps_of s past)) ≡ rank_after s me.stood past
 rank_in-is_rank s r past me stands ascends here left =
     let spare : ℕ → Bool = λ q. is_spare s q past in
-    let by : ℕ → Bool = by_stamp spare me.stood (stamps_of past) in
-    rank_in-is_later (λ q. not (is_selected q past)) r (stamps_of past) me (stamps-ordered past).1 here left
-    ∙ later-ext (λ q. not (is_selected q past)) spare me.stood (stamps_of past) (λ q h. rw (stands.scaled q (stamped-deadline s q past h)) refl)
-    ∙ later-is_count spare me.stood (stamps_of past) (stamps-distinct past)
-    ∙ count-same by (revisions (stamps_of past)) (existing past) (stamps-distinct past) (ascends-distinct (existing past) ascends)
-    (λ q h. by_stamp-member spare me.stood q (stamps_of past) h)
-    (λ q h. stands.exist q (stamped-deadline s q past (by_stamp-member spare me.stood q (stamps_of past) h)))
-    ∙ count-ext by (λ q. is_spare s q past && left_later me.stood (mark q past)) (existing past)
-    (λ q. ap (λ stamp. is_spare s q past && stamp_later me.stood stamp) (stamp_of-past q past) ∙ ap (λ b. is_spare s q past && b) (stamp_later-live me.stood q (mark q past)))
-    ∙ sym (count_by-is_count (λ q. is_spare s q past && left_later me.stood (mark q past)) (existing past))
+    let by : ℕ → Bool = by_stamp spare me.stood (stamps_of s past) in
+    rank_in-is_later (λ q. not (is_selected q past)) r (stamps_of s past) me (stamps-ordered s past).1 here left
+    ∙ later-ext (λ q. not (is_selected q past)) spare me.stood (stamps_of s past) (λ q h. rw (stands.scaled q (stamped-deadline s q past h)) refl)
+    ∙ later-is_count spare me.stood (stamps_of s past) (stamps-distinct s past)
+    ∙ count-same by (revisions (stamps_of s past)) (existing past) (stamps-distinct s past) (ascends-distinct (existing past) ascends)
+    (λ q h. by_stamp-member spare me.stood q (stamps_of s past) h)
+    (λ q h. stands.exist q (stamped-deadline s q past (by_stamp-member spare me.stood q (stamps_of s past) h)))
+    ∙ count-ext by (λ q. is_spare s q past && left_later me.stood (mark s q past)) (existing past)
+    (λ q. ap (λ stamp. is_spare s q past && stamp_later me.stood stamp) (stamp_of-past s q past) ∙ ap (λ b. is_spare s q past && b) (stamp_later-live s me.stood q (mark s q past)))
+    ∙ sym (count_by-is_count (λ q. is_spare s q past && left_later me.stood (mark s q past)) (existing past))

@@ -1,6 +1,7 @@
 -- The table of a past, entry by entry.
-use Rattle.std.proofs.Common.{◌≡◌, ℕ, Bool, true, false, not, cond, ◌==◌, List, [], ◌∷◌, Option, Some, None, refl, arith, ◌∙◌, ap}
+use Rattle.std.proofs.Common.{◌≡◌, ◌+◌, ℕ, Bool, true, false, not, cond, ◌==◌, List, [], ◌∷◌, Option, Some, None, refl, arith, ◌∙◌, ap}
 use Rattle.std.proofs.lemmas.Bool.Decides.{nat_tests}
+use Rattle.bg_strategy.specs.declared.strategy.Strategy.{Strategy}
 use Rattle.bg_history.specs.declared.entry.Entry.{Entry}
 use Rattle.bg_history.specs.Turns.{moment}
 use Rattle.bg_history.specs.Marks.{MarkKind, Left, Superseded, Cleared, kind_of}
@@ -12,17 +13,17 @@ use Rattle.bg_scaledown.specs.Past.{Stamp, others, stamped, touched, stamp_all, 
 use Rattle.bg_scaledown.proofs.Filters.{filter-swap, filter-twice}
 
 -- the marks after the call of that kind for q: `left_active`, `superseded`, `clear` or none
-abbrev pub marked : Option MarkKind → ℕ → ℕ → List RevisionMark → List RevisionMark
-marked None q at marks = marks
-marked (Some Left) q at marks = record { revision = q; cause = cause.Left; moment = at } ∷ marks_without q marks
-marked (Some Superseded) q at marks = record { revision = q; cause = cause.Superseded; moment = at } ∷ marks_without q marks
-marked (Some Cleared) q at marks = marks_without q marks
+abbrev pub marked : ℕ → Option MarkKind → ℕ → ℕ → List RevisionMark → List RevisionMark
+marked delay None q at marks = marks
+marked delay (Some Left) q at marks = record { revision = q; cause = cause.Left; deadline = at + delay } ∷ marks_without q marks
+marked delay (Some Superseded) q at marks = record { revision = q; cause = cause.Superseded; deadline = at } ∷ marks_without q marks
+marked delay (Some Cleared) q at marks = marks_without q marks
 
 -- the marks of a revision that are dropped twice, or beside a new one of it
 pub marks_without-twice : (q : ℕ) (marks : List RevisionMark) → marks_without q (marks_without q marks) ≡ marks_without q marks
 marks_without-twice q marks = filter-twice (λ m. not (m.revision == q)) marks
 
-without-marked : (q : ℕ) (c : Cause) (at : ℕ) (marks : List RevisionMark) → marks_without q (record { revision = q; cause = c; moment = at } ∷ marks_without q marks) ≡ marks_without q marks
+without-marked : (q : ℕ) (c : Cause) (at : ℕ) (marks : List RevisionMark) → marks_without q (record { revision = q; cause = c; deadline = at } ∷ marks_without q marks) ≡ marks_without q marks
 without-marked q c at marks = grind (arith, nat_tests, marks_without-twice q marks)
 
 -- what is dropped before others needs no second drop
@@ -36,9 +37,9 @@ pub marks_without-same : (q r : ℕ) (marks : List RevisionMark) → r ≡ q →
 marks_without-same q r marks is = rw (← is) (marks_without-twice r marks)
 
 -- the marks after those calls for several revisions, the last one first
-abbrev pub mark_all : Entry → List Entry → List ℕ → List RevisionMark → List RevisionMark
-mark_all e before [] marks = marks
-mark_all e before (q ∷ qs) marks = marked (kind_of q e before) q (moment (e ∷ before)) (mark_all e before qs marks)
+abbrev pub mark_all : Strategy → Entry → List Entry → List ℕ → List RevisionMark → List RevisionMark
+mark_all s e before [] marks = marks
+mark_all s e before (q ∷ qs) marks = marked s.delay (kind_of s q e before) q (moment (e ∷ before)) (mark_all s e before qs marks)
 
 -- the marks of the stamps that stay are the marks that stay
 marks-others : (r : ℕ) (stamps : List Stamp) → marks_of (others r stamps) ≡ marks_without r (marks_of stamps)
@@ -50,40 +51,40 @@ marks-others r (stamp ∷ stamps) = go (stamp.mark.revision == r) (marks-others 
   go false h = ap (λ marks. stamp.mark ∷ marks) h
 
 -- what a stamp does to the stamps its call does to the marks
-marks-stamped : (k : Option MarkKind) (q at stood : ℕ) (stamps : List Stamp) → marks_of (stamped k q at stood stamps) ≡ marked k q at (marks_of stamps)
-marks-stamped None q at stood stamps = refl
-marks-stamped (Some Left) q at stood stamps = ap (λ marks. record { revision = q; cause = cause.Left; moment = at } ∷ marks) (marks-others q stamps)
-marks-stamped (Some Superseded) q at stood stamps = ap (λ marks. record { revision = q; cause = cause.Superseded; moment = at } ∷ marks) (marks-others q stamps)
-marks-stamped (Some Cleared) q at stood stamps = marks-others q stamps
+marks-stamped : (s : Strategy) (k : Option MarkKind) (q at stood : ℕ) (stamps : List Stamp) → marks_of (stamped s k q at stood stamps) ≡ marked s.delay k q at (marks_of stamps)
+marks-stamped s None q at stood stamps = refl
+marks-stamped s (Some Left) q at stood stamps = ap (λ marks. record { revision = q; cause = cause.Left; deadline = at + s.delay } ∷ marks) (marks-others q stamps)
+marks-stamped s (Some Superseded) q at stood stamps = ap (λ marks. record { revision = q; cause = cause.Superseded; deadline = at } ∷ marks) (marks-others q stamps)
+marks-stamped s (Some Cleared) q at stood stamps = marks-others q stamps
 
-marks-stamp_all : (e : Entry) (before : List Entry) (qs : List ℕ) (stamps : List Stamp) → marks_of (stamp_all e before qs stamps) ≡ mark_all e before qs (marks_of stamps)
-marks-stamp_all e before [] stamps = refl
-marks-stamp_all e before (q ∷ qs) stamps =
-    marks-stamped (kind_of q e before) q (moment (e ∷ before)) _ (stamp_all e before qs stamps)
-    ∙ ap (marked (kind_of q e before) q (moment (e ∷ before))) (marks-stamp_all e before qs stamps)
+marks-stamp_all : (s : Strategy) (e : Entry) (before : List Entry) (qs : List ℕ) (stamps : List Stamp) → marks_of (stamp_all s e before qs stamps) ≡ mark_all s e before qs (marks_of stamps)
+marks-stamp_all s e before [] stamps = refl
+marks-stamp_all s e before (q ∷ qs) stamps =
+    marks-stamped s (kind_of s q e before) q (moment (e ∷ before)) _ (stamp_all s e before qs stamps)
+    ∙ ap (marked s.delay (kind_of s q e before) q (moment (e ∷ before))) (marks-stamp_all s e before qs stamps)
 
 -- one more entry makes those calls for the revisions that it touches
-pub marks-step : (e : Entry) (before : List Entry) → marks_of (stamps_of (e ∷ before)) ≡ mark_all e before (touched e before) (marks_of (stamps_of before))
-marks-step e before = marks-stamp_all e before (touched e before) (stamps_of before)
+pub marks-step : (s : Strategy) (e : Entry) (before : List Entry) → marks_of (stamps_of s (e ∷ before)) ≡ mark_all s e before (touched e before) (marks_of (stamps_of s before))
+marks-step s e before = marks-stamp_all s e before (touched e before) (stamps_of s before)
 
 -- the same call twice is one
-pub marked-twice : (k : Option MarkKind) (q at : ℕ) (marks : List RevisionMark) → marked k q at (marked k q at marks) ≡ marked k q at marks
-marked-twice None q at marks = refl
-marked-twice (Some Left) q at marks = ap (λ ms. record { revision = q; cause = cause.Left; moment = at } ∷ ms) (without-marked q cause.Left at marks)
-marked-twice (Some Superseded) q at marks = ap (λ ms. record { revision = q; cause = cause.Superseded; moment = at } ∷ ms) (without-marked q cause.Superseded at marks)
-marked-twice (Some Cleared) q at marks = marks_without-twice q marks
+pub marked-twice : (delay : ℕ) (k : Option MarkKind) (q at : ℕ) (marks : List RevisionMark) → marked delay k q at (marked delay k q at marks) ≡ marked delay k q at marks
+marked-twice delay None q at marks = refl
+marked-twice delay (Some Left) q at marks = ap (λ ms. record { revision = q; cause = cause.Left; deadline = at + delay } ∷ ms) (without-marked q cause.Left (at + delay) marks)
+marked-twice delay (Some Superseded) q at marks = ap (λ ms. record { revision = q; cause = cause.Superseded; deadline = at } ∷ ms) (without-marked q cause.Superseded at marks)
+marked-twice delay (Some Cleared) q at marks = marks_without-twice q marks
 
 -- the calls for three revisions, the last one first, by what the entry is for each
-abbrev pub thrice : (ℕ → Option MarkKind) → ℕ → ℕ → ℕ → ℕ → List RevisionMark → List RevisionMark
-thrice kind a b c at marks = marked (kind a) a at (marked (kind b) b at (marked (kind c) c at marks))
+abbrev pub thrice : ℕ → (ℕ → Option MarkKind) → ℕ → ℕ → ℕ → ℕ → List RevisionMark → List RevisionMark
+thrice delay kind a b c at marks = marked delay (kind a) a at (marked delay (kind b) b at (marked delay (kind c) c at marks))
 
 -- they are two where neighbours are one revision
-pub thrice-first : (kind : ℕ → Option MarkKind) (a b c at : ℕ) (marks : List RevisionMark) → a ≡ b → thrice kind a b c at marks ≡ marked (kind a) a at (marked (kind c) c at marks)
-thrice-first kind a b c at marks is = rw (← is) (marked-twice (kind a) a at (marked (kind c) c at marks))
+pub thrice-first : (delay : ℕ) (kind : ℕ → Option MarkKind) (a b c at : ℕ) (marks : List RevisionMark) → a ≡ b → thrice delay kind a b c at marks ≡ marked delay (kind a) a at (marked delay (kind c) c at marks)
+thrice-first delay kind a b c at marks is = rw (← is) (marked-twice delay (kind a) a at (marked delay (kind c) c at marks))
 
-pub thrice-last : (kind : ℕ → Option MarkKind) (a b c at : ℕ) (marks : List RevisionMark) → b ≡ c → thrice kind a b c at marks ≡ marked (kind a) a at (marked (kind c) c at marks)
-thrice-last kind a b c at marks is = rw is (ap (marked (kind a) a at) (marked-twice (kind c) c at marks))
+pub thrice-last : (delay : ℕ) (kind : ℕ → Option MarkKind) (a b c at : ℕ) (marks : List RevisionMark) → b ≡ c → thrice delay kind a b c at marks ≡ marked delay (kind a) a at (marked delay (kind c) c at marks)
+thrice-last delay kind a b c at marks is = rw is (ap (marked delay (kind a) a at) (marked-twice delay (kind c) c at marks))
 
 -- they are the same by kinds that agree
-pub thrice-kinds : (p t : ℕ → Option MarkKind) (a b c at : ℕ) (marks : List RevisionMark) → ((q : ℕ) → p q ≡ t q) → thrice p a b c at marks ≡ thrice t a b c at marks
-thrice-kinds p t a b c at marks same = rw (same a, same b, same c) refl
+pub thrice-kinds : (delay : ℕ) (p t : ℕ → Option MarkKind) (a b c at : ℕ) (marks : List RevisionMark) → ((q : ℕ) → p q ≡ t q) → thrice delay p a b c at marks ≡ thrice delay t a b c at marks
+thrice-kinds delay p t a b c at marks same = rw (same a, same b, same c) refl

@@ -1,10 +1,12 @@
 -- How many marks of other revisions there are.
-use Rattle.std.proofs.Common.{◌≡◌, ◌≢◌, ◌<◌, ◌≤◌, ◌+◌, ℕ, Bool, true, false, not, cond, ◌==◌, List, [], ◌∷◌, ◌++◌, length, take, drop, get_or, is_some, refl, arith, sym, ap, ◌∙◌, length-append}
-use Rattle.std.proofs.lemmas.Bool.Decides.{nat_tests}
+use Rattle.std.proofs.Common.{◌≡◌, ◌≢◌, ◌<◌, ◌≤◌, ◌+◌, ℕ, Bool, true, false, not, cond, ◌==◌, nat_le, List, [], ◌∷◌, ◌++◌, length, take, drop, get_or, Option, Some, None, is_some, is_none, refl, arith, sym, ap, ◌∙◌, length-append, inl, inr}
+use Rattle.std.proofs.lemmas.Bool.Decides.{nat_tests, eqb_tells}
 use Rattle.std.proofs.lemmas.List.{take-append-drop}
 use Rattle.std.proofs.lemmas.List.Elements.{filter-append, filter_more}
 use Rattle.bg_scaledown.specs.declared.mark.RevisionMark.{RevisionMark}
-use Rattle.bg_scaledown.specs.Due.{marks_without, mark_of, has_room_for}
+use Rattle.bg_revisions.specs.declared.revision.Selectors.{Selectors}
+use Rattle.bg_scaledown.specs.Due.{marks_without, mark_of, one_if, unmarked, has_room_for}
+use Rattle.bg_scaledown.specs.Events.{replaces_newest, goes_back, only_if, marked_by_deploy}
 
 -- no more than there are marks
 pub length-marks_without : (r : ℕ) (ms : List RevisionMark) → length (marks_without r ms) ≤ length ms
@@ -16,12 +18,29 @@ marks_without-found : (r : ℕ) (ms : List RevisionMark) → is_some (mark_of r 
 marks_without-found r [] found = cc
 marks_without-found r (m ∷ ms) found = grind (arith, nat_tests, length-marks_without r ms, marks_without-found r ms)
 
+-- the place that the revision needs, where it has no mark
+abbrev pub place : ℕ → List RevisionMark → ℕ
+place r ms = one_if (is_none (mark_of r ms))
+
+-- there are as many places as are needed
+fits : (n : ℕ) → nat_le n 64 ≡ true → n ≤ 64
+fits n h = grind (arith, nat_tests)
+
+fits-so : (n : ℕ) → n ≤ 64 → nat_le n 64 ≡ true
+fits-so n h = grind (arith, nat_tests)
+
+-- the other revisions' marks are fewer, or as many where this one has none
+place-without : (r : ℕ) (ms : List RevisionMark) → 1 + length (marks_without r ms) ≤ place r ms + length ms
+place-without r ms = go (mark_of r ms) refl where
+  go : (o : Option RevisionMark) → mark_of r ms ≡ o → 1 + length (marks_without r ms) ≤ place r ms + length ms
+  go None is = rw is (omega (arith, length-marks_without r ms))
+  go (Some m) is = let found : is_some (mark_of r ms) ≡ true = rw is refl in omega (arith, marks_without-found r ms found)
+
 -- so that a mark of the revision has room beside them
-pub marks_without-room : (r : ℕ) (ms : List RevisionMark) → length ms ≤ 64 → has_room_for r ms ≡ true → length (marks_without r ms) < 64
-marks_without-room r ms few room = go (is_some (mark_of r ms)) refl where
-  go : (b : Bool) → is_some (mark_of r ms) ≡ b → length (marks_without r ms) < 64
-  go true is = omega (arith, marks_without-found r ms is)
-  go false is = grind (arith, nat_tests, length-marks_without r ms)
+pub marks_without-room : (r : ℕ) (ms : List RevisionMark) → has_room_for (r ∷ []) ms ≡ true → length (marks_without r ms) < 64
+marks_without-room r ms room =
+    let few : place r ms + 0 + length ms ≤ 64 = fits _ room in
+    omega (arith, place-without r ms)
 
 -- those of a part of the list are no more than those of all
 pub marks_without-take : (r n : ℕ) (ms : List RevisionMark) → length (marks_without r (take n ms)) ≤ length (marks_without r ms)
@@ -40,10 +59,90 @@ marks_without-before r i ms d within other =
     filter_more p ms i d within ∙ ap (λ b. marks_without r (take i ms) ++ cond b (get_or ms i d ∷ []) []) passes in
     omega (arith, marks_without-take r (i + 1) ms, ap length more, length-append (marks_without r (take i ms)) (get_or ms i d ∷ []))
 
--- where fewer than 64 revisions have marks each has room
-pub room-few : (r : ℕ) (ms : List RevisionMark) → length ms < 64 → has_room_for r ms ≡ true
-room-few r ms few = grind (arith, nat_tests)
+-- a revision needs one place at most
+place-most : (r : ℕ) (ms : List RevisionMark) → place r ms ≤ 1
+place-most r ms = go (mark_of r ms) where
+  go : (o : Option RevisionMark) → one_if (is_none o) ≤ 1
+  go None = omega arith
+  go (Some m) = omega arith
 
--- so it has once those of another one are dropped
-pub room-dropped : (r q : ℕ) (ms : List RevisionMark) → length ms < 64 → has_room_for r (marks_without q ms) ≡ true
-room-dropped r q ms few = room-few r (marks_without q ms) (omega (arith, length-marks_without q ms))
+-- another revision's mark stays when those of q are dropped
+mark_of-without : (q r : ℕ) (ms : List RevisionMark) → (q == r) ≡ false → mark_of r (marks_without q ms) ≡ mark_of r ms
+mark_of-without q r [] other = refl
+mark_of-without q r (m ∷ ms) other = grind (arith, nat_tests, mark_of-without q r ms other)
+
+-- when marks are dropped no more places are needed than get free
+dropped : (q r : ℕ) (ms : List RevisionMark) → place r (marks_without q ms) + length (marks_without q ms) ≤ place r ms + length ms
+dropped q r ms = elim (eqb_tells q r) [
+  | inl h ↦ rw h.1 (omega (arith, place-without r ms, place-most r (marks_without r ms)))
+  | inr h ↦ rw (mark_of-without q r ms h.0) (omega (arith, length-marks_without q ms))
+]
+
+-- nor by two revisions
+dropped-two : (q n a : ℕ) (ms : List RevisionMark) → (n == a) ≡ false
+    → place n (marks_without q ms) + place a (marks_without q ms) + length (marks_without q ms) ≤ place n ms + place a ms + length ms
+dropped-two q n a ms other = elim (eqb_tells q n) [
+  | inl h ↦
+      let apart : (q == a) ≡ false = rw h.1 other in
+      rw (mark_of-without q a ms apart) (omega (arith, dropped q n ms))
+  | inr h ↦ rw (mark_of-without q n ms h.0) (omega (arith, dropped q a ms))
+]
+
+-- a mark of n takes the place of n
+marked-room : (n a : ℕ) (m : RevisionMark) (ms : List RevisionMark) → m.revision ≡ n → (n == a) ≡ false
+    → place a (m ∷ marks_without n ms) + length (m ∷ marks_without n ms) ≤ place n ms + place a ms + length ms
+marked-room n a m ms is other =
+    let apart : (m.revision == a) ≡ false = rw is other in
+    rw (apart, mark_of-without n a ms other) (omega (arith, place-without n ms))
+
+-- there is room for a revision once marks are dropped
+pub room-dropped : (r q : ℕ) (ms : List RevisionMark) → has_room_for (r ∷ []) ms ≡ true → has_room_for (r ∷ []) (marks_without q ms) ≡ true
+room-dropped r q ms room =
+    let few : place r ms + 0 + length ms ≤ 64 = fits _ room in
+    fits-so _ (omega (arith, dropped q r ms))
+
+-- there is room for as many revisions as places are left
+unmarked-most : (rs : List ℕ) (ms : List RevisionMark) → unmarked rs ms ≤ length rs
+unmarked-most [] ms = omega arith
+unmarked-most (r ∷ rest) ms = omega (arith, place-most r ms, unmarked-most rest ms)
+
+pub room-left : (rs : List ℕ) (ms : List RevisionMark) → length rs + length ms ≤ 64 → has_room_for rs ms ≡ true
+room-left rs ms few = fits-so _ (omega (arith, unmarked-most rs ms))
+
+-- what is superseded isn't active
+pub superseded-other : (x : Selectors) → replaces_newest x ≡ true → (x.newest == x.active) ≡ false
+superseded-other x replaces = grind (arith, nat_tests)
+
+-- there is still room for what a deploy marks once marks are dropped
+pub deploy-dropped : (q r : ℕ) (x : Selectors) (ms : List RevisionMark) → has_room_for (marked_by_deploy r x) ms ≡ true → has_room_for (marked_by_deploy r x) (marks_without q ms) ≡ true
+deploy-dropped q r x ms room = go (replaces_newest x) (goes_back r x) (superseded-other x) room where
+  go : (b c : Bool) → (b ≡ true → (x.newest == x.active) ≡ false) → has_room_for (only_if b x.newest ++ only_if c x.active) ms ≡ true
+      → has_room_for (only_if b x.newest ++ only_if c x.active) (marks_without q ms) ≡ true
+  go true true other room =
+      let few : place x.newest ms + (place x.active ms + 0) + length ms ≤ 64 = fits _ room in
+      fits-so _ (omega (arith, dropped-two q x.newest x.active ms (other refl)))
+  go true false other room = room-dropped x.newest q ms room
+  go false true other room = room-dropped x.active q ms room
+  go false false other room = let few : 0 + length ms ≤ 64 = fits _ room in fits-so _ (omega (arith, length-marks_without q ms))
+
+-- so there is for the newest revision where it is superseded
+pub room-newest : (r : ℕ) (x : Selectors) (ms : List RevisionMark) → has_room_for (marked_by_deploy r x) ms ≡ true → replaces_newest x ≡ true → has_room_for (x.newest ∷ []) ms ≡ true
+room-newest r x ms room replaces = go (goes_back r x) (rw replaces at room) where
+  go : (c : Bool) → has_room_for (only_if true x.newest ++ only_if c x.active) ms ≡ true → has_room_for (x.newest ∷ []) ms ≡ true
+  go true room = let few : place x.newest ms + (place x.active ms + 0) + length ms ≤ 64 = fits _ room in fits-so _ (omega arith)
+  go false room = room
+
+-- and for the active one where it leaves, the newest one being superseded
+pub room-both : (r : ℕ) (x : Selectors) (m : RevisionMark) (ms : List RevisionMark) → has_room_for (marked_by_deploy r x) ms ≡ true
+    → replaces_newest x ≡ true → goes_back r x ≡ true → m.revision ≡ x.newest → has_room_for (x.active ∷ []) (m ∷ marks_without x.newest ms) ≡ true
+room-both r x m ms room replaces back is =
+    let both : has_room_for (x.newest ∷ x.active ∷ []) ms ≡ true = rw (replaces, back) at room in
+    let few : place x.newest ms + (place x.active ms + 0) + length ms ≤ 64 = fits _ both in
+    fits-so _ (omega (arith, marked-room x.newest x.active m ms is (superseded-other x replaces)))
+
+-- or where it isn't
+pub room-active : (r : ℕ) (x : Selectors) (ms : List RevisionMark) → has_room_for (marked_by_deploy r x) ms ≡ true → goes_back r x ≡ true → has_room_for (x.active ∷ []) ms ≡ true
+room-active r x ms room back = go (replaces_newest x) (rw back at room) where
+  go : (b : Bool) → has_room_for (only_if b x.newest ++ only_if true x.active) ms ≡ true → has_room_for (x.active ∷ []) ms ≡ true
+  go true room = let few : place x.newest ms + (place x.active ms + 0) + length ms ≤ 64 = fits _ room in fits-so _ (omega arith)
+  go false room = room

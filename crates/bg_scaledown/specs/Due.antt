@@ -1,5 +1,5 @@
 -- When a revision with a mark may be scaled down.
-use Rattle.std.specs.Prelude.{◌≤◌, ℕ, Bool, true, false, not, if◌then◌else◌, ◌+◌, ◌==◌, ◌&&◌, ◌||◌, nat_lt, nat_le, is_some, length, List, [], ◌∷◌, filter, find, Option, Some, None, IfSome, IfNone, IsTrue, IsFalse}
+use Rattle.std.specs.Prelude.{◌≤◌, ℕ, Bool, true, false, not, if◌then◌else◌, ◌+◌, ◌==◌, ◌&&◌, ◌||◌, nat_le, is_none, length, List, [], ◌∷◌, filter, find, Option, Some, None, IfSome, IfNone, IsTrue, IsFalse}
 use Rattle.std.specs.Option.{option_map}
 use Rattle.bg_history.specs.Deadlines.{is_over}
 use Rattle.bg_scaledown.specs.declared.mark.RevisionMark.{RevisionMark}
@@ -16,30 +16,31 @@ marks_without r marks = filter (λ m. not (m.revision == r)) marks
 abbrev pub mark_of : ℕ → List RevisionMark → Option RevisionMark
 mark_of r marks = find (λ m. m.revision == r) marks
 
--- the revision has a mark, or fewer than 64 revisions have one
-abbrev pub has_room_for : ℕ → List RevisionMark → Bool
-has_room_for r marks = is_some (mark_of r marks) || nat_lt (length marks) 64
+-- one where the test holds
+abbrev pub one_if : Bool → ℕ
+one_if b = if b then 1 else 0
+
+-- how many of the revisions have no mark
+abbrev pub unmarked : List ℕ → List RevisionMark → ℕ
+unmarked [] marks = 0
+unmarked (r ∷ rest) marks = one_if (is_none (mark_of r marks)) + unmarked rest marks
+
+-- each of the revisions has a mark, or there is a place for one: 64 revisions can be marked
+abbrev pub has_room_for : List ℕ → List RevisionMark → Bool
+has_room_for rs marks = nat_le (unmarked rs marks + length marks) 64
 
 -- the revision left the active service
 abbrev pub has_left : Cause → Bool
 has_left Left = true
 has_left Superseded = false
 
--- a revision that left the active service waits for the delay, one that was superseded does not
-abbrev pub time_after : ℕ → RevisionMark → ℕ
-time_after delay m = if has_left m.cause then m.moment + delay else m.moment
-
 -- the moment from which the revision may be scaled down
 abbrev pub deadline_in : Table → ℕ → Option ℕ
-deadline_in t r = option_map (time_after t.delay) (mark_of r t.marks)
+deadline_in t r = option_map (λ m. m.deadline) (mark_of r t.marks)
 
 -- the revision is active, preview or stable
 abbrev pub exempts : Selectors → ℕ → Bool
 exempts x r = (r == x.active) || (r == x.preview) || (r == x.stable)
-
--- one where the test holds
-abbrev pub one_if : Bool → ℕ
-one_if b = if b then 1 else 0
 
 -- how many marks newer than the revision's are of revisions that left the active service and pass
 -- the test
@@ -53,10 +54,10 @@ rank_in counted r (m ∷ older) =
 abbrev pub rank_among : Selectors → ℕ → List RevisionMark → ℕ
 rank_among x r marks = rank_in (λ q. not (exempts x q)) r marks
 
--- the mark's time has come, or it left and its rank is at least the limit
+-- the mark's deadline has come, or it left and its rank is at least the limit
 abbrev pub mark_is_due : Table → ℕ → ℕ → RevisionMark → Bool
 mark_is_due t now rank m =
-    nat_le (time_after t.delay m) now || (has_left m.cause && is_over t.limit rank)
+    nat_le m.deadline now || (has_left m.cause && is_over t.limit rank)
 
 -- there is a mark, and it is due
 abbrev pub found_is_due : Table → ℕ → ℕ → Option RevisionMark → Bool

@@ -1,28 +1,30 @@
 -- What an entry of the history does to the marks, by what was selected before it.
-use Rattle.std.specs.Prelude.{ℕ, Bool, false, not, if◌then◌else◌, ◌==◌, ◌&&◌, ◌||◌, List, ◌∷◌}
+use Rattle.std.specs.Prelude.{ℕ, Bool, not, if◌then◌else◌, ◌+◌, ◌==◌, ◌&&◌, ◌||◌, List, [], ◌∷◌, ◌++◌}
 use Rattle.bg_history.specs.declared.entry.Entry.{Entry}
-use Rattle.bg_history.specs.declared.entry.Entry.TheVariants.{Deploy}
+use Rattle.bg_history.specs.declared.entry.Entry.TheVariants.{Deploy, Verdict, Abort, Outcome}
+use Rattle.bg_history.specs.declared.entry.Outcome.TheVariants.{Switched}
+use Rattle.bg_history.specs.declared.entry.AnalysisResult.TheVariants.{Failed, Error}
 use Rattle.bg_revisions.specs.declared.revision.Selectors.{Selectors}
 use Rattle.bg_scaledown.specs.declared.mark.RevisionMark.{RevisionMark}
 use Rattle.bg_scaledown.specs.declared.mark.Cause.TheVariants.{Left, Superseded}
 use Rattle.bg_scaledown.specs.Due.{marks_without}
 
--- the marks where r left the active service
+-- the marks where r left the active service, to be scaled down from that moment on
 abbrev pub with_left : ℕ → ℕ → List RevisionMark → List RevisionMark
-with_left r at marks =
+with_left r deadline marks =
     record {
       revision = r;
       cause = Left;
-      moment = at;
+      deadline = deadline;
     } ∷ marks_without r marks
 
--- the marks where r was superseded
+-- the marks where r was superseded, to be scaled down from that moment on
 abbrev pub with_superseded : ℕ → ℕ → List RevisionMark → List RevisionMark
-with_superseded r at marks =
+with_superseded r deadline marks =
     record {
       revision = r;
       cause = Superseded;
-      moment = at;
+      deadline = deadline;
     } ∷ marks_without r marks
 
 -- a deploy of r begins an attempt of it, or goes back to it
@@ -48,26 +50,38 @@ replaced r x at marks =
     else cleared r x marks
 
 -- the marks after a deploy of r
-abbrev pub deployed : ℕ → Selectors → ℕ → List RevisionMark → List RevisionMark
-deployed r x at marks =
-    if goes_back r x then with_left x.active at (replaced r x at marks)
+abbrev pub deployed : ℕ → Selectors → ℕ → ℕ → List RevisionMark → List RevisionMark
+deployed r x at delay marks =
+    if goes_back r x then with_left x.active (at + delay) (replaced r x at marks)
     else replaced r x at marks
 
 -- the marks after an entry that stops the attempt
-abbrev pub halted : Selectors → ℕ → List RevisionMark → List RevisionMark
-halted x at marks =
+abbrev pub halted : Selectors → ℕ → ℕ → List RevisionMark → List RevisionMark
+halted x at delay marks =
     if x.active == x.stable then marks_without x.newest marks
     else if x.active == x.newest then marks_without x.stable (marks_without x.newest marks)
-    else with_left x.active at (marks_without x.stable (marks_without x.newest marks))
+    else with_left x.active (at + delay) (marks_without x.stable (marks_without x.newest marks))
 
 -- the marks after the active service was switched to r
-abbrev pub switched : ℕ → Selectors → ℕ → List RevisionMark → List RevisionMark
-switched r x at marks =
+abbrev pub switched : ℕ → Selectors → ℕ → ℕ → List RevisionMark → List RevisionMark
+switched r x at delay marks =
     if x.active == r then marks
-    else with_left x.active at (marks_without r marks)
+    else with_left x.active (at + delay) (marks_without r marks)
 
--- the entry marks two revisions: a deploy that goes back to the stable revision from another one,
--- and takes the place of a third
-abbrev pub marks_two : Entry → Selectors → Bool
-marks_two (Deploy r name ports) x = replaces_newest x && goes_back r x
-marks_two _ x = false
+-- the revision alone, where the test holds
+abbrev pub only_if : Bool → ℕ → List ℕ
+only_if b r = if b then r ∷ [] else []
+
+-- the revisions that a deploy of r marks: the newest one where it takes its place, and the active
+-- one where it goes back to the stable one
+abbrev pub marked_by_deploy : ℕ → Selectors → List ℕ
+marked_by_deploy r x = only_if (replaces_newest x) x.newest ++ only_if (goes_back r x) x.active
+
+-- the revisions that an entry may mark
+abbrev pub may_mark : Entry → Selectors → List ℕ
+may_mark (Deploy r name ports) x = marked_by_deploy r x
+may_mark Abort x = x.active ∷ []
+may_mark (Verdict analysis Failed) x = x.active ∷ []
+may_mark (Verdict analysis Error) x = x.active ∷ []
+may_mark (Outcome (Switched r)) x = x.active ∷ []
+may_mark _ x = []

@@ -1,4 +1,5 @@
 pub mod Tables
 pub mod Due
+pub mod Sorted
 pub mod Events
 pub mod Past

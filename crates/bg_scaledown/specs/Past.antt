@@ -1,5 +1,5 @@
 -- The table of marks that a past makes, for a book that keeps the deadlines beside its past.
-use Rattle.std.specs.Prelude.{ℕ, not, ◌==◌, List, [], ◌∷◌, length, Option, Some, None, is_some, filter, find, IsTrue}
+use Rattle.std.specs.Prelude.{ℕ, not, ◌+◌, ◌==◌, List, [], ◌∷◌, length, Option, Some, None, is_some, filter, find, IsTrue}
 use Rattle.bg_history.specs.declared.entry.Entry.{Entry}
 use Rattle.bg_history.specs.declared.entry.Entry.TheVariants.{Deploy, Verdict, Abort, Retry, Outcome}
 use Rattle.bg_history.specs.declared.entry.Outcome.TheVariants.{Switched, ScaledDown}
@@ -22,11 +22,11 @@ pub record Stamp : Type 0 where
 
 -- a stamp by its parts
 abbrev pub stamp_at : ℕ → Cause → ℕ → ℕ → Stamp
-stamp_at r c at stood = record {
+stamp_at r c deadline stood = record {
   mark = record {
     revision = r;
     cause = c;
-    moment = at;
+    deadline = deadline;
   };
   stood = stood;
 }
@@ -40,11 +40,11 @@ abbrev pub stamp_of : ℕ → List Stamp → Option Stamp
 stamp_of r stamps = find (λ stamp. stamp.mark.revision == r) stamps
 
 -- the stamps after an entry that is a mark of that kind for q
-abbrev pub stamped : Option MarkKind → ℕ → ℕ → ℕ → List Stamp → List Stamp
-stamped None q at stood stamps = stamps
-stamped (Some Left) q at stood stamps = stamp_at q cause.Left at stood ∷ others q stamps
-stamped (Some Superseded) q at stood stamps = stamp_at q cause.Superseded at stood ∷ others q stamps
-stamped (Some Cleared) q at stood stamps = others q stamps
+abbrev pub stamped : Strategy → Option MarkKind → ℕ → ℕ → ℕ → List Stamp → List Stamp
+stamped s None q at stood stamps = stamps
+stamped s (Some Left) q at stood stamps = stamp_at q cause.Left (at + s.delay) stood ∷ others q stamps
+stamped s (Some Superseded) q at stood stamps = stamp_at q cause.Superseded at stood ∷ others q stamps
+stamped s (Some Cleared) q at stood stamps = others q stamps
 
 -- the revisions that an entry may mark
 abbrev pub touched : Entry → List Entry → List ℕ
@@ -60,16 +60,16 @@ touched (Verdict analysis Error) before =
 touched _ before = []
 
 -- the stamps after an entry, as far as it marks these revisions
-abbrev pub stamp_all : Entry → List Entry → List ℕ → List Stamp → List Stamp
-stamp_all e before [] stamps = stamps
-stamp_all e before (q ∷ qs) stamps =
-    stamped (kind_of q e before) q (moment (e ∷ before)) (length before)
-    (stamp_all e before qs stamps)
+abbrev pub stamp_all : Strategy → Entry → List Entry → List ℕ → List Stamp → List Stamp
+stamp_all s e before [] stamps = stamps
+stamp_all s e before (q ∷ qs) stamps =
+    stamped s (kind_of s q e before) q (moment (e ∷ before)) (length before)
+    (stamp_all s e before qs stamps)
 
 -- the marks that the entries made, the newest first, but those that later ones replaced or cleared
-abbrev pub stamps_of : List Entry → List Stamp
-stamps_of [] = []
-stamps_of (e ∷ before) = stamp_all e before (touched e before) (stamps_of before)
+abbrev pub stamps_of : Strategy → List Entry → List Stamp
+stamps_of s [] = []
+stamps_of s (e ∷ before) = stamp_all s e before (touched e before) (stamps_of s before)
 
 -- their marks
 abbrev pub marks_of : List Stamp → List RevisionMark
@@ -81,7 +81,7 @@ abbrev pub table_of : Strategy → List Entry → Table
 table_of s past = record {
   delay = s.delay;
   limit = s.revision_limit;
-  marks = marks_of (stamps_of past);
+  marks = marks_of (stamps_of s past);
 }
 
 -- what holds of every past that a book can reach: a revision with a deadline exists and is scaled

@@ -1,6 +1,6 @@
 //! The deadlines of the revisions that left the active service or were superseded.
-ghost use Rattle.std.specs.Prelude.{◌≡◌, ◌≤◌, ◌<◌, ◌^◌, ℕ, Bool, true, List, [], ◌∷◌, length};
-ghost use Rattle.std.specs.Prelude.{◌&&◌, find};
+ghost use Rattle.std.specs.Prelude.{◌≡◌, ◌≤◌, ◌<◌, ◌+◌, ◌^◌, ℕ, Bool, true, List, [], ◌∷◌, length};
+ghost use Rattle.std.specs.Prelude.{◌&&◌, find, IfSome, IfNone};
 ghost use Rattle.bg_strategy.specs.declared.strategy.Strategy.{Strategy};
 ghost use Rattle.bg_history.specs.declared.entry.Entry.{Entry};
 ghost use Rattle.bg_history.specs.Turns.{moment};
@@ -8,15 +8,16 @@ ghost use Rattle.bg_history.specs.Selections.{selectors_of};
 ghost use Rattle.bg_history.specs.Sizes.{existing};
 ghost use Rattle.bg_history.specs.Deadlines.{deadline as deadline_of_past};
 ghost use Rattle.bg_history.specs.Deadlines.{is_due as is_due_in_past};
-ghost use Rattle.bg_scaledown.specs.Due.{marks_without, has_room_for, time_after, deadline_in};
+ghost use Rattle.bg_scaledown.specs.Due.{marks_without, has_room_for, deadline_in};
 ghost use Rattle.bg_scaledown.specs.Due.{exempts, is_due_in, IsLeastDue};
 ghost use Rattle.bg_scaledown.specs.Past.{table_of, DeadlinesStand};
 ghost use Rattle.bg_scaledown.specs.declared.mark.Cause.TheVariants.{Left, Superseded};
 
 mod events;
 
+use crate::laws::table_tells_due;
 use crate::mark::{Cause, RevisionMark};
-use crate::marks::{MOST_MARKS, Marks};
+use crate::marks::Marks;
 use bg_history::laws::existing_ascends;
 use bg_revisions::Selectors;
 use std::marker::Model;
@@ -35,14 +36,14 @@ pub struct Deadlines {
 }
 
 impl Model for Deadlines {
-    ghost use Rattle.std.specs.Prelude.{◌≤◌, ◌^◌, length, All};
+    ghost use Rattle.std.specs.Prelude.{◌≤◌, length};
     ghost use Rattle.bg_scaledown.specs.Tables.{Table};
 
     ghost Value = { Table };
 
     ghost view = { λ d. record { delay = d.delay; limit = d.limit; marks = d.marks } };
 
-    ghost invariant = { λ d. (length d.marks ≤ 64) × All (λ m. m.moment ≤ 2 ^ 53) d.marks };
+    ghost invariant = { λ d. length d.marks ≤ 64 };
 }
 
 impl Deadlines {
@@ -57,74 +58,68 @@ impl Deadlines {
         }
     }
 
-    /// Whether the revision can be marked: it has a mark, or fewer than 64 revisions have one.
-    pub fn has_room(&self, revision: u64) -> bool
-        ensures { result ≡ has_room_for revision self.now.marks }
-    {
-        self.deadline(revision).is_some() || self.marks.as_slice().len() < MOST_MARKS
-    }
-
-    /// The active service no longer selects the revision.
+    /// The active service no longer selects the revision: it stays scaled for the delay. The
+    /// revision has a mark already, or fewer than 64 revisions have one.
     pub fn left_active(&mut self, revision: u64, now: u64)
-        requires room { has_room_for revision self.old.marks ≡ true }
+        requires room { has_room_for (revision ∷ []) self.old.marks ≡ true }
         requires moment { now ≤ 2 ^ 53 }
         ensures { self.new ≡ record self.old {
-          marks = record { revision = revision; cause = Left; moment = now }
+          marks = record { revision = revision; cause = Left; deadline = now + self.old.delay }
               ∷ marks_without revision self.old.marks;
         } }
     {
-        self.set_mark(revision, Cause::Left, now);
+        let deadline = now + self.delay as u64;
+        self.set_mark(RevisionMark {
+            revision,
+            cause: Cause::Left,
+            deadline,
+        });
     }
 
-    /// A deploy took the place of the revision, which wasn't active.
+    /// A deploy took the place of the revision, which wasn't active: it may be scaled down at once.
+    /// The revision has a mark already, or fewer than 64 revisions have one.
     pub fn superseded(&mut self, revision: u64, now: u64)
-        requires room { has_room_for revision self.old.marks ≡ true }
-        requires moment { now ≤ 2 ^ 53 }
+        requires room { has_room_for (revision ∷ []) self.old.marks ≡ true }
         ensures { self.new ≡ record self.old {
-          marks = record { revision = revision; cause = Superseded; moment = now }
+          marks = record { revision = revision; cause = Superseded; deadline = now }
               ∷ marks_without revision self.old.marks;
         } }
     {
-        self.set_mark(revision, Cause::Superseded, now);
+        self.set_mark(RevisionMark {
+            revision,
+            cause: Cause::Superseded,
+            deadline: now,
+        });
     }
 
-    /// The last mark of the revision is now one of this cause.
-    fn set_mark(&mut self, revision: u64, cause: Cause, now: u64)
-        requires room { has_room_for revision self.old.marks ≡ true }
-        requires moment { now ≤ 2 ^ 53 }
+    /// This is now the last mark of its revision.
+    fn set_mark(&mut self, mark: RevisionMark)
+        requires room { has_room_for (mark.revision ∷ []) self.old.marks ≡ true }
         ensures { self.new ≡ record self.old {
-          marks = record { revision = revision; cause = cause; moment = now }
-              ∷ marks_without revision self.old.marks;
+          marks = mark ∷ marks_without mark.revision self.old.marks;
         } }
     {
-        self.marks = marked(
-            self.marks.as_slice(),
-            RevisionMark {
-                revision,
-                cause,
-                moment: now,
-            },
-        );
+        self.marks.put(mark);
     }
 
     /// The revision has no deadline any more.
     pub fn clear(&mut self, revision: u64)
         ensures { self.new ≡ record self.old { marks = marks_without revision self.old.marks } }
     {
-        self.marks = others(self.marks.as_slice(), revision);
+        self.marks.drop_mark(revision);
     }
 
-    /// The moment from which the revision may be scaled down: that of its mark, and where it left
-    /// the active service the delay more. None where it has no mark. Where the marks are those of a
-    /// history, it is the deadline that the history gives.
+    /// The moment from which the revision may be scaled down: the deadline of its mark. None where
+    /// it has no mark. Where the marks are those of a history, it is the deadline that the history
+    /// gives.
     pub fn deadline(&self, revision: u64) -> Option<u64>
         ensures table { result ≡ deadline_in self.now revision }
         ensures past { (s : Strategy) (past : List Entry) → self.now ≡ table_of s past
             → result ≡ deadline_of_past s revision past }
     {
-        for mark in self.marks.as_slice() {
+        for mark in self.marks.newest_first() {
             if mark.revision == revision {
-                return Some(time_after(self.delay, *mark));
+                return Some(mark.deadline);
             }
         }
         None
@@ -141,7 +136,7 @@ impl Deadlines {
             → DeadlinesStand s past → exempt ≡ selectors_of past → now ≡ moment past
             → result ≡ is_due_in_past s revision past }
     {
-        existing_ascends();
+        table_tells_due();
         self.has_due_mark(revision, now, exempt)
     }
 
@@ -153,10 +148,9 @@ impl Deadlines {
             return false;
         }
         let mut rank: u64 = 0;
-        for mark in self.marks.as_slice() {
+        for mark in self.marks.newest_first() {
             if mark.revision == revision {
-                let time = time_after(self.delay, *mark);
-                return time <= now
+                return mark.deadline <= now
                     || (mark.cause.has_left()
                         && self.limit.is_some_and(|limit| limit as u64 <= rank));
             }
@@ -183,55 +177,33 @@ impl Deadlines {
             → result ≡ find (λ r. is_due_in_past s r past && p r) (existing past) }
     {
         existing_ascends();
-        self.marks
-            .as_slice()
+        // Of those that left, as many as the limit stay, the latest ones.
+        let over = self
+            .limited()
             .iter()
+            .filter(|mark| mark.cause.has_left() && !exempts(exempt, mark.revision))
+            .skip(self.limit.unwrap_or(0) as usize)
+            .map(|mark| mark.revision);
+        self.marks
+            .by_deadline()
+            .iter()
+            .take_while(|mark| mark.deadline <= now)
             .map(|mark| mark.revision)
-            .filter(|revision| self.is_due(*revision, now, exempt) && empty(*revision))
+            .chain(over)
+            .filter(|revision| !exempts(exempt, *revision) && empty(*revision))
             .min()
     }
-}
 
-/// The moment from which a mark's revision may be scaled down.
-fn time_after(delay: u32, mark: RevisionMark) -> u64
-    requires { mark.moment ≤ 2 ^ 53 }
-    ensures { result ≡ time_after delay mark }
-{
-    if mark.cause.has_left() {
-        mark.moment + delay as u64
-    } else {
-        mark.moment
-    }
-}
-
-/// The marks of other revisions.
-fn others(marks: &[RevisionMark], revision: u64) -> Marks
-    requires { length marks.now ≤ 64 }
-    ensures { result ≡ marks_without revision marks.now }
-{
-    let mut kept = Marks::new();
-    for mark in marks {
-        if mark.revision != revision {
-            kept.push(*mark);
+    /// The marks that the limit may tell due, the newest first: none without a limit.
+    fn limited(&self) -> &[RevisionMark]
+        ensures some { IfSome self.now.limit (λ _. result.now ≡ self.now.marks) }
+        ensures none { IfNone self.now.limit (result.now ≡ []) }
+    {
+        match self.limit {
+            Some(_) => self.marks.newest_first(),
+            None => &[],
         }
     }
-    kept
-}
-
-/// The mark in front of those of other revisions.
-fn marked(marks: &[RevisionMark], newest: RevisionMark) -> Marks
-    requires few { length marks.now ≤ 64 }
-    requires room { length (marks_without newest.revision marks.now) < 64 }
-    ensures { result ≡ newest ∷ marks_without newest.revision marks.now }
-{
-    let mut kept = Marks::new();
-    kept.push(newest);
-    for mark in marks {
-        if mark.revision != newest.revision {
-            kept.push(*mark);
-        }
-    }
-    kept
 }
 
 /// Whether the revision is active, preview or stable.

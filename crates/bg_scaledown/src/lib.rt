@@ -5,6 +5,7 @@ mod deadlines;
 pub mod laws;
 mod mark;
 mod marks;
+mod row;
 
 pub use deadlines::Deadlines;
 pub use mark::{Cause, RevisionMark};

@@ -17,8 +17,8 @@ pub struct RevisionMark {
     /// The number of the revision.
     pub revision: u64,
     pub cause: Cause,
-    /// When that was, in seconds.
-    pub moment: u64,
+    /// The moment from which the revision may be scaled down, in seconds.
+    pub deadline: u64,
 }
 
 impl Cause {

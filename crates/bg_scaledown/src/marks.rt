@@ -1,34 +1,30 @@
-//! A fixed table of marks.
-ghost use Rattle.std.specs.Prelude.{◌≡◌, ◌<◌, ◌≤◌, [], ◌∷◌, ◌++◌, length};
+//! The marks in the order of marking and in that of their deadlines.
+ghost use Rattle.std.specs.Prelude.{◌≡◌, ◌<◌, ◌≤◌, [], ◌∷◌, length};
+ghost use Rattle.bg_scaledown.specs.Due.{marks_without};
+ghost use Rattle.bg_scaledown.specs.Sorted.{comes_before, inserted, sorted, OncePerRevision};
 
-use crate::mark::{Cause, RevisionMark};
+use crate::mark::RevisionMark;
+use crate::row::Row;
 use std::marker::Model;
 
-/// The most marks that a table holds: one for each revision.
-pub const MOST_MARKS: usize = 64;
-
-const NO_MARK: RevisionMark = RevisionMark {
-    revision: 0,
-    cause: Cause::Superseded,
-    moment: 0,
-};
-
-/// At most 64 marks in a table of fixed size, which contracts see as a list.
+/// At most 64 marks, one of a revision, which contracts see newest first. They are kept in the
+/// order of their deadlines too, so that each order is read from its front. Takes no memory.
 #[derive(Drop)]
 pub struct Marks {
-    table: [RevisionMark; MOST_MARKS],
-    count: usize,
+    newest_first: Row,
+    by_deadline: Row,
 }
 
 impl Model for Marks {
-    ghost use Rattle.std.specs.Prelude.{◌≤◌, List, take};
+    ghost use Rattle.std.specs.Prelude.{List};
     ghost use Rattle.bg_scaledown.specs.declared.mark.RevisionMark.{RevisionMark};
+    ghost use Rattle.bg_scaledown.specs.Sorted.{InBothOrders};
 
     ghost Value = { List RevisionMark };
 
-    ghost view = { λ m. take m.count m.table };
+    ghost view = { λ m. m.newest_first };
 
-    ghost invariant = { λ m. m.count ≤ 64 };
+    ghost invariant = { λ m. InBothOrders m.newest_first m.by_deadline };
 }
 
 impl Marks {
@@ -37,25 +33,101 @@ impl Marks {
         ensures { result ≡ [] }
     {
         Marks {
-            table: [NO_MARK; MOST_MARKS],
-            count: 0,
+            newest_first: Row::new(),
+            by_deadline: Row::new(),
         }
     }
 
-    /// Adds a mark at the end.
-    pub fn push(&mut self, mark: RevisionMark)
-        requires { length self.old < 64 }
-        ensures { self.new ≡ self.old ++ mark ∷ [] }
+    /// Puts the mark in front, in place of the last one of its revision.
+    pub fn put(&mut self, mark: RevisionMark)
+        requires { length (marks_without mark.revision self.old) < 64 }
+        ensures { self.new ≡ mark ∷ marks_without mark.revision self.old }
     {
-        self.table[self.count] = mark;
-        self.count += 1;
+        let others = others(self.by_deadline.as_slice(), mark.revision);
+        self.by_deadline = placed(others.as_slice(), mark);
+        self.newest_first = marked(self.newest_first.as_slice(), mark);
     }
 
-    /// The marks in order.
-    pub fn as_slice(&self) -> &[RevisionMark]
+    /// Drops the mark of the revision, if it has one.
+    pub fn drop_mark(&mut self, revision: u64)
+        ensures { self.new ≡ marks_without revision self.old }
+    {
+        self.by_deadline = others(self.by_deadline.as_slice(), revision);
+        self.newest_first = others(self.newest_first.as_slice(), revision);
+    }
+
+    /// The marks, the newest first.
+    pub fn newest_first(&self) -> &[RevisionMark]
         ensures marks { result.now ≡ self.now }
         ensures few { length result.now ≤ 64 }
     {
-        &self.table[..self.count]
+        self.newest_first.as_slice()
     }
+
+    /// The marks by their deadlines, and where those are the same by the numbers of the revisions.
+    /// No revision has two.
+    pub fn by_deadline(&self) -> &[RevisionMark]
+        ensures marks { result.now ≡ sorted self.now }
+        ensures once { OncePerRevision self.now }
+    {
+        self.by_deadline.as_slice()
+    }
+}
+
+/// The marks of other revisions.
+fn others(marks: &[RevisionMark], revision: u64) -> Row
+    requires { length marks.now ≤ 64 }
+    ensures { result ≡ marks_without revision marks.now }
+{
+    let mut kept = Row::new();
+    for mark in marks {
+        if mark.revision != revision {
+            kept.push(*mark);
+        }
+    }
+    kept
+}
+
+/// The mark in front of those of other revisions.
+fn marked(marks: &[RevisionMark], newest: RevisionMark) -> Row
+    requires few { length marks.now ≤ 64 }
+    requires room { length (marks_without newest.revision marks.now) < 64 }
+    ensures { result ≡ newest ∷ marks_without newest.revision marks.now }
+{
+    let mut kept = Row::new();
+    kept.push(newest);
+    for mark in marks {
+        if mark.revision != newest.revision {
+            kept.push(*mark);
+        }
+    }
+    kept
+}
+
+/// The mark in its place among marks that are sorted.
+fn placed(marks: &[RevisionMark], mark: RevisionMark) -> Row
+    requires { length marks.now < 64 }
+    ensures { result ≡ inserted mark marks.now }
+{
+    let mut kept = Row::new();
+    let mut is_placed = false;
+    for other in marks {
+        if !is_placed && comes_before(mark, *other) {
+            kept.push(mark);
+            is_placed = true;
+        }
+        kept.push(*other);
+    }
+    if !is_placed {
+        kept.push(mark);
+    }
+    kept
+}
+
+/// Whether the first mark has the earlier deadline, or the same and no greater number.
+fn comes_before(first: RevisionMark, second: RevisionMark) -> bool
+    ensures { result ≡ comes_before first second }
+{
+    first.deadline < second.deadline
+        || (first.deadline == second.deadline && first.revision <= second.revision)
 }

@@ -1,11 +1,12 @@
 //! What the entries of a history do to the deadlines.
-ghost use Rattle.std.specs.Prelude.{◌≡◌, ◌≤◌, ◌<◌, ◌^◌, ◌&&◌, List, ◌∷◌, length, IsTrue};
+ghost use Rattle.std.specs.Prelude.{◌≡◌, ◌≤◌, ◌^◌, true, List, [], ◌∷◌};
 ghost use Rattle.bg_strategy.specs.declared.strategy.Strategy.{Strategy};
 ghost use Rattle.bg_history.specs.declared.entry.Entry.{Entry};
 ghost use Rattle.bg_history.specs.Selections.{selectors_of};
 ghost use Rattle.bg_history.specs.Turns.{moment};
-ghost use Rattle.bg_scaledown.specs.Events.{deployed, halted, switched, marks_two};
-ghost use Rattle.bg_scaledown.specs.Events.{replaces_newest, goes_back};
+ghost use Rattle.bg_scaledown.specs.Due.{has_room_for};
+ghost use Rattle.bg_scaledown.specs.Events.{deployed, halted, switched};
+ghost use Rattle.bg_scaledown.specs.Events.{marked_by_deploy, may_mark};
 ghost use Rattle.bg_scaledown.specs.Past.{table_of};
 
 use super::Deadlines;
@@ -17,12 +18,11 @@ impl Deadlines {
     /// the moment, in seconds: after each entry of a history the marks are those that it makes
     /// (Argo Rollouts, "BlueGreen Deployment Strategy": `scaleDownDelaySeconds`).
     ///
-    /// An entry marks one revision at most, but for a deploy that goes back to the stable revision
-    /// from another one and supersedes a third: it marks two.
+    /// Each revision that the entry may mark has a mark already, or there is a place for one: 64
+    /// revisions can be marked. An entry marks one revision at most, but for a deploy that goes back
+    /// to the stable revision from another one and supersedes a third: it marks two.
     pub fn record(&mut self, entry: &Entry, selectors: Selectors, now: u64)
-        requires room { length self.old.marks < 64 }
-        requires room_for_two { IsTrue (marks_two entry.now selectors)
-            → length self.old.marks < 63 }
+        requires room { has_room_for (may_mark entry.now selectors) self.old.marks ≡ true }
         requires moment { now ≤ 2 ^ 53 }
         ensures { (s : Strategy) (past : List Entry) → self.old ≡ table_of s past
             → selectors ≡ selectors_of past → now ≡ moment past
@@ -49,12 +49,10 @@ impl Deadlines {
     /// A revision was deployed: it has no deadline. A newest one that was neither active nor stable
     /// is superseded, and the active one left where the deploy goes back to the stable revision.
     fn record_deploy(&mut self, revision: u64, selectors: Selectors, now: u64)
-        requires room { length self.old.marks < 64 }
-        requires room_for_two { IsTrue (replaces_newest selectors && goes_back revision selectors)
-            → length self.old.marks < 63 }
+        requires room { has_room_for (marked_by_deploy revision selectors) self.old.marks ≡ true }
         requires moment { now ≤ 2 ^ 53 }
         ensures { self.new ≡ record self.old {
-          marks = deployed revision selectors now self.old.marks;
+          marks = deployed revision selectors now self.old.delay self.old.marks;
         } }
     {
         if revision != selectors.stable || selectors.active != revision {
@@ -71,9 +69,11 @@ impl Deadlines {
     /// The attempt was stopped: its revision has no deadline, nor has the stable one where it is
     /// active again. An older active one left.
     fn record_halt(&mut self, selectors: Selectors, now: u64)
-        requires room { length self.old.marks < 64 }
+        requires room { has_room_for (selectors.active ∷ []) self.old.marks ≡ true }
         requires moment { now ≤ 2 ^ 53 }
-        ensures { self.new ≡ record self.old { marks = halted selectors now self.old.marks } }
+        ensures { self.new ≡ record self.old {
+          marks = halted selectors now self.old.delay self.old.marks;
+        } }
     {
         self.clear(selectors.newest);
         if selectors.active != selectors.stable {
@@ -86,10 +86,10 @@ impl Deadlines {
 
     /// The active service was switched to the revision, which has no deadline. The one before left.
     fn record_switch(&mut self, revision: u64, selectors: Selectors, now: u64)
-        requires room { length self.old.marks < 64 }
+        requires room { has_room_for (selectors.active ∷ []) self.old.marks ≡ true }
         requires moment { now ≤ 2 ^ 53 }
         ensures { self.new ≡ record self.old {
-          marks = switched revision selectors now self.old.marks;
+          marks = switched revision selectors now self.old.delay self.old.marks;
         } }
     {
         if selectors.active != revision {

@@ -14,34 +14,34 @@ returns-in-Deploy c s past kept selected at =
     let r = c.in-Deploy.revision in
     let e = Deploy r c.in-Deploy.name c.in-Deploy.ports in
     rw c.in-Deploy.is
-    (table-changed s past e (deployed r) c.args.self.now c.record_deploy.new.self c.args.selectors c.args.now kept selected at c.record_deploy.ensures (marks-deploy r c.in-Deploy.name c.in-Deploy.ports past))
+    (table-changed s past e (deployed r) c.args.self.now c.record_deploy.new.self c.args.selectors c.args.now kept selected at c.record_deploy.ensures (marks-deploy s r c.in-Deploy.name c.in-Deploy.ports past))
 
 pub returns-in-Retry : goal.returns-in-Retry
 returns-in-Retry c s past kept selected at =
     rw c.in-Retry.is
-    (table-changed s past Retry (λ x now marks. marks_without x.newest marks) c.args.self.now c.clear.new.self c.args.selectors c.args.now kept selected at c.clear.ensures (marks-retry past))
+    (table-changed s past Retry (λ x now delay marks. marks_without x.newest marks) c.args.self.now c.clear.new.self c.args.selectors c.args.now kept selected at c.clear.ensures (marks-retry s past))
 
 pub returns-in-Outcome-Switched : goal.returns-in-Outcome-Switched
 returns-in-Outcome-Switched c s past kept selected at =
     let r = c.in-Outcome-Switched.revision in
     let is : c.args.entry.now ≡ Outcome (Switched r) = search rules in
     rw is
-    (table-changed s past (Outcome (Switched r)) (switched r) c.args.self.now c.record_switch.new.self c.args.selectors c.args.now kept selected at c.record_switch.ensures (marks-switch r past))
+    (table-changed s past (Outcome (Switched r)) (switched r) c.args.self.now c.record_switch.new.self c.args.selectors c.args.now kept selected at c.record_switch.ensures (marks-switch s r past))
 
 pub returns-in-Outcome-ScaledDown : goal.returns-in-Outcome-ScaledDown
 returns-in-Outcome-ScaledDown c s past kept selected at =
     let r = c.in-Outcome-ScaledDown.revision in
     let is : c.args.entry.now ≡ Outcome (ScaledDown r) = search rules in
     rw is
-    (table-changed s past (Outcome (ScaledDown r)) (λ x now marks. marks_without r marks) c.args.self.now c.clear-in-Outcome-ScaledDown.new.self c.args.selectors c.args.now kept selected at c.clear-in-Outcome-ScaledDown.ensures (marks-scaled_down r past))
+    (table-changed s past (Outcome (ScaledDown r)) (λ x now delay marks. marks_without r marks) c.args.self.now c.clear-in-Outcome-ScaledDown.new.self c.args.selectors c.args.now kept selected at c.clear-in-Outcome-ScaledDown.ensures (marks-scaled_down s r past))
 
 pub returns-in-Abort : goal.returns-in-Abort
 returns-in-Abort c s past kept selected at =
     rw c.in-Abort.is
-    (table-changed s past Abort halted c.args.self.now c.record_halt.new.self c.args.selectors c.args.now kept selected at c.record_halt.ensures (marks-abort past))
+    (table-changed s past Abort halted c.args.self.now c.record_halt.new.self c.args.selectors c.args.now kept selected at c.record_halt.ensures (marks-abort s past))
 
 pub returns-in-Failed : goal.returns-in-Failed
 returns-in-Failed c s past kept selected at =
     let e = Verdict c.in-Verdict.analysis c.in-Verdict.result in
     rw c.in-Verdict.is
-    (table-changed s past e halted c.args.self.now c.record_halt-in-Failed.new.self c.args.selectors c.args.now kept selected at c.record_halt-in-Failed.ensures (marks-verdict c.in-Verdict.analysis c.in-Verdict.result past c.in-Failed.is))
+    (table-changed s past e halted c.args.self.now c.record_halt-in-Failed.new.self c.args.selectors c.args.now kept selected at c.record_halt-in-Failed.ensures (marks-verdict s c.in-Verdict.analysis c.in-Verdict.result past c.in-Failed.is))

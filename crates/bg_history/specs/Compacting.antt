@@ -1,0 +1,36 @@
+-- How entries are compacted, oldest first.
+use Rattle.std.specs.Prelude.{ℕ, Bool, true, false, if◌then◌else◌, ◌==◌, ◌&&◌, ◌-◌, nat_lt, List, ◌∷◌, slice_get, Option, Some, None}
+use Rattle.std.specs.List.{list_any}
+use Rattle.bg_history.specs.declared.entry.Entry.{Entry}
+use Rattle.bg_history.specs.declared.entry.Entry.TheVariants.{Tick, Enter, Leave}
+use Rattle.bg_history.specs.declared.compacting.Fate.{Fate}
+use Rattle.bg_history.specs.declared.compacting.Fate.TheVariants.{Stays, Goes, Closes}
+use Rattle.bg_history.specs.Compacted.{untick}
+
+abbrev pub is_tick : Entry → Bool
+is_tick (Tick m) = true
+is_tick _ = false
+
+abbrev pub is_leave_of : ℕ → Entry → Bool
+is_leave_of number (Leave seat n r) = n == number
+is_leave_of number _ = false
+
+-- what becomes of an entry, by those after it
+abbrev pub fate_of : Entry → List Entry → Fate
+fate_of (Enter seat service number r port) later =
+    if list_any (is_leave_of number) later then Closes seat else Stays
+fate_of (Leave seat number r) later = Goes
+fate_of _ later = Stays
+
+-- an entry that stays, in front of those that stayed
+abbrev pub laid : Entry → List Entry → List Entry
+laid e kept = if is_tick e then e ∷ untick kept else e ∷ kept
+
+abbrev pub is_some_tick : Option Entry → Bool
+is_some_tick None = false
+is_some_tick (Some e) = is_tick e
+
+-- the entry at that place and the last of the first `kept` ones are both ticks
+abbrev pub overwrites_at : ℕ → ℕ → List Entry → Bool
+overwrites_at kept place entries =
+    nat_lt 0 kept && is_some_tick (slice_get entries place) && is_some_tick (slice_get entries (kept - 1))
