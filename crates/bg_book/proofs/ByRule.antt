@@ -11,7 +11,7 @@ use Rattle.bg_history.specs.Selections.{active_of}
 use Rattle.bg_history.specs.Allowed.{is_allowed}
 use Rattle.bg_history.specs.Steps.{all_allowed}
 use Rattle.bg_book.specs.Headline.{switches_by_rule, may_go_back, moves_by_rule, is_reached_by_rule}
-use Rattle.bg_book.proofs.Requests.{and_parts, and_both, eq_refl, eq_from}
+use Rattle.bg_book.proofs.Tests.{and_parts, and_both, eq_refl, eq_from}
 
 or_true : (a : Bool) → (a || true) ≡ true
 or_true true = refl

@@ -4,8 +4,8 @@ use Rattle.std.proofs.lemmas.Bool.Decides.{nat_tests}
 use Rattle.bg_book.specs.declared.calls.Call.{Call}
 use Rattle.bg_book.specs.declared.calls.Reply.{Reply}
 use Rattle.bg_ledger.specs.declared.holding.Holding.{Holding}
-use Rattle.bg_book.specs.Gathering.{indices}
-use Rattle.bg_book.specs.Routing.{Routing}
+use Rattle.bg_rollout.specs.Gathering.{indices}
+use Rattle.bg_rollout.specs.Routing.{Routing}
 use Rattle.bg_book.specs.Runs.{CallStep, Runs}
 
 -- what a seat's number says of it

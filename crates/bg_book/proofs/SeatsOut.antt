@@ -6,10 +6,9 @@ use Rattle.bg_book.specs.declared.calls.Reply.{Reply}
 use Rattle.bg_book.specs.declared.calls.Reply.TheVariants.{Entered, EnterRefused, Left, Done, ControlRefused, NoSuchSeat, SeatBusy, SeatIdle}
 use Rattle.bg_ledger.specs.declared.holding.Holding.{Holding}
 use Rattle.bg_ledger.specs.Holdings.{vacated}
-use Rattle.bg_book.specs.Routing.{Routing}
+use Rattle.bg_rollout.specs.Routing.{Routing}
 use Rattle.bg_book.specs.Runs.{LeaveAt, LeaveStep}
-use Rattle.bg_book.proofs.Requests.{eq_from}
-use Rattle.bg_book.proofs.Seats.{get-set_same, get-set_other}
+use Rattle.bg_book.proofs.Tests.{eq_from, get-set_same, get-set_other}
 
 -- no seat before this place holds a request
 abbrev pub OutBefore : ℕ → List Holding → Type 0

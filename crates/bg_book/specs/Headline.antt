@@ -1,5 +1,5 @@
 -- What holds of a book between its calls.
-use Rattle.std.specs.Prelude.{◌≡◌, ℕ, Bool, false, ◌==◌, ◌&&◌, ◌||◌, if◌then◌else◌, nat_lt, IsTrue, List, [], ◌∷◌, length, map, sum_by}
+use Rattle.std.specs.Prelude.{◌≡◌, ℕ, Bool, false, ◌==◌, ◌&&◌, ◌||◌, IsTrue, List, [], ◌∷◌, length, map, sum_by}
 use Rattle.bg_strategy.specs.declared.strategy.Strategy.{Strategy}
 use Rattle.bg_history.specs.declared.entry.Entry.{Entry}
 use Rattle.bg_history.specs.declared.entry.Entry.TheVariants.{Deploy, Outcome}
@@ -11,10 +11,10 @@ use Rattle.bg_history.specs.Promotion.{may_switch}
 use Rattle.bg_history.specs.Requests.{open_at}
 use Rattle.bg_history.specs.Steps.{IsLegal, is_settled}
 use Rattle.bg_history_facts.specs.Reachable.{stands_scaled}
-use Rattle.bg_ledger.specs.declared.holding.Holding.{Holding}
 use Rattle.bg_requestlists.specs.RequestLists.{list_of}
-use Rattle.bg_book.specs.PastState.{lists_of, requests_at, SeatsStand}
-use Rattle.bg_book.specs.Routing.{Routing}
+use Rattle.bg_rollout.specs.PastState.{lists_of, requests_at, share, SeatsStand}
+use Rattle.bg_rollout.specs.Routing.{Routing}
+use Rattle.bg_rollout.specs.State.{state_of}
 
 -- the entry is a switch that is allowed
 abbrev pub switches_by_rule : Strategy → Entry → List Entry → Bool
@@ -38,12 +38,10 @@ abbrev pub is_reached_by_rule : Strategy → List Entry → Bool
 is_reached_by_rule s [] = active_of [] == 1
 is_reached_by_rule s (e ∷ before) = moves_by_rule s e before && is_reached_by_rule s before
 
--- a seat's share of the open requests at r: 1 where it has one of them in hand, else 0
-abbrev pub share : ℕ → Holding → ℕ
-share r seat = if nat_lt 0 seat.number && (seat.revision == r) then 1 else 0
-
--- the headline
+-- the headline: what runs is the state of the book's past, that past is legal, nothing allowed is
+-- left undone, and so on, part by part
 pub record Headline (b : Routing) : Type 0 where
+  pub fold : b.running ≡ state_of b.strategy b.opening b.closed b.past
   pub legal : IsLegal b.strategy b.opening b.closed b.past
   pub settled : IsTrue (is_settled b.strategy b.past)
   pub active : IsTrue (stands_scaled b.strategy (active_of b.past) b.past)

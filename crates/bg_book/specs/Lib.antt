@@ -1,13 +1,5 @@
-pub mod Routing
-pub mod PastState
-pub mod ControlFaults
-pub mod Refusals
-pub mod Changes
 pub mod Headline
+pub mod Desks
 pub mod Invariant
-pub mod Meeting
-pub mod Gathering
-pub mod Settling
-pub mod Recording
 pub mod Runs
-pub mod FaultNames
+pub mod Compaction

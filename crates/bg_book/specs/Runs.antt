@@ -4,16 +4,16 @@ use Rattle.bg_revisions.specs.declared.revision.Service.{Service}
 use Rattle.bg_history.specs.declared.entry.Entry.TheVariants as entry
 use Rattle.bg_book.specs.declared.calls.Call.{Call}
 use Rattle.bg_book.specs.declared.calls.Call.TheVariants as call
-use Rattle.bg_book.specs.declared.calls.Control.{Control}
+use Rattle.bg_rollout.specs.declared.control.Control.{Control}
 use Rattle.bg_book.specs.declared.calls.Reply.{Reply}
 use Rattle.bg_book.specs.declared.calls.Reply.TheVariants.{Entered, EnterRefused, Left, Done, ControlRefused, NoSuchSeat, SeatBusy, SeatIdle}
-use Rattle.bg_book.specs.declared.fault.EnterFault.TheVariants as enter_fault
-use Rattle.bg_book.specs.declared.control_fault.ControlFault.TheVariants as control_fault
+use Rattle.bg_rollout.specs.declared.fault.EnterFault.TheVariants as enter_fault
+use Rattle.bg_rollout.specs.declared.control_fault.ControlFault.TheVariants as control_fault
 use Rattle.bg_ledger.specs.declared.holding.Holding.{Holding}
 use Rattle.bg_ledger.specs.Holdings.{vacated}
-use Rattle.bg_book.specs.Refusals.{enter_refusal, control_refusal, event_of, IsRefusedBy, IsTicket}
-use Rattle.bg_book.specs.Changes.{Stepped, with_past, enter_entry, seat_in}
-use Rattle.bg_book.specs.Routing.{Routing}
+use Rattle.bg_rollout.specs.Refusals.{enter_refusal, control_refusal, event_of, IsRefusedBy, IsTicket}
+use Rattle.bg_rollout.specs.Changes.{Stepped, with_past, enter_entry, seat_in}
+use Rattle.bg_rollout.specs.Routing.{Routing}
 
 -- nothing changed
 abbrev pub Unchanged : Routing → List Holding → Routing → List Holding → Type 0

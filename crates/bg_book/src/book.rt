@@ -1,7 +1,17 @@
 //! The book.
 
-use crate::rollout::Rollout;
+mod compacting;
+mod controlling;
+mod entering;
+mod gathering;
+mod leaving;
+mod meeting;
+mod opening;
+mod readers;
+mod running;
+
 use bg_ledger::Names;
+use bg_rollout::Rollout;
 use std::alloc::Global;
 use std::marker::Model;
 
@@ -17,7 +27,7 @@ pub struct Book<N: Names> {
 }
 
 impl<N: Names> Model for Book<N> {
-    ghost use Rattle.bg_book.specs.Routing.{Routing};
+    ghost use Rattle.bg_rollout.specs.Routing.{Routing};
 
     ghost Value = { Routing };
 

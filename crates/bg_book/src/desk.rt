@@ -1,21 +1,21 @@
 //! A book that threads share.
-ghost use Rattle.std.specs.Prelude.{◌≡◌, ◌<◌, ◌≤◌, IfOk, OnErr};
+ghost use Rattle.std.specs.Prelude.{◌≡◌, ◌+◌, ◌<◌, ◌≤◌, length, IfOk, OnErr};
 ghost use Rattle.bg_ledger.specs.Holdings.{vacated};
-ghost use Rattle.bg_book.specs.Changes.{seat_in};
+ghost use Rattle.bg_rollout.specs.Compaction.{with_compacted};
+ghost use Rattle.bg_rollout.specs.Changes.{seat_in};
+ghost use Rattle.bg_book.specs.Desks.{StepsTo};
 ghost use Rattle.bg_book.specs.Headline.{Headline};
-ghost use Rattle.bg_book.specs.Meeting.{Meets};
-ghost use Rattle.bg_book.specs.Refusals.{control_refusal, enter_refusal, AnswersBy, IsTicket};
-ghost use Rattle.bg_book.specs.Routing.{Routing};
-ghost use Rattle.bg_book.specs.declared.control_fault.ControlFault.TheVariants as control_fault;
-ghost use Rattle.bg_book.specs.declared.fault.EnterFault.TheVariants as enter_fault;
+ghost use Rattle.bg_rollout.specs.Meeting.{Meets};
+ghost use Rattle.bg_rollout.specs.Refusals.{control_refusal, enter_refusal, AnswersBy, IsTicket};
+ghost use Rattle.bg_rollout.specs.Routing.{Routing};
+ghost use Rattle.bg_rollout.specs.declared.control_fault.ControlFault.TheVariants as control_fault;
+ghost use Rattle.bg_rollout.specs.declared.fault.EnterFault.TheVariants as enter_fault;
 
 use crate::book::Book;
-use crate::calls::{Control, Left, Ticket};
-use crate::control_fault::ControlFault;
-use crate::fault::EnterFault;
 use crate::laws::headline;
 use bg_ledger::{Names, Seat};
 use bg_revisions::Service;
+use bg_rollout::{Control, ControlFault, EnterFault, Left, Ticket};
 use std::sync::{Mutex, Wait};
 
 /// What is asked of a book under its desk's lock.
@@ -31,7 +31,7 @@ pub trait Question<A> {
 /// A book behind a lock, which threads share.
 ///
 /// Each call takes the lock once, makes one call of the book and lets go. `told` says of each that the answer is one
-/// of a book that has what [`headline`] says, as the book is when the lock is taken.
+/// of a book that has what [`headline`] says; that it is the book under the lock is not said.
 #[derive(Drop)]
 pub struct Desk<N: Names> {
     book: Mutex<Book<N>>,
@@ -83,12 +83,26 @@ impl<N: Names> Desk<N> {
     pub fn control<R: Wait>(&self, rt: &R, control: &Control) -> Result<u64, ControlFault>
         ensures few { IfOk result (λ n. n ≤ 140) }
         ensures told { (b : Routing) × Headline b
-            × AnswersBy (control_refusal b control.now) control_fault.OutOfMemory result }
+            × AnswersBy (control_refusal b control.now) control_fault.OutOfMemory result
+            × IfOk result (λ n. (new : Routing) × StepsTo b control.now new n) }
     {
         let mut locked = self.book.lock(rt);
         let book = &mut *locked;
         headline(book);
-        book.control(control)
+        let answer = book.control(control);
+        headline(book);
+        answer
+    }
+
+    /// [`Book::compact`].
+    pub fn compact<R: Wait>(&self, rt: &R) -> u64
+        ensures told { (b : Routing) × Headline b
+            × (result + length (with_compacted b).past ≡ length b.past) }
+    {
+        let mut locked = self.book.lock(rt);
+        let book = &mut *locked;
+        headline(book);
+        book.compact()
     }
 
     /// Answers what the question gives for the book as it is.

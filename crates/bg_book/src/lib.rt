@@ -8,27 +8,14 @@
 
 mod book;
 mod calls;
-mod control;
-mod control_fault;
 mod desk;
-mod enter;
 mod fault;
-mod gathering;
-mod judging;
 pub mod laws;
-mod leave;
-mod limits;
-mod meeting;
-mod opening;
-mod readers;
-mod recording;
-mod rollout;
-mod run;
-mod settling;
 
+pub use bg_rollout::{
+    Control, ControlFault, EnterFault, GatherFault, Left, Limits, OpenFault, Ticket,
+};
 pub use book::Book;
-pub use calls::{Call, Control, Left, Reply, Ticket};
-pub use control_fault::ControlFault;
+pub use calls::{Call, Reply};
 pub use desk::{Desk, Question};
-pub use fault::{EnterFault, GatherFault, OpenFault, RunFault};
-pub use limits::Limits;
+pub use fault::RunFault;

@@ -1,9 +1,9 @@
 -- How the reply of a book is written.
 use Rattle.std.specs.Prelude.{ℕ, List, ◌++◌, codes}
 use Rattle.std.specs.Fmt.{decimal}
-use Rattle.bg_book.specs.FaultNames.{enter_fault_name, control_fault_name}
-use Rattle.bg_book.specs.declared.calls.Ticket.{Ticket}
-use Rattle.bg_book.specs.declared.calls.Left.{Left}
+use Rattle.bg_rollout.specs.FaultNames.{enter_fault_name, control_fault_name}
+use Rattle.bg_rollout.specs.declared.ticket.Ticket.{Ticket}
+use Rattle.bg_rollout.specs.declared.ticket.Left.{Left}
 use Rattle.bg_book.specs.declared.calls.Reply.{Reply}
 use Rattle.bg_book.specs.declared.calls.Reply.TheVariants as reply
 

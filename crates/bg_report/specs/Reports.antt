@@ -11,9 +11,9 @@ use Rattle.bg_history.specs.Deadlines.{deadline}
 use Rattle.bg_promotion.specs.Phases.{phase_of}
 use Rattle.bg_promotion.specs.PhaseNames.{phase_name}
 use Rattle.bg_history.specs.Selections.{selectors_of}
-use Rattle.bg_book.specs.Routing.{Routing}
+use Rattle.bg_rollout.specs.Routing.{Routing}
 use Rattle.bg_history_listing.specs.Listed.{revisions_of}
-use Rattle.bg_book.specs.PastState.{is_draining}
+use Rattle.bg_rollout.specs.PastState.{is_draining}
 
 -- a word, and its number
 abbrev pub number_line : List ℕ → ℕ → List ℕ

@@ -1,7 +1,7 @@
 //! The calls of `bg_book` that are made at a seat, and events. A book takes memory rarely, so each call is made often
 //! enough to meet a growth.
 ghost use Rattle.std.specs.Prelude.{◌≡◌, true};
-ghost use Rattle.bg_book.specs.Gathering.{are_all};
+ghost use Rattle.bg_rollout.specs.Gathering.{are_all};
 ghost use Rattle.bg_ledger.specs.Blanks.{AreAllFor};
 
 use crate::asking::{Subject, change, made, made_again, say_made, say_refused, show};

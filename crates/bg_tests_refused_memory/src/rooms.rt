@@ -1,6 +1,6 @@
 //! The calls of `bg_book` that name their seats.
 ghost use Rattle.std.specs.Prelude.{◌≡◌, true};
-ghost use Rattle.bg_book.specs.Gathering.{are_all};
+ghost use Rattle.bg_rollout.specs.Gathering.{are_all};
 ghost use Rattle.bg_ledger.specs.Blanks.{AreAllFor};
 
 use crate::asking::{Subject, change, say_made, say_refused, show};

@@ -6,4 +6,7 @@ use Rattle.bg_book.proofs.laws.headline.Goals as goal
 pub returns : goal.returns
 returns g c =
     let b = c.book.inside.rollout.routing in
-    subst Headline c.book.view_is (headline_of b c.stands.ensures (c.reachable.ensures b.strategy b.opening b.past c.stands.ensures.legal.allowed) c.book.invariant.settled)
+    let stand = c.stands.ensures in
+    subst Headline c.book.view_is
+    (headline_of b stand (c.reachable.ensures b.strategy b.opening b.past stand.legal.allowed) c.book.invariant.settled
+    (c.lists_requests.ensures.nodes b stand) (c.lists_requests.ensures.numbers b stand) (c.lists_requests.ensures.shares b stand))

@@ -1,8 +1,7 @@
 use Rattle.std.proofs.Common.{◌≡◌, List, length, Option, Some, None, true, sym, ap, ◌∙◌, subst}
 use Rattle.bg_ledger.specs.declared.holding.Holding.{Holding}
-use Rattle.bg_book.specs.Gathering.{are_all, are_from, gather_fault}
+use Rattle.bg_rollout.specs.Gathering.{are_all, are_from, gather_fault}
 use Rattle.bg_book.specs.Runs.{LeavesAll}
-use Rattle.bg_book.proofs.Order.{gathered}
 use Rattle.bg_book.proofs.book.Book.close.Goals as goal
 
 none_some : {X : Type 0} (o : Option X) (x : X) → o ≡ None → o ≡ Some x → ⊥
@@ -16,7 +15,7 @@ unreachable-requires g c =
     let left = c.lent.ensures seats.len seats.items _ new c.as_mut_slice.ensures.value c.leave_all.ensures.order (sym seats.ok.0) in
     let all : are_all n new ≡ true =
     ap (are_from 0 n) c.leave_all.ensures.order ∙ ap (are_all n) c.as_mut_slice.ensures.value ∙ c.requires.all in
-    none_some _ _ (ap (gather_fault n) left ∙ gathered n new all c.leave_all.ensures.out) c.in-Err.ensures.answer
+    none_some _ _ (ap (gather_fault n) left ∙ c.gathers.ensures n new all c.leave_all.ensures.out) c.in-Err.ensures.answer
 
 pub returns-clause-left : goal.returns-clause-left
 returns-clause-left g c =

@@ -4,9 +4,9 @@ use Rattle.std.proofs.lemmas.Option.{slice_get-get_or}
 use Rattle.bg_revisions.specs.declared.revision.Service.{Service}
 use Rattle.bg_book.specs.declared.calls.Reply.{Reply}
 use Rattle.bg_ledger.specs.declared.holding.Holding.{Holding}
-use Rattle.bg_book.specs.Changes.{seat_in, with_past}
-use Rattle.bg_book.specs.Gathering.{indices}
-use Rattle.bg_book.specs.Routing.{Routing}
+use Rattle.bg_rollout.specs.Changes.{seat_in, with_past}
+use Rattle.bg_rollout.specs.Gathering.{indices}
+use Rattle.bg_rollout.specs.Routing.{Routing}
 use Rattle.bg_book.specs.Runs.{EnterAt}
 use Rattle.bg_book.proofs.Running.{same_order, holds_one, holds_none}
 use Rattle.bg_book.proofs.book.Book.enter_at.Goals as goal

@@ -1,34 +1,33 @@
-use Rattle.std.proofs.Common.{◌≡◌, ◌≤◌, ◌+◌, ◌*◌, ◌∷◌, ℕ, true, List, [], length, None, slice_set, refl, sym, ap, ◌∙◌, subst, arith}
+use Rattle.std.proofs.Common.{◌≡◌, ◌≤◌, ◌+◌, ◌*◌, ◌∷◌, ℕ, true, List, [], length, slice_set, refl, sym, ap, ◌∙◌, subst, arith}
 use Rattle.bg_strategy.specs.declared.strategy.Strategy.{Strategy}
 use Rattle.bg_revisions.specs.declared.revision.Service.{Service}
 use Rattle.bg_history.specs.declared.entry.Entry.{Entry}
 use Rattle.bg_history.specs.declared.entry.Entry.TheVariants.{Enter}
 use Rattle.bg_history.specs.Steps.{is_settled}
-use Rattle.bg_book.specs.declared.calls.Ticket.{Ticket}
+use Rattle.bg_rollout.specs.declared.ticket.Ticket.{Ticket}
 use Rattle.bg_ledger.specs.declared.holding.Holding.{Holding}
-use Rattle.bg_book.specs.Changes.{Stepped, enter_entry, seat_in, with_past}
-use Rattle.bg_book.specs.Refusals.{all_open, enter_refusal, IsTicket}
-use Rattle.bg_book.specs.Routing.{Routing}
-use Rattle.bg_book.specs.Invariant.{Midway, AtRest}
-use Rattle.bg_book.proofs.Entering.{accepted_by, one_more}
+use Rattle.bg_rollout.specs.Changes.{Stepped, enter_entry, seat_in, with_past}
+use Rattle.bg_rollout.specs.Refusals.{all_open, IsTicket}
+use Rattle.bg_rollout.specs.Routing.{Routing}
+use Rattle.bg_rollout.specs.Invariant.{Midway}
+use Rattle.bg_book.specs.Invariant.{AtRest}
 use Rattle.bg_book.proofs.book.Book.enter_met.Goals as goal
 
 -- what holds after a request that had room
-at_rest : {n : ℕ} (rollout new : Midway) (service : Service) (t : Ticket) (seat : Holding) → AtRest n rollout → enter_refusal rollout.routing service ≡ None → IsTicket rollout.routing service t
+at_rest : {n : ℕ} (rollout new : Midway) (service : Service) (t : Ticket) (seat : Holding) → AtRest n rollout
+    → length rollout.routing.past + 1 + 3 * (all_open rollout.routing.past + 1) ≤ rollout.routing.limits.entries → all_open new.routing.past ≡ all_open rollout.routing.past + 1
     → new.routing ≡ with_past rollout.routing (enter_entry seat.index service t ∷ rollout.routing.past) (slice_set rollout.routing.seats seat.index (seat_in seat t))
     → 3 * all_open rollout.routing.past + 3 ≤ new.spare
     → ((s : Strategy) (past : List Entry) (i : ℕ) (v : Service) (n r p : ℕ) → is_settled s past ≡ true → is_settled s (Enter i v n r p ∷ past) ≡ true) → AtRest n new
-at_rest rollout new service t seat rest refusal ticket made places settles =
+at_rest rollout new service t seat rest room one made places settles =
     let b = rollout.routing in
-    let kept : all_open new.routing.past ≡ all_open (enter_entry seat.index service t ∷ b.past) = ap (λ (v : Routing). all_open v.past) made in
     let entries : length new.routing.past ≡ length (enter_entry seat.index service t ∷ b.past) = ap (λ (v : Routing). length v.past) made in
     let limit : new.routing.limits.entries ≡ b.limits.entries = ap (λ (v : Routing). v.limits.entries) made in
-    let ok = accepted_by b service t.revision refusal ticket.revision_is in
     record {
       all_seats = ap (λ (v : Routing). v.opening.seats) made ∙ rest.all_seats;
       settled = subst (λ (v : Routing). is_settled v.strategy v.past ≡ true) (sym made) (settles b.strategy b.past seat.index service t.number t.revision t.port rest.settled);
-      spare = omega (arith, kept, one_more b seat service t, places);
-      room = omega (arith, kept, one_more b seat service t, entries, limit, ok.room);
+      spare = omega (arith, one, places);
+      room = omega (arith, one, entries, limit, room);
     }
 
 -- the routing after it, from the one before room was taken
@@ -42,11 +41,12 @@ pub invariant_of-self : goal.invariant_of-self
 invariant_of-self g c = subst (λ (m : Midway). AtRest g.N.Names.seats m) (sym c.in_err-reserve.ensures.err) c.self.invariant
 
 pub admit-requires-clause-ticket : goal.admit-requires-clause-ticket
-admit-requires-clause-ticket g c = subst (λ (v : Routing). IsTicket v c.args.service c.in_ok-ticket.ticket) (sym c.reserve.ensures.routing) c.in_ok-ticket.ensures.1
+admit-requires-clause-ticket g c = subst (λ (v : Routing). IsTicket v c.args.service c.in_ok-ticket.ticket) (sym c.reserve.ensures.routing) c.in_ok-ticket.ensures.judged.1
 
 pub invariant_of-self-2 : goal.invariant_of-self-2
 invariant_of-self-2 g c =
-    at_rest c.self.inside.rollout c.admit.new.self c.args.service c.in_ok-ticket.ticket c.args.seat.now c.self.invariant c.in_ok-ticket.ensures.0 c.in_ok-ticket.ensures.1
+    at_rest c.self.inside.rollout c.admit.new.self c.args.service c.in_ok-ticket.ticket c.args.seat.now c.self.invariant c.in_ok-ticket.ensures.room
+    (c.admit.ensures.one_more ∙ ap (λ (v : Routing). all_open v.past + 1) c.reserve.ensures.routing)
     (entered_from c.self.inside.rollout c.reserve.new.self c.admit.new.self c.args.service c.in_ok-ticket.ticket c.args.seat.now c.reserve.ensures.routing c.admit.ensures.routing)
     (omega (arith, c.in_ok-reserve.ensures.ok, c.admit.ensures.spare, c.places_kept.ensures)) c.entering_settles.ensures
 
@@ -64,7 +64,8 @@ stepped b now new seat service t is made settled =
 
 pub returns-clause-step : goal.returns-clause-step
 returns-clause-step g c =
-    let rest = at_rest c.self.inside.rollout c.admit.new.self c.args.service c.in_ok-ticket.ticket c.args.seat.now c.self.invariant c.in_ok-ticket.ensures.0 c.in_ok-ticket.ensures.1
+    let rest = at_rest c.self.inside.rollout c.admit.new.self c.args.service c.in_ok-ticket.ticket c.args.seat.now c.self.invariant c.in_ok-ticket.ensures.room
+    (c.admit.ensures.one_more ∙ ap (λ (v : Routing). all_open v.past + 1) c.reserve.ensures.routing)
     (entered_from c.self.inside.rollout c.reserve.new.self c.admit.new.self c.args.service c.in_ok-ticket.ticket c.args.seat.now c.reserve.ensures.routing c.admit.ensures.routing)
     (omega (arith, c.in_ok-reserve.ensures.ok, c.admit.ensures.spare, c.places_kept.ensures)) c.entering_settles.ensures in
     stepped _ _ _ c.args.seat.now c.args.service c.in_ok-ticket.ticket c.self.view_is

@@ -2,7 +2,7 @@ use Rattle.std.proofs.Common.{◌≡◌, ℕ, List, subst}
 use Rattle.bg_history.specs.declared.entry.Entry.{Entry}
 use Rattle.bg_history.specs.Kept.{Opening}
 use Rattle.bg_history.specs.Steps.{IsLegal}
-use Rattle.bg_book.specs.Routing.{Routing}
+use Rattle.bg_rollout.specs.Routing.{Routing}
 use Rattle.bg_book.proofs.book.Book.gather.Goals as goal
 
 -- the history that is given is the book's

@@ -1,5 +1,5 @@
 use Rattle.std.proofs.Common.{◌≡◌}
-use Rattle.bg_book.specs.Gathering.{indices}
+use Rattle.bg_rollout.specs.Gathering.{indices}
 use Rattle.bg_book.specs.Runs.{LeavesAll}
 use Rattle.bg_book.proofs.SeatsOut.{OutBefore}
 use Rattle.bg_book.proofs.book.Book.leave_all.Given as goal

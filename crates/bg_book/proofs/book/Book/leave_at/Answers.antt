@@ -4,9 +4,9 @@ use Rattle.std.proofs.lemmas.Option.{slice_get-get_or}
 use Rattle.bg_book.specs.declared.calls.Reply.{Reply}
 use Rattle.bg_ledger.specs.declared.holding.Holding.{Holding}
 use Rattle.bg_ledger.specs.Holdings.{vacated}
-use Rattle.bg_book.specs.Changes.{with_past}
-use Rattle.bg_book.specs.Gathering.{indices}
-use Rattle.bg_book.specs.Routing.{Routing}
+use Rattle.bg_rollout.specs.Changes.{with_past}
+use Rattle.bg_rollout.specs.Gathering.{indices}
+use Rattle.bg_rollout.specs.Routing.{Routing}
 use Rattle.bg_book.specs.Runs.{LeaveAt}
 use Rattle.bg_book.proofs.Running.{same_order, holds_one, holds_none}
 use Rattle.bg_book.proofs.book.Book.leave_at.Goals as goal

@@ -1,4 +1,4 @@
-use Rattle.std.proofs.Common.{◌≡◌, ◌≢◌, ◌≤◌, ◌+◌, ◌∷◌, ◌==◌, ◌||◌, not, ℕ, false, true, List, length, Some, slice_get, slice_set, sym, ap, ◌∙◌, subst, arith}
+use Rattle.std.proofs.Common.{◌≡◌, ◌≢◌, ◌<◌, ◌≤◌, ◌+◌, ◌∷◌, ◌==◌, ◌||◌, not, ℕ, false, true, List, length, Some, slice_get, slice_set, sym, ap, ◌∙◌, subst, arith}
 use Rattle.std.specs.List.{list_all}
 use Rattle.bg_strategy.specs.declared.strategy.Strategy.{Strategy}
 use Rattle.bg_history.specs.Requests.{open_requests}
@@ -7,20 +7,23 @@ use Rattle.bg_history.specs.declared.entry.Outcome.{Outcome}
 use Rattle.bg_history.specs.declared.entry.Entry.TheVariants.{Leave}
 use Rattle.bg_history.specs.Steps.{Follows, is_settled}
 use Rattle.bg_history.specs.Deadlines.{may_scale_down}
-use Rattle.bg_book.specs.declared.calls.Left.{Left}
+use Rattle.bg_rollout.specs.declared.ticket.Left.{Left}
 use Rattle.bg_ledger.specs.declared.holding.Holding.{Holding}
 use Rattle.bg_ledger.specs.Holdings.{vacated}
-use Rattle.bg_book.specs.declared.limits.Limits.{Limits}
-use Rattle.bg_book.specs.Changes.{Stepped, with_past}
-use Rattle.bg_book.specs.Refusals.{all_open}
-use Rattle.bg_book.specs.Routing.{Routing}
-use Rattle.bg_book.specs.Settling.{Reached}
-use Rattle.bg_book.specs.Invariant.{Midway, AtRest, RoutingStands}
-use Rattle.bg_book.proofs.Leaving.{is_held, one_open, alone, one_left}
-use Rattle.bg_book.proofs.Reaching.{stepped_by, open_after, length_after, limits_after}
+use Rattle.bg_rollout.specs.declared.limits.Limits.{Limits}
+use Rattle.bg_rollout.specs.Changes.{Stepped, with_past}
+use Rattle.bg_rollout.specs.Refusals.{all_open}
+use Rattle.bg_rollout.specs.Routing.{Routing}
+use Rattle.bg_rollout.specs.Settling.{Reached}
+use Rattle.bg_rollout.specs.Invariant.{Midway}
+use Rattle.bg_book.specs.Invariant.{AtRest}
+use Rattle.bg_book.proofs.Stepping.{stepped_by, open_after, length_after, limits_after}
 use Rattle.bg_book.proofs.book.Book.leave_met.Given.{Over}
 use Rattle.bg_book.proofs.book.Book.leave_met.Goals as goal
 use Rattle.bg_book.proofs.book.Book.leave_met.Goals.{After-settle_at}
+
+is_held : (n : ℕ) → 0 < n → n ≢ 0
+is_held n h e = absurd (omega (arith, h, e))
 
 known_inside : (b now : Routing) (seat : Holding) → b ≡ now → slice_get now.seats seat.index ≡ Some seat → slice_get b.seats seat.index ≡ Some seat
 known_inside b now seat is known = subst (λ (v : Routing). slice_get v.seats seat.index ≡ Some seat) (sym is) known
@@ -28,7 +31,7 @@ known_inside b now seat is known = subst (λ (v : Routing). slice_get v.seats se
 pub release-left-requires-clause-spare : goal.release-left-requires-clause-spare
 release-left-requires-clause-spare g c =
     let known = known_inside _ _ c.args.seat.now c.self.view_is c.requires.known in
-    omega (arith, c.self.invariant.spare, one_open c.self.inside.rollout.routing c.args.seat.now c.stands.ensures known (is_held _ c.requires.within))
+    omega (arith, c.self.invariant.spare, c.has_request.ensures.one_less c.self.inside.rollout.routing c.args.seat.now c.stands.ensures known (is_held _ c.requires.within))
 
 -- at most two outcomes follow
 two_follow : (b left : Routing) (seat : Holding) (outcomes : List Outcome)
@@ -45,8 +48,8 @@ settle_at-requires-clause-room g c = λ outcomes follow.
     let b = c.self.inside.rollout.routing in
     let seat = c.args.seat.now in
     let known = known_inside _ _ seat c.self.view_is c.requires.known in
-    let few = two_follow b _ seat outcomes c.leaving_allows_two.ensures c.self.invariant.settled (alone b seat c.stands.ensures known (is_held _ c.requires.within)) c.release-left.ensures.routing follow in
-    omega (arith, few, c.release-left.ensures.spare, c.self.invariant.spare, one_open b seat c.stands.ensures known (is_held _ c.requires.within))
+    let few = two_follow b _ seat outcomes c.leaving_allows_two.ensures c.self.invariant.settled (c.has_request.ensures.alone b seat c.stands.ensures known (is_held _ c.requires.within)) c.release-left.ensures.routing follow in
+    omega (arith, few, c.release-left.ensures.spare, c.self.invariant.spare, c.has_request.ensures.one_less b seat c.stands.ensures known (is_held _ c.requires.within))
 
 -- nothing is allowed where the revision may not be scaled down
 none_follows : (b left : Routing) (seat : Holding) (r : ℕ)
@@ -67,7 +70,7 @@ settle_at-requires-clause-alone g c = λ stays.
     let b = c.self.inside.rollout.routing in
     let seat = c.args.seat.now in
     let known = known_inside _ _ seat c.self.view_is c.requires.known in
-    none_follows b _ seat _ c.leaving_settles.ensures c.self.invariant.settled (alone b seat c.stands.ensures known (is_held _ c.requires.within)) c.release-left.ensures.routing
+    none_follows b _ seat _ c.leaving_settles.ensures c.self.invariant.settled (c.has_request.ensures.alone b seat c.stands.ensures known (is_held _ c.requires.within)) c.release-left.ensures.routing
     (ap (λ (l : Left). l.revision) c.release-left.ensures.left) stays
 
 -- at most two outcomes followed
@@ -76,19 +79,18 @@ few g c =
     let b = c.self.inside.rollout.routing in
     let seat = c.args.seat.now in
     let known = known_inside _ _ seat c.self.view_is c.requires.known in
-    let most = two_follow b _ seat c.settle_at.ensures.reached.outcomes c.leaving_allows_two.ensures c.self.invariant.settled (alone b seat c.stands.ensures known (is_held _ c.requires.within)) c.release-left.ensures.routing
+    let most = two_follow b _ seat c.settle_at.ensures.reached.outcomes c.leaving_allows_two.ensures c.self.invariant.settled (c.has_request.ensures.alone b seat c.stands.ensures known (is_held _ c.requires.within)) c.release-left.ensures.routing
     c.settle_at.ensures.reached.follow in
     omega (arith, most, c.settle_at.ensures.reached.count_is)
 
 -- what holds after them
-at_rest : {count : ℕ} (rollout left settled : Midway) (seat : Holding) (n : ℕ) → AtRest count rollout → RoutingStands rollout.routing → slice_get rollout.routing.seats seat.index ≡ Some seat → seat.number ≢ 0
+at_rest : {count : ℕ} (rollout left settled : Midway) (seat : Holding) (n : ℕ) → AtRest count rollout → all_open (Leave seat.index seat.number seat.revision ∷ rollout.routing.past) + 1 ≡ all_open rollout.routing.past
     → left.routing ≡ with_past rollout.routing (Leave seat.index seat.number seat.revision ∷ rollout.routing.past) (slice_set rollout.routing.seats seat.index (vacated seat))
     → left.spare + 1 ≡ rollout.spare → Reached left.routing settled.routing n → n ≤ 2 → settled.spare + n ≡ left.spare → is_settled settled.routing.strategy settled.routing.past ≡ true → AtRest count settled
-at_rest rollout left settled seat n rest stand known some made taken reached two spare quiet =
+at_rest rollout left settled seat n rest one made taken reached two spare quiet =
     let b = rollout.routing in
     let kept : all_open settled.routing.past ≡ all_open left.routing.past = open_after left.routing settled.routing n reached in
     let now : all_open left.routing.past ≡ all_open (Leave seat.index seat.number seat.revision ∷ b.past) = ap (λ (v : Routing). all_open v.past) made in
-    let one = one_left b seat stand known some in
     let entries : length settled.routing.past ≡ n + length left.routing.past = length_after left.routing settled.routing n reached in
     let more : length left.routing.past ≡ length (Leave seat.index seat.number seat.revision ∷ b.past) = ap (λ (v : Routing). length v.past) made in
     let limits : settled.routing.limits ≡ b.limits = limits_after left.routing settled.routing n reached ∙ ap (λ (v : Routing). v.limits) made in
@@ -102,8 +104,8 @@ at_rest rollout left settled seat n rest stand known some made taken reached two
 
 pub invariant_of-self : goal.invariant_of-self
 invariant_of-self g c =
-    at_rest c.self.inside.rollout c.release-left.new.self c.settle_at.new.self c.args.seat.now c.settle_at.result c.self.invariant c.stands.ensures
-    (known_inside _ _ c.args.seat.now c.self.view_is c.requires.known) (is_held _ c.requires.within) c.release-left.ensures.routing c.release-left.ensures.spare c.settle_at.ensures.reached (few g c) c.settle_at.ensures.spare c.settle_at.ensures.settled
+    at_rest c.self.inside.rollout c.release-left.new.self c.settle_at.new.self c.args.seat.now c.settle_at.result c.self.invariant
+    (c.has_request.ensures.one_less c.self.inside.rollout.routing c.args.seat.now c.stands.ensures (known_inside _ _ c.args.seat.now c.self.view_is c.requires.known) (is_held _ c.requires.within)) c.release-left.ensures.routing c.release-left.ensures.spare c.settle_at.ensures.reached (few g c) c.settle_at.ensures.spare c.settle_at.ensures.settled
 
 -- the leaving, and the outcomes after it
 stepped : (b now left new : Routing) (seat : Holding) (n : ℕ) → b ≡ now

@@ -1,5 +1,5 @@
 use Rattle.std.proofs.Common.{◌≡◌, take, length, vec_len, vec_capacity, ◌≤◌}
-use Rattle.bg_book.specs.Gathering.{indices}
+use Rattle.bg_rollout.specs.Gathering.{indices}
 use Rattle.bg_book.specs.Runs.{Runs}
 use Rattle.bg_book.proofs.book.Book.run.Given as goal
 

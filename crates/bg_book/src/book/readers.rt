@@ -1,0 +1,98 @@
+//! What a book answers of its state.
+ghost use Rattle.std.specs.Prelude.{◌≡◌, length, slice_get, Some, option_copied};
+ghost use Rattle.bg_history.specs.Turns.{moment as moment_of};
+ghost use Rattle.bg_history.specs.Sizes.{existing};
+ghost use Rattle.bg_history.specs.Requests.{open_at};
+ghost use Rattle.bg_history.specs.Deadlines.{deadline};
+ghost use Rattle.bg_history.specs.Selections.{selectors_of};
+ghost use Rattle.bg_history_listing.specs.Listed.{revisions_of};
+ghost use Rattle.bg_promotion.specs.Phases.{phase_of};
+ghost use Rattle.bg_rollout.specs.PastState.{is_draining as is_draining_in};
+
+use crate::book::Book;
+use bg_history::History;
+use bg_ledger::Names;
+use bg_promotion::Phase;
+use bg_revisions::{Revision, Selectors};
+use bg_strategy::Strategy;
+
+impl<N: Names> Book<N> {
+    /// The moment, in seconds from the start.
+    pub fn moment(&self) -> u64
+        ensures past { result ≡ moment_of self.now.past }
+        ensures running { result ≡ self.now.running.moment }
+    {
+        self.rollout.stands();
+        self.rollout.moment()
+    }
+
+    /// The phase of the rollout.
+    pub fn phase(&self) -> Phase
+        ensures past { phase_of self.now.strategy self.now.past ≡ Some result }
+        ensures running { self.now.running.phase ≡ Some result }
+    {
+        self.rollout.stands();
+        self.rollout.phase()
+    }
+
+    /// The revisions that are active, preview, stable and newest.
+    pub fn selectors(&self) -> Selectors
+        ensures past { result ≡ selectors_of self.now.past }
+        ensures running { result ≡ self.now.running.selectors }
+    {
+        self.rollout.stands();
+        self.rollout.selectors()
+    }
+
+    /// The strategy that the book was opened with.
+    pub fn strategy(&self) -> &Strategy
+        ensures { result.now ≡ self.now.strategy }
+    {
+        self.rollout.strategy()
+    }
+
+    /// How many revisions exist.
+    pub fn count(&self) -> usize
+        ensures { result ≡ length (existing self.now.past) }
+    {
+        self.rollout.revisions().len()
+    }
+
+    /// The revision at a place, from 0, in order of number; none past the last.
+    pub fn revision(&self, place: usize) -> Option<&Revision>
+        ensures { option_copied result ≡ slice_get
+            (revisions_of self.now.strategy self.now.opening self.now.past) place }
+    {
+        self.rollout.revisions().get(place)
+    }
+
+    /// The moment from which the revision of this number may be scaled down, if it has one.
+    pub fn deadline_of(&self, number: u64) -> Option<u64>
+        ensures { result ≡ deadline self.now.strategy number self.now.past }
+    {
+        self.rollout.deadline_of(number)
+    }
+
+    /// How many requests are open at the revision of this number; 0 where there is none.
+    pub fn open_count(&self, number: u64) -> usize
+        ensures { result ≡ length (open_at number self.now.past) }
+    {
+        self.rollout.open_count(number)
+    }
+
+    /// Whether the revision of this number may be scaled down but for its open requests.
+    pub fn is_draining(&self, number: u64) -> bool
+        ensures { result ≡ is_draining_in self.now.strategy number self.now.past }
+    {
+        self.rollout.is_draining(number)
+    }
+
+    /// The history since the opening.
+    pub fn history(&self) -> &History
+        ensures opening { result.now.opening ≡ self.now.opening }
+        ensures closed { result.now.closed ≡ self.now.closed }
+        ensures past { result.now.past ≡ self.now.past }
+    {
+        self.rollout.history()
+    }
+}

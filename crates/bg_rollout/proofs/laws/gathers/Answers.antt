@@ -1,0 +1,5 @@
+use Rattle.bg_rollout.proofs.Order.{gathered}
+use Rattle.bg_rollout.proofs.laws.gathers.Goals as goal
+
+pub returns : goal.returns
+returns c = gathered

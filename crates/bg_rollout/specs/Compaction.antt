@@ -1,0 +1,12 @@
+-- A rollout whose history is compacted.
+use Rattle.bg_history.specs.Compacted.{compacted, closed_after}
+use Rattle.bg_rollout.specs.Routing.{Routing}
+use Rattle.bg_rollout.specs.Invariant.{Midway}
+
+-- the routing with its history compacted: the dropped requests are counted for their seats, and all
+-- else stays
+abbrev pub with_compacted : Routing → Routing
+with_compacted b = record b { closed = closed_after b.past b.closed; past = compacted b.past }
+
+abbrev pub midway_compacted : Midway → Midway
+midway_compacted r = record r { routing = with_compacted r.routing }

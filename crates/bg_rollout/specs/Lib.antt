@@ -1,0 +1,14 @@
+pub mod Routing
+pub mod PastState
+pub mod State
+pub mod ControlFaults
+pub mod Refusals
+pub mod Changes
+pub mod Invariant
+pub mod Meeting
+pub mod Gathering
+pub mod Settling
+pub mod Recording
+pub mod Judging
+pub mod FaultNames
+pub mod Compaction

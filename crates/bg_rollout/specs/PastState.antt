@@ -1,0 +1,53 @@
+-- The state that a past asks for: what the readers of a book answer.
+use Rattle.std.specs.Prelude.{◌≡◌, ◌<◌, ◌==◌, ℕ, Bool, not, ◌&&◌, nat_lt, if◌then◌else◌, List, filter, length, map, slice_get, Option, Some, None}
+use Rattle.bg_strategy.specs.declared.strategy.Strategy.{Strategy}
+use Rattle.bg_history.specs.declared.entry.Entry.{Entry}
+use Rattle.bg_history.specs.Kept.{Opening}
+use Rattle.bg_history.specs.Requests.{Request, held_by, calls_of, open_at, open_requests}
+use Rattle.bg_history.specs.Sizes.{existing}
+use Rattle.bg_history.specs.Deadlines.{is_due, is_empty}
+use Rattle.bg_ledger.specs.declared.holding.Holding.{Holding}
+use Rattle.bg_requestlists.specs.declared.request_lists.OpenRequest.{OpenRequest}
+use Rattle.bg_requestlists.specs.RequestLists.{OpenAt}
+use Rattle.bg_ledger.specs.Holdings.{fresh}
+
+-- r is due and holds an open request
+abbrev pub is_draining : Strategy → ℕ → List Entry → Bool
+is_draining s r past = is_due s r past && not (is_empty (open_at r past))
+
+-- a seat with these calls and this request in hand
+abbrev pub seated : ℕ → ℕ → Option Request → Holding
+seated seat calls None = record (fresh seat) { calls = calls }
+seated seat calls (Some q) = record {
+  index = seat;
+  calls = calls;
+  number = q.number;
+  revision = q.revision;
+  port = q.port;
+}
+
+-- what a seat has: the calls that it was answered, and the request in hand
+abbrev pub seat_of : List ℕ → ℕ → List Entry → Holding
+seat_of closed seat past = seated seat (calls_of closed seat past) (held_by seat past)
+
+-- the record of each seat, in order of index, is what the past says
+pub record SeatsStand (o : Opening) (closed : List ℕ) (past : List Entry)
+    (seats : List Holding) : Type 0 where
+  pub count : length seats ≡ o.seats
+  pub each : (i : ℕ) → i < o.seats → slice_get seats i ≡ Some (seat_of closed i past)
+
+-- the seat and the number of a request
+abbrev pub listed : Request → OpenRequest
+listed q = record { seat = q.seat; number = q.number }
+
+-- the list of revision r that a past asks for
+abbrev pub requests_at : ℕ → List Entry → List OpenRequest
+requests_at r past = map listed (filter (λ q. q.revision == r) (open_requests past))
+
+-- the list of each existing revision, in order of number
+abbrev pub lists_of : List Entry → List OpenAt
+lists_of past = map (λ r. record { revision = r; requests = requests_at r past }) (existing past)
+
+-- a seat's share of the open requests at r: 1 where it has one of them in hand, else 0
+abbrev pub share : ℕ → Holding → ℕ
+share r seat = if nat_lt 0 seat.number && (seat.revision == r) then 1 else 0

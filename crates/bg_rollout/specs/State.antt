@@ -1,0 +1,57 @@
+-- The state of a rollout: what its past asks for.
+use Rattle.std.specs.Prelude.{ℕ, zero, suc, ◌+◌, List, [], ◌∷◌, map, Option}
+use Rattle.bg_strategy.specs.declared.strategy.Strategy.{Strategy}
+use Rattle.bg_revisions.specs.declared.revision.Revision.{Revision}
+use Rattle.bg_revisions.specs.declared.revision.Selectors.{Selectors}
+use Rattle.bg_history.specs.declared.entry.Entry.{Entry}
+use Rattle.bg_history.specs.Kept.{Opening}
+use Rattle.bg_history.specs.Turns.{moment as moment_of}
+use Rattle.bg_history.specs.Selections.{selectors_of}
+use Rattle.bg_history.specs.Sizes.{existing}
+use Rattle.bg_history_listing.specs.Listed.{revision_of}
+use Rattle.bg_promotion.specs.declared.phase.Phase.{Phase}
+use Rattle.bg_promotion.specs.Phases.{phase_of}
+use Rattle.bg_scaledown.specs.Due.{deadline_in}
+use Rattle.bg_scaledown.specs.Past.{table_of}
+use Rattle.bg_ledger.specs.declared.holding.Holding.{Holding}
+use Rattle.bg_requestlists.specs.declared.request_lists.OpenRequest.{OpenRequest}
+use Rattle.bg_rollout.specs.PastState.{requests_at, seat_of}
+
+-- an existing revision: its number, template and sizes, the moment from which it may be scaled
+-- down, and its open requests
+pub record RevisionState : Type 0 where
+  pub revision : Revision
+  pub deadline : Option ℕ
+  pub requests : List OpenRequest
+
+-- the moment, the phase, the four selections, the existing revisions in order of number, and of
+-- each seat its calls and the request in hand; the phase is none while a step of an attempt is next
+pub record State : Type 0 where
+  pub moment : ℕ
+  pub phase : Option Phase
+  pub selectors : Selectors
+  pub revisions : List RevisionState
+  pub seats : List Holding
+
+-- revision r
+abbrev pub revision_state : Strategy → Opening → List Entry → ℕ → RevisionState
+revision_state s o past r = record {
+  revision = revision_of s o past r;
+  deadline = deadline_in (table_of s past) r;
+  requests = requests_at r past;
+}
+
+-- as many seats, from this index on
+abbrev pub seats_from : List ℕ → List Entry → ℕ → ℕ → List Holding
+seats_from closed past i zero = []
+seats_from closed past i (suc n) = seat_of closed i past ∷ seats_from closed past (i + 1) n
+
+-- the state of a past
+abbrev pub state_of : Strategy → Opening → List ℕ → List Entry → State
+state_of s o closed past = record {
+  moment = moment_of past;
+  phase = phase_of s past;
+  selectors = selectors_of past;
+  revisions = map (revision_state s o past) (existing past);
+  seats = seats_from closed past 0 o.seats;
+}

@@ -1,0 +1,163 @@
+//! Why an event is refused.
+ghost use Rattle.std.specs.Prelude.{◌≡◌};
+ghost use Rattle.bg_rollout.specs.FaultNames.{control_fault_name};
+ghost use Rattle.bg_rollout.specs.ControlFaults.{of_abort, of_promote, of_promote_full, of_retry};
+ghost use Rattle.bg_rollout.specs.ControlFaults.{of_revision, of_verdict};
+ghost use Rattle.bg_rollout.specs.declared.control_fault.ControlFault.TheVariants.{OutOfMemory};
+
+use bg_promotion::{AbortFault, PromoteFault, PromoteFullFault, RetryFault, VerdictFault};
+use bg_revisions::RevisionFault;
+use std::alloc::AllocError;
+use thiserror::Error;
+
+/// Why an event is refused. Those of one event stand in the order in which they are looked for; then
+/// come `HistoryFull` and `OutOfMemory`.
+#[derive(Clone, Copy, PartialEq, Eq, Debug, Drop, Error)]
+pub enum ControlFault {
+    #[error("a moment is at most 2^53 seconds")]
+    MomentTooLarge,
+    #[error("the moment lies before the book's")]
+    MomentBack,
+    #[error("a name is 1 to 63 lower-case letters, digits and hyphens, with no hyphen at its ends")]
+    BadName,
+    #[error("a revision has one port for each replica, all distinct and none of them 0")]
+    BadPorts,
+    #[error("the newest revision already has this name and these ports")]
+    SameTemplate,
+    #[error("a revision of this name already has other ports")]
+    PortsDiffer,
+    #[error("64 revisions exist already")]
+    TooManyRevisions,
+    #[error("no revision has this number")]
+    NoSuchRevision,
+    #[error("more endpoints are reported than the revision wants")]
+    MoreThanDesired,
+    #[error("this analysis is not awaited")]
+    NoAnalysis,
+    #[error("the last attempt was aborted")]
+    Aborted,
+    #[error("the rollout is not paused")]
+    NotPaused,
+    #[error("there is no attempt to promote")]
+    NothingToPromote,
+    #[error("this attempt was already promoted in full")]
+    AlreadyFull,
+    #[error("the last attempt was already aborted")]
+    AlreadyAborted,
+    #[error("there is no attempt to abort")]
+    NothingToAbort,
+    #[error("the last attempt was not aborted")]
+    NotAborted,
+    #[error("the history has no room left")]
+    HistoryFull,
+    #[error("out of memory")]
+    OutOfMemory,
+}
+
+impl ControlFault {
+    /// The name of the fault: that of its variant.
+    pub fn name(&self) -> &'static str
+        ensures { result.now ≡ control_fault_name self.now }
+    {
+        match self {
+            ControlFault::MomentTooLarge => "MomentTooLarge",
+            ControlFault::MomentBack => "MomentBack",
+            ControlFault::BadName => "BadName",
+            ControlFault::BadPorts => "BadPorts",
+            ControlFault::SameTemplate => "SameTemplate",
+            ControlFault::PortsDiffer => "PortsDiffer",
+            ControlFault::TooManyRevisions => "TooManyRevisions",
+            ControlFault::NoSuchRevision => "NoSuchRevision",
+            ControlFault::MoreThanDesired => "MoreThanDesired",
+            ControlFault::NoAnalysis => "NoAnalysis",
+            ControlFault::Aborted => "Aborted",
+            ControlFault::NotPaused => "NotPaused",
+            ControlFault::NothingToPromote => "NothingToPromote",
+            ControlFault::AlreadyFull => "AlreadyFull",
+            ControlFault::AlreadyAborted => "AlreadyAborted",
+            ControlFault::NothingToAbort => "NothingToAbort",
+            ControlFault::NotAborted => "NotAborted",
+            ControlFault::HistoryFull => "HistoryFull",
+            ControlFault::OutOfMemory => "OutOfMemory",
+        }
+    }
+}
+
+impl From<RevisionFault> for ControlFault {
+    ghost from_gives = { λ fault e. e ≡ of_revision fault };
+
+    fn from(fault: RevisionFault) -> ControlFault {
+        match fault {
+            RevisionFault::BadName => ControlFault::BadName,
+            RevisionFault::BadPorts => ControlFault::BadPorts,
+            RevisionFault::SameTemplate => ControlFault::SameTemplate,
+            RevisionFault::PortsDiffer => ControlFault::PortsDiffer,
+            RevisionFault::TooManyRevisions => ControlFault::TooManyRevisions,
+            RevisionFault::NoSuchRevision => ControlFault::NoSuchRevision,
+            RevisionFault::MoreThanDesired => ControlFault::MoreThanDesired,
+            RevisionFault::OutOfMemory => ControlFault::OutOfMemory,
+        }
+    }
+}
+
+impl From<VerdictFault> for ControlFault {
+    ghost from_gives = { λ fault e. e ≡ of_verdict fault };
+
+    fn from(fault: VerdictFault) -> ControlFault {
+        match fault {
+            VerdictFault::NoAnalysis => ControlFault::NoAnalysis,
+        }
+    }
+}
+
+impl From<PromoteFault> for ControlFault {
+    ghost from_gives = { λ fault e. e ≡ of_promote fault };
+
+    fn from(fault: PromoteFault) -> ControlFault {
+        match fault {
+            PromoteFault::Aborted => ControlFault::Aborted,
+            PromoteFault::NotPaused => ControlFault::NotPaused,
+        }
+    }
+}
+
+impl From<PromoteFullFault> for ControlFault {
+    ghost from_gives = { λ fault e. e ≡ of_promote_full fault };
+
+    fn from(fault: PromoteFullFault) -> ControlFault {
+        match fault {
+            PromoteFullFault::Aborted => ControlFault::Aborted,
+            PromoteFullFault::NothingToPromote => ControlFault::NothingToPromote,
+            PromoteFullFault::AlreadyFull => ControlFault::AlreadyFull,
+        }
+    }
+}
+
+impl From<AbortFault> for ControlFault {
+    ghost from_gives = { λ fault e. e ≡ of_abort fault };
+
+    fn from(fault: AbortFault) -> ControlFault {
+        match fault {
+            AbortFault::AlreadyAborted => ControlFault::AlreadyAborted,
+            AbortFault::NothingToAbort => ControlFault::NothingToAbort,
+        }
+    }
+}
+
+impl From<RetryFault> for ControlFault {
+    ghost from_gives = { λ fault e. e ≡ of_retry fault };
+
+    fn from(fault: RetryFault) -> ControlFault {
+        match fault {
+            RetryFault::NotAborted => ControlFault::NotAborted,
+        }
+    }
+}
+
+impl From<AllocError> for ControlFault {
+    ghost from_gives = { λ _ e. e ≡ OutOfMemory };
+
+    fn from(_refused: AllocError) -> ControlFault {
+        ControlFault::OutOfMemory
+    }
+}

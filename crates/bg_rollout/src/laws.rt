@@ -1,0 +1,84 @@
+//! What holds of every rollout, for who calls it.
+ghost use Rattle.std.specs.Prelude.{◌≡◌, ◌≢◌, ◌≤◌, ◌+◌, ◌∷◌, ◌==◌, ◌||◌, not, ℕ, true, List, length, map, None, Some, slice_get, sum_by};
+ghost use Rattle.std.specs.List.{list_all};
+ghost use Rattle.bg_strategy.specs.declared.strategy.Strategy.{Strategy};
+ghost use Rattle.bg_history.specs.declared.entry.Entry.{Entry};
+ghost use Rattle.bg_history.specs.declared.entry.Entry.TheVariants.{Leave};
+ghost use Rattle.bg_history.specs.declared.entry.Outcome.{Outcome};
+ghost use Rattle.bg_history.specs.Kept.{Opening};
+ghost use Rattle.bg_history.specs.Requests.{calls_of, open_at, open_requests};
+ghost use Rattle.bg_history.specs.Steps.{Follows};
+ghost use Rattle.bg_history_compaction.specs.Laws.{Answers, Same};
+ghost use Rattle.bg_history_listing.specs.Listed.{revisions_of};
+ghost use Rattle.bg_history_settling.specs.Work.{work};
+ghost use Rattle.bg_ledger.specs.declared.holding.Holding.{Holding};
+ghost use Rattle.bg_requestlists.specs.RequestLists.{list_of};
+ghost use Rattle.bg_rollout.specs.Compaction.{with_compacted};
+ghost use Rattle.bg_rollout.specs.Gathering.{are_all, gather_fault};
+ghost use Rattle.bg_rollout.specs.Invariant.{RoutingStands};
+ghost use Rattle.bg_rollout.specs.PastState.{lists_of, requests_at, share};
+ghost use Rattle.bg_rollout.specs.Refusals.{all_open};
+ghost use Rattle.bg_rollout.specs.Routing.{Routing};
+ghost use Rattle.bg_rollout.specs.State.{state_of};
+ghost use Rattle.bg_scaledown.specs.Past.{table_of};
+
+use bg_history_compaction::laws::{compacts, keeps_table};
+use bg_history_facts::laws::reachable;
+use bg_history_settling::laws::work_falls;
+
+/// The list of each revision has just its open requests, each at the node of its seat's index, and they are as many
+/// as the shares of the seats.
+pub fn lists_requests()
+    ensures nodes { (b : Routing) → RoutingStands b
+        → (r : ℕ) → list_of r b.lists ≡ requests_at r b.past }
+    ensures numbers { (b : Routing) → RoutingStands b
+        → (r : ℕ) → map (λ q. q.number) (list_of r b.lists) ≡ open_at r b.past }
+    ensures shares { (b : Routing) → RoutingStands b
+        → (r : ℕ) → sum_by (share r) b.seats ≡ length (open_at r b.past) }
+{
+    reachable();
+}
+
+/// A seat that is in has one of the open requests: there is one less once it has left, and each open request of its
+/// number is at its revision.
+pub fn has_request()
+    ensures one_less { (b : Routing) (seat : Holding) → RoutingStands b
+        → slice_get b.seats seat.index ≡ Some seat → seat.number ≢ 0
+        → all_open (Leave seat.index seat.number seat.revision ∷ b.past) + 1 ≡ all_open b.past }
+    ensures alone { (b : Routing) (seat : Holding) → RoutingStands b
+        → slice_get b.seats seat.index ≡ Some seat → seat.number ≢ 0
+        → list_all (λ q. not (q.number == seat.number) || (q.revision == seat.revision))
+        (open_requests b.past) ≡ true }
+{}
+
+/// No more outcomes follow one another than the work says.
+pub fn few_follow()
+    ensures { (s : Strategy) (past : List Entry) (outcomes : List Outcome)
+        → Follows s outcomes past → length outcomes ≤ work s past }
+{
+    work_falls();
+}
+
+/// All seats of a book are gathered where each of them is out.
+pub fn gathers()
+    ensures { (count : ℕ) (seats : List Holding) → are_all count seats ≡ true
+        → ((i : ℕ) (seat : Holding) → slice_get seats i ≡ Some seat → seat.number ≡ 0)
+        → gather_fault count seats ≡ None }
+{}
+
+/// What holds of a routing holds of it with its history compacted, and the lists of open requests and the revisions
+/// stay as they are.
+pub fn compaction_keeps()
+    ensures stands { (b : Routing) → RoutingStands b → RoutingStands (with_compacted b) }
+    ensures lists { (s : Strategy) (o : Opening) (a b : List Entry) → Same s o a b
+        → lists_of a ≡ lists_of b }
+    ensures revisions { (s : Strategy) (o : Opening) (a b : List Entry) → Same s o a b
+        → revisions_of s o a ≡ revisions_of s o b }
+    ensures states { (s : Strategy) (o : Opening) (closed new : List ℕ) (a b : List Entry)
+        → Same s o a b → Answers s o a b → table_of s a ≡ table_of s b
+        → ((i : ℕ) → calls_of closed i a ≡ calls_of new i b)
+        → state_of s o closed a ≡ state_of s o new b }
+{
+    compacts();
+    keeps_table();
+}

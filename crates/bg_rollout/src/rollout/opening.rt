@@ -1,0 +1,202 @@
+//! How a rollout is opened.
+ghost use Rattle.std.specs.Prelude.{◌≡◌, ◌≤◌, true, [], ◌∷◌, IfOk, IfErr, None, vec_capacity};
+ghost use Rattle.bg_ledger.specs.Blanks.{AreAllFor};
+ghost use Rattle.bg_revisions.specs.Rosters.{has_form};
+ghost use Rattle.bg_rollout.specs.Refusals.{open_refusal, AnswersBy};
+ghost use Rattle.bg_rollout.specs.Changes.{opened, NewSeats};
+ghost use Rattle.bg_rollout.specs.Gathering.{are_all};
+ghost use Rattle.bg_rollout.specs.declared.fault.OpenFault.TheVariants.{OutOfMemory};
+
+use crate::fault::OpenFault;
+use crate::limits::Limits;
+use crate::rollout::Rollout;
+use bg_history::History;
+use bg_ledger::{Blanks, Names, Seat, SeatRecord, pair};
+use bg_promotion::Core;
+use bg_requestlists::{MOST_SEATS, RequestLists};
+use bg_revisions::{Roster, has_ports_form};
+use bg_scaledown::Deadlines;
+use bg_strategy::{Strategy, is_dns_label};
+use std::alloc::Global;
+
+impl<N: Names> Rollout<N> {
+    /// Opens a rollout of revision 1, and gives it and its seats in order of index, each without a call. A refusal
+    /// gives the blanks up.
+    ///
+    /// Refused, in this order: `BadName` where the name is no DNS label, `BadPorts` where there aren't exactly
+    /// `replicas` distinct ports from 1, `BadSeats` where there aren't 1 to 8 seats, `BadLimits` where a limit is
+    /// above the usual one, `OutOfMemory`.
+    pub fn open(
+        alloc: Global,
+        strategy: &Strategy,
+        name: &str,
+        ports: &[u16],
+        seats: u32,
+        limits: Limits,
+        blanks: Blanks,
+    ) -> Result<(Rollout<N>, Vec<Seat<N>>), OpenFault>
+        requires blanks { AreAllFor N.Names blanks }
+        requires seats { 1 ≤ seats → seats ≤ 8 → N.seats ≡ seats }
+        ensures refusal { AnswersBy
+            (open_refusal strategy.now name.now ports.now seats limits) OutOfMemory result }
+        ensures rollout { IfOk result (λ r. r.0 ≡ record {
+          routing = opened strategy.now name.now ports.now seats limits r.1.items;
+          spare = 0;
+        }) }
+        ensures count { IfOk result (λ r. seats ≡ N.seats) }
+        ensures seats { IfOk result (λ r. NewSeats seats r.1.items) }
+        ensures all { IfOk result (λ r. are_all N.seats r.1.items ≡ true) }
+    {
+        if let Some(fault) = opening_fault(strategy, name, ports, seats, limits) {
+            return Err(fault);
+        }
+        Rollout::build(alloc, strategy, name, ports, seats, limits, blanks)
+    }
+
+    /// The rollout of an opening without a fault, and its seats; refused only where memory is.
+    fn build(
+        alloc: Global,
+        strategy: &Strategy,
+        name: &str,
+        ports: &[u16],
+        seats: u32,
+        limits: Limits,
+        blanks: Blanks,
+    ) -> Result<(Rollout<N>, Vec<Seat<N>>), OpenFault>
+        requires fits { open_refusal strategy.now name.now ports.now seats limits ≡ None }
+        requires blanks { AreAllFor N.Names blanks }
+        requires seats { 1 ≤ seats → seats ≤ 8 → N.seats ≡ seats }
+        ensures rollout { IfOk result (λ r. r.0 ≡ record {
+          routing = opened strategy.now name.now ports.now seats limits r.1.items;
+          spare = 0;
+        }) }
+        ensures count { IfOk result (λ r. seats ≡ N.seats) }
+        ensures seats { IfOk result (λ r. NewSeats seats r.1.items) }
+        ensures all { IfOk result (λ r. are_all N.seats r.1.items ≡ true) }
+        ensures err { IfErr result (λ e. e ≡ OutOfMemory) }
+    {
+        let strategy = strategy.clone()?;
+        Rollout::assemble(alloc, strategy, name, ports, seats, limits, blanks)
+    }
+
+    /// What a rollout is made of, once it has a strategy of its own; refused only where memory is.
+    fn assemble(
+        alloc: Global,
+        strategy: Strategy,
+        name: &str,
+        ports: &[u16],
+        seats: u32,
+        limits: Limits,
+        blanks: Blanks,
+    ) -> Result<(Rollout<N>, Vec<Seat<N>>), OpenFault>
+        requires fits { open_refusal strategy name.now ports.now seats limits ≡ None }
+        requires blanks { AreAllFor N.Names blanks }
+        requires seats { N.seats ≡ seats }
+        ensures rollout { IfOk result (λ r. r.0 ≡ record {
+          routing = opened strategy name.now ports.now seats limits r.1.items;
+          spare = 0;
+        }) }
+        ensures seats { IfOk result (λ r. NewSeats seats r.1.items) }
+        ensures err { IfErr result (λ e. e ≡ OutOfMemory) }
+    {
+        let core = Core::new(&strategy);
+        let deadlines = Deadlines::new(strategy.delay, strategy.revision_limit);
+        let history = History::new(alloc, seats, name, ports)?;
+        let roster = first_roster(alloc, strategy.replicas, name, ports)?;
+        let lists = RequestLists::new(alloc)?;
+        let mut records = Vec::with_capacity(alloc, seats as usize)?;
+        let mut handed_out = Vec::with_capacity(alloc, seats as usize)?;
+        // A seat can't be dropped, so they are paired once all memory is taken.
+        pair_all::<N>(seats, blanks, &mut records, &mut handed_out);
+        let rollout = Rollout {
+            strategy,
+            limits,
+            core,
+            roster,
+            deadlines,
+            lists,
+            records,
+            history,
+            moment: 0,
+            given: 0,
+            open: 0,
+        };
+        Ok((rollout, handed_out))
+    }
+}
+
+/// The first fault of an opening but want of memory, if it has one.
+fn opening_fault(
+    strategy: &Strategy,
+    name: &str,
+    ports: &[u16],
+    seats: u32,
+    limits: Limits,
+) -> Option<OpenFault>
+    ensures { result ≡ open_refusal strategy.now name.now ports.now seats limits }
+{
+    if !is_dns_label(name) {
+        return Some(OpenFault::BadName);
+    }
+    if !has_ports_form(strategy.replicas, ports) {
+        return Some(OpenFault::BadPorts);
+    }
+    if seats < 1 || MOST_SEATS < seats {
+        return Some(OpenFault::BadSeats);
+    }
+    let usual = Limits::usual();
+    if usual.entries < limits.entries || usual.numbers < limits.numbers {
+        return Some(OpenFault::BadLimits);
+    }
+    None
+}
+
+/// The roster of revision 1 alone.
+fn first_roster(
+    alloc: Global,
+    replicas: u32,
+    name: &str,
+    ports: &[u16],
+) -> Result<Roster, OpenFault>
+    requires { has_form replicas name.now ports.now ≡ true }
+    ensures ok { IfOk result (λ r. r ≡ record {
+      replicas = replicas;
+      revisions = record {
+        number = 1;
+        name = name.now;
+        ports = ports.now;
+        desired = replicas;
+        available = 0;
+      } ∷ [];
+      last = 1;
+    }) }
+    ensures err { IfErr result (λ e. e ≡ OutOfMemory) }
+{
+    let mut roster = Roster::new(alloc, replicas)?;
+    match roster.add(name, ports, replicas) {
+        Ok(_first) => Ok(roster),
+        Err(_refused) => Err(OpenFault::OutOfMemory),
+    }
+}
+
+/// Pairs as many seats with their records, in order of index. Takes no memory.
+fn pair_all<N: Names>(
+    count: u32,
+    blanks: Blanks,
+    records: &mut Vec<SeatRecord<N>>,
+    seats: &mut Vec<Seat<N>>,
+)
+    requires blanks { AreAllFor N.Names blanks }
+    requires count { N.seats ≡ count }
+    requires empty { (records.old.items ≡ []) × (seats.old.items ≡ []) }
+    requires room { (count ≤ vec_capacity records.old) × (count ≤ vec_capacity seats.old) }
+    ensures seats { NewSeats count seats.new.items }
+    ensures records { records.new.items ≡ seats.new.items }
+{
+    let mut blanks = blanks;
+    for index in 0..count {
+        let (record, seat) = pair::<N>(index, blanks.take(index));
+        records.push_reserved(record);
+        seats.push_reserved(seat);
+    }
+}
