@@ -1,0 +1,8 @@
+pub mod Standing
+pub mod Sizes
+pub mod Marked
+pub mod Requests
+pub mod Known
+pub mod Selected
+pub mod Scans
+pub mod Openings

@@ -1,0 +1,69 @@
+-- The marks that are kept of a past.
+use Rattle.std.specs.Prelude.{◌≡◌, ℕ, true, if◌then◌else◌, ◌==◌, List, [], ◌∷◌, ◌++◌, not, filter, find, length, Option, Some, None}
+use Rattle.std.specs.List.{list_any}
+use Rattle.std.specs.Option.{option_or, option_map}
+use Rattle.bg_strategy.specs.declared.strategy.Strategy.{Strategy}
+use Rattle.bg_history.specs.declared.entry.Entry.{Entry}
+use Rattle.bg_history.specs.declared.entry.Entry.TheVariants.{Deploy, Outcome}
+use Rattle.bg_history.specs.declared.entry.Outcome.TheVariants.{Removed}
+use Rattle.bg_history.specs.Turns.{moment}
+use Rattle.bg_history.specs.Deadlines.{exists_in}
+use Rattle.bg_history.specs.Marks as past
+use Rattle.bg_audit.specs.declared.marks.Mark.{Mark}
+use Rattle.bg_audit.specs.declared.marks.MarkKind.{MarkKind}
+use Rattle.bg_audit.specs.declared.marks.MarkKind.TheVariants.{Left, Superseded, Cleared}
+use Rattle.bg_audit.specs.declared.marks.RevisionMark.{RevisionMark}
+
+-- a kind of mark, as the code has it
+abbrev pub kind_told : past.MarkKind → MarkKind
+kind_told past.Left = Left
+kind_told past.Superseded = Superseded
+kind_told past.Cleared = Cleared
+
+-- a mark, as the code has it
+abbrev pub mark_told : past.Mark → Mark
+mark_told m = record { kind = kind_told m.kind; moment = m.moment; stood = m.stood }
+
+-- the mark that an entry is for r, if it is one
+abbrev pub mark_at : Strategy → ℕ → Entry → List Entry → Option Mark
+mark_at s r e before =
+    option_map (λ kind. record {
+      kind = kind_told kind;
+      moment = moment (e ∷ before);
+      stood = length before;
+    }) (past.kind_of s r e before)
+
+-- a revision's mark after an entry
+abbrev pub remarked : Strategy → Entry → List Entry → RevisionMark → RevisionMark
+remarked s e before m = record m { mark = option_or (mark_at s m.revision e before) m.mark }
+
+-- the marks with one more revision, which has none yet, where it isn't there
+abbrev pub with_revision : ℕ → List RevisionMark → List RevisionMark
+with_revision r marks =
+    if list_any (λ m. m.revision == r) marks then marks
+    else marks ++ record { revision = r; mark = None } ∷ []
+
+-- the marks with the revision that is deployed, and without one that is removed
+abbrev pub prepared : Entry → List RevisionMark → List RevisionMark
+prepared (Deploy r name ports) marks = with_revision r marks
+prepared (Outcome (Removed r)) marks = filter (λ m. not (m.revision == r)) marks
+prepared _ marks = marks
+
+-- the mark of a revision that may be there
+abbrev pub mark_there : Option RevisionMark → Option Mark
+mark_there None = None
+mark_there (Some m) = m.mark
+
+-- the mark that is kept of r
+abbrev pub mark_in : ℕ → List RevisionMark → Option Mark
+mark_in r marks = mark_there (find (λ m. m.revision == r) marks)
+
+-- what is kept of r after a past
+abbrev pub marked : Strategy → List Entry → ℕ → RevisionMark
+marked s entries r = record { revision = r; mark = option_map mark_told (past.mark s r entries) }
+
+-- each revision that exists is kept with its mark
+abbrev pub HasMarks : Strategy → List Entry → List RevisionMark → Type 0
+HasMarks s entries marks =
+    (r : ℕ) → exists_in r entries ≡ true
+    → find (λ m. m.revision == r) marks ≡ Some (marked s entries r)

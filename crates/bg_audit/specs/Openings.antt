@@ -1,0 +1,15 @@
+-- The entries of a past, from the oldest one.
+use Rattle.std.specs.Prelude.{ℕ, List, reverse, take}
+use Rattle.bg_history.specs.declared.entry.Entry.{Entry}
+use Rattle.bg_history.specs.Kept.{Opening}
+
+-- an opening with so many seats, and this name and these ports
+abbrev pub opened : ℕ → List ℕ → List ℕ → Opening
+opened seats name ports = record {
+  seats = seats;
+  template = record { name = name; ports = ports };
+}
+
+-- the oldest n entries of a past
+abbrev pub oldest : ℕ → List Entry → List Entry
+oldest n past = reverse (take n (reverse past))

@@ -1,0 +1,88 @@
+//! The audit.
+ghost use Rattle.std.specs.Prelude.{◌≡◌, ◌↔◌, true, false, length, IfOk, IsTrue, MatchOption};
+ghost use Rattle.bg_history.specs.Steps.{IsLegal, is_opening, is_settled, all_allowed};
+ghost use Rattle.bg_audit.specs.Openings.{opened};
+ghost use Rattle.bg_audit.specs.Known.{StandsAt};
+
+use crate::facts::Facts;
+use crate::fault::AuditFault;
+use crate::numbers::{are_given, entry_at};
+use bg_history::History;
+use bg_history_facts::laws;
+use bg_revisions::has_ports_form;
+use bg_strategy::{Strategy, is_dns_label};
+use std::alloc::{AllocError, Global};
+
+/// The most seats of a history.
+const MOST_SEATS: usize = 8;
+
+/// Whether the history is legal, and nothing is left undone at its end. `OutOfMemory` where memory is refused.
+pub fn audit(alloc: Global, history: &History, strategy: &Strategy) -> Result<bool, AuditFault>
+    ensures { IfOk result (λ b. IsTrue b
+        ↔ (IsLegal strategy.now history.now.opening history.now.closed history.now.past
+        × IsTrue (is_settled strategy.now history.now.past))) }
+{
+    let (name, ports) = (history.first_name(), history.first_ports());
+    audit_opened(alloc, history, history.seats(), name, ports, strategy)
+}
+
+/// Whether a history that was opened with so many seats, this name and these ports is legal, and nothing is
+/// left undone at its end. `OutOfMemory` where memory is refused.
+fn audit_opened(
+    alloc: Global,
+    history: &History,
+    seats: usize,
+    name: &str,
+    ports: &[u16],
+    strategy: &Strategy,
+) -> Result<bool, AuditFault>
+    requires opening { history.now.opening ≡ opened seats name.now ports.now }
+    requires closed { length history.now.closed ≡ seats }
+    ensures { IfOk result (λ b. IsTrue b
+        ↔ (IsLegal strategy.now history.now.opening history.now.closed history.now.past
+        × IsTrue (is_settled strategy.now history.now.past))) }
+{
+    laws::reachable();
+    if !has_opening_form(seats, name, ports, strategy) {
+        return Ok(false);
+    }
+    match facts_of(alloc, history, seats, name, ports, strategy)? {
+        Some(facts) => Ok(are_given(history, seats as u32) && facts.is_settled(strategy)),
+        None => Ok(false),
+    }
+}
+
+/// Whether the opening is well formed.
+fn has_opening_form(seats: usize, name: &str, ports: &[u16], strategy: &Strategy) -> bool
+    ensures { result ≡ is_opening strategy.now (opened seats name.now ports.now) }
+{
+    is_dns_label(name)
+        && has_ports_form(strategy.replicas, ports)
+        && seats >= 1
+        && seats <= MOST_SEATS
+}
+
+/// The facts at the end of the history, or none where an entry isn't allowed. Refused only where memory is.
+fn facts_of(
+    alloc: Global,
+    history: &History,
+    seats: usize,
+    name: &str,
+    ports: &[u16],
+    strategy: &Strategy,
+) -> Result<Option<Facts>, AllocError>
+    ensures { IfOk result (λ found. MatchOption found
+        (all_allowed strategy.now (opened seats name.now ports.now) history.now.past ≡ false)
+        (λ f. StandsAt strategy.now (opened seats name.now ports.now) history.now.past f)) }
+{
+    laws::reachable();
+    let mut facts = Facts::new(alloc, strategy, name, ports)?;
+    for place in 0..history.len() {
+        let entry = entry_at(history, place);
+        if !facts.allows(strategy, seats as u64, entry) {
+            return Ok(None);
+        }
+        facts.take(strategy, entry, place)?;
+    }
+    Ok(Some(facts))
+}

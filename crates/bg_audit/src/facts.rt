@@ -1,0 +1,75 @@
+//! What is kept of a past, each fact from the past before and its newest entry.
+ghost use Rattle.std.specs.Prelude.{◌≡◌, ◌∷◌, ℕ, [], true, List, length, IfOk, OnOk};
+ghost use Rattle.bg_history.specs.declared.entry.Entry.{Entry};
+ghost use Rattle.bg_history.specs.Kept.{Opening};
+ghost use Rattle.bg_history.specs.Allowed.{is_allowed};
+ghost use Rattle.bg_history_facts.specs.Reachable.{Reachable};
+
+use crate::course::Course;
+use crate::marks::RevisionMark;
+use crate::requests::OpenRequest;
+use crate::{marks, requests, revisions};
+use bg_history::Entry;
+use bg_revisions::Revision;
+use bg_strategy::Strategy;
+use std::alloc::{AllocError, Global};
+
+/// What is kept of a past.
+#[derive(Drop)]
+pub struct Facts {
+    pub course: Course,
+    /// The revisions that exist, by ascending number.
+    pub revisions: Vec<Revision>,
+    pub marks: Vec<RevisionMark>,
+    /// The open requests, in the order of entering.
+    pub requests: Vec<OpenRequest>,
+    /// The greatest number that a request had.
+    pub greatest: Option<u64>,
+    alloc: Global,
+}
+
+impl Facts {
+    ghost use Rattle.bg_audit.specs.Known.{Knows};
+
+    /// Those of no entry, where revision 1 has this name and these ports. Refused only where memory is.
+    pub fn new(
+        alloc: Global,
+        strategy: &Strategy,
+        name: &str,
+        ports: &[u16],
+    ) -> Result<Facts, AllocError>
+        ensures { (seats : ℕ) → IfOk result (λ f. Knows strategy.now (record {
+          seats = seats;
+          template = record { name = name.now; ports = ports.now };
+        }) [] f) }
+    {
+        let mut revisions = Vec::new(alloc);
+        revisions::add(alloc, &mut revisions, 1, name, ports, strategy.replicas)?;
+        let mut marks = Vec::new(alloc);
+        marks::add(&mut marks, 1)?;
+        Ok(Facts {
+            course: Course::new(),
+            revisions,
+            marks,
+            requests: Vec::new(alloc),
+            greatest: None,
+            alloc,
+        })
+    }
+
+    /// Takes in an entry that is allowed, which stands after so many others. Refused only where memory is.
+    pub fn take(&mut self, strategy: &Strategy, entry: &Entry, place: u64) -> Result<(), AllocError>
+        ensures { (o : Opening) (past : List Entry) → Knows strategy.now o past self.old
+            → Reachable strategy.now o past → is_allowed strategy.now o entry.now past ≡ true
+            → place ≡ length past → OnOk result (Knows strategy.now o (entry.now ∷ past) self.new) }
+    {
+        let before = self.course;
+        self.course.take(strategy, entry);
+        let after = self.course;
+        revisions::take(self.alloc, &mut self.revisions, strategy, &before, entry)?;
+        marks::take(&mut self.marks, entry, &before, &after, place)?;
+        requests::take(&mut self.requests, entry)?;
+        self.greatest = requests::greatest_number(self.greatest, entry);
+        Ok(())
+    }
+}

@@ -1,0 +1,231 @@
+//! What became of each revision, for its deadline.
+ghost use Rattle.std.specs.Prelude.{◌≡◌, ◌∷◌, ◌==◌, not, List, map, filter, find, length, OnOk};
+ghost use Rattle.std.specs.List.{list_any};
+ghost use Rattle.std.specs.Option.{option_map, option_copied};
+ghost use Rattle.bg_strategy.specs.declared.strategy.Strategy.{Strategy};
+ghost use Rattle.bg_history.specs.declared.entry.Entry.{Entry};
+ghost use Rattle.bg_history.specs.Kept.{Opening};
+ghost use Rattle.bg_history.specs.Sizes.{begins};
+ghost use Rattle.bg_history.specs.Marks.{kind_of, halts, supersedes, scales_down};
+ghost use Rattle.bg_history_facts.specs.Reachable.{Reachable};
+ghost use Rattle.bg_audit.specs.Standing.{IsCourse};
+ghost use Rattle.bg_audit.specs.Marked.{kind_told, remarked, mark_in, with_revision, prepared, HasMarks};
+
+use crate::course::Course;
+use bg_history::{AnalysisResult, Entry, Outcome};
+use std::alloc::AllocError;
+
+/// What became of a revision.
+#[derive(Clone, Copy, PartialEq, Eq, Drop, Debug)]
+pub enum MarkKind {
+    /// It left the active service.
+    Left,
+    /// A deploy took its place before it was active.
+    Superseded,
+    /// Its deadline was cleared.
+    Cleared,
+}
+
+/// The newest entry that became of a revision.
+#[derive(Clone, Copy, Drop, Debug)]
+pub struct Mark {
+    pub kind: MarkKind,
+    /// The moment after the entry.
+    pub moment: u64,
+    /// How many entries stood before it.
+    pub stood: u64,
+}
+
+/// A revision's newest mark, if there is one.
+#[derive(Drop, Debug)]
+pub struct RevisionMark {
+    pub revision: u64,
+    pub mark: Option<Mark>,
+}
+
+/// The newest mark of the revision.
+pub fn mark_of(marks: &[RevisionMark], revision: u64) -> Option<Mark>
+    ensures { result ≡ mark_in revision marks.now }
+{
+    match marked_of(marks, revision) {
+        Some(marked) => marked.mark,
+        None => None,
+    }
+}
+
+/// What is kept of the revision.
+fn marked_of(marks: &[RevisionMark], revision: u64) -> Option<&RevisionMark>
+    ensures { option_copied result ≡ find (λ m. m.revision == revision) marks.now }
+{
+    marks.iter().find(|marked| marked.revision == revision)
+}
+
+/// Whether the revision is there.
+fn has_mark(marks: &[RevisionMark], revision: u64) -> bool
+    ensures { result ≡ list_any (λ m. m.revision == revision) marks.now }
+{
+    marks.iter().any(|marked| marked.revision == revision)
+}
+
+/// Takes in an entry that is allowed, which stands after so many others; the courses are those before and
+/// after it. Refused only where memory is.
+pub fn take(
+    marks: &mut Vec<RevisionMark>,
+    entry: &Entry,
+    before: &Course,
+    after: &Course,
+    stood: u64,
+) -> Result<(), AllocError>
+    ensures { (s : Strategy) (o : Opening) (past : List Entry) → IsCourse s past before.now
+        → IsCourse s (entry.now ∷ past) after.now → Reachable s o past → stood ≡ length past
+        → HasMarks s past marks.old.items
+        → OnOk result (HasMarks s (entry.now ∷ past) marks.new.items) }
+{
+    prepare(marks, entry)?;
+    mark_all(marks, entry, before, after, stood);
+    Ok(())
+}
+
+/// Adds the revision that is deployed, and drops one that is removed.
+fn prepare(marks: &mut Vec<RevisionMark>, entry: &Entry) -> Result<(), AllocError>
+    ensures { OnOk result (marks.new.items ≡ prepared entry.now marks.old.items) }
+{
+    match entry {
+        Entry::Deploy { revision, .. } => add(marks, *revision)?,
+        Entry::Outcome(Outcome::Removed(revision)) => drop_mark(marks, *revision),
+        _ => {}
+    }
+    Ok(())
+}
+
+/// Adds a revision that has no mark yet, where it isn't there. Refused only where memory is.
+pub fn add(marks: &mut Vec<RevisionMark>, revision: u64) -> Result<(), AllocError>
+    ensures { OnOk result (marks.new.items ≡ with_revision revision marks.old.items) }
+{
+    if !has_mark(marks, revision) {
+        marks.push(RevisionMark {
+            revision,
+            mark: None,
+        })?;
+    }
+    Ok(())
+}
+
+/// Drops the mark of the revision.
+fn drop_mark(marks: &mut Vec<RevisionMark>, revision: u64)
+    ensures { marks.new.items ≡ filter (λ m. not (m.revision == revision)) marks.old.items }
+{
+    marks.retain(|marked| marked.revision != revision);
+}
+
+/// Marks each revision for which the entry is a mark; it stands after so many others.
+fn mark_all(
+    marks: &mut Vec<RevisionMark>,
+    entry: &Entry,
+    before: &Course,
+    after: &Course,
+    stood: u64,
+)
+    ensures { (s : Strategy) (past : List Entry) → IsCourse s past before.now
+        → IsCourse s (entry.now ∷ past) after.now → stood ≡ length past
+        → marks.new.items ≡ map (remarked s entry.now past) marks.old.items }
+{
+    for marked in marks.iter_mut() {
+        mark_one(marked, entry, before, after, stood);
+    }
+}
+
+fn mark_one(marked: &mut RevisionMark, entry: &Entry, before: &Course, after: &Course, stood: u64)
+    ensures { (s : Strategy) (past : List Entry) → IsCourse s past before.now
+        → IsCourse s (entry.now ∷ past) after.now → stood ≡ length past
+        → marked.new ≡ remarked s entry.now past marked.old }
+{
+    if let Some(kind) = kind_of(marked.revision, entry, before, after) {
+        marked.mark = Some(Mark {
+            kind,
+            moment: after.moment,
+            stood,
+        });
+    }
+}
+
+/// The kind of mark that the entry is for the revision, if it is one.
+fn kind_of(revision: u64, entry: &Entry, before: &Course, after: &Course) -> Option<MarkKind>
+    ensures { (s : Strategy) (past : List Entry) → IsCourse s past before.now
+        → IsCourse s (entry.now ∷ past) after.now
+        → result ≡ option_map kind_told (kind_of s revision entry.now past) }
+{
+    let was_active = before.active == revision;
+    let is_active = after.active == revision;
+    let halted = halts(revision, entry, before);
+    if was_active && !is_active && !halted {
+        Some(MarkKind::Left)
+    } else if supersedes(revision, entry, before) {
+        Some(MarkKind::Superseded)
+    } else if begins(revision, entry, before)
+        || (!was_active && is_active)
+        || scales_down(revision, entry)
+        || halted
+    {
+        Some(MarkKind::Cleared)
+    } else {
+        None
+    }
+}
+
+/// Whether the entry stops the attempt of the revision.
+fn halts(revision: u64, entry: &Entry, before: &Course) -> bool
+    ensures { (s : Strategy) (past : List Entry) → IsCourse s past before.now
+        → result ≡ halts revision entry.now past }
+{
+    let is_halt = match entry {
+        Entry::Abort => true,
+        Entry::Verdict {
+            analysis: _,
+            result,
+        } => match result {
+            AnalysisResult::Successful => false,
+            AnalysisResult::Failed | AnalysisResult::Error => true,
+        },
+        _ => false,
+    };
+    is_halt && before.newest == revision
+}
+
+/// Whether the entry deploys another revision in the place of this one, which isn't active or stable.
+fn supersedes(revision: u64, entry: &Entry, before: &Course) -> bool
+    ensures { (s : Strategy) (past : List Entry) → IsCourse s past before.now
+        → result ≡ supersedes revision entry.now past }
+{
+    match entry {
+        Entry::Deploy { .. } => {
+            before.newest == revision && before.active != revision && before.stable != revision
+        }
+        _ => false,
+    }
+}
+
+/// Whether the entry begins an attempt of the revision.
+fn begins(revision: u64, entry: &Entry, before: &Course) -> bool
+    ensures { (s : Strategy) (past : List Entry) → IsCourse s past before.now
+        → result ≡ begins revision entry.now past }
+{
+    match entry {
+        Entry::Retry => revision == before.newest,
+        Entry::Deploy {
+            revision: deployed,
+            ..
+        } => *deployed == revision && revision != before.stable,
+        _ => false,
+    }
+}
+
+/// Whether the entry scales the revision down.
+fn scales_down(revision: u64, entry: &Entry) -> bool
+    ensures { result ≡ scales_down revision entry.now }
+{
+    match entry {
+        Entry::Outcome(Outcome::ScaledDown(number)) => *number == revision,
+        _ => false,
+    }
+}
