@@ -3,7 +3,7 @@ use Rattle.std.proofs.Common.{ℕ, Bool, true, false, if◌then◌else◌, IfSom
 use Rattle.std.proofs.Common.{Some, None, Ok, Err, inl, inr, refl, sym, ◌∙◌, append-nil}
 use Rattle.std.specs.Io.KnownBytes.{Appends, Keeps}
 use Rattle.std.proofs.KnownBytes.{Appends-trans}
-use Rattle.bg_book.specs.declared.calls.Ticket.{Ticket}
+use Rattle.bg_rollout.specs.declared.ticket.Ticket.{Ticket}
 use Rattle.bg_http.specs.RequestRules.{owes_continue}
 use Rattle.bg_http.specs.Statuses.{request_status}
 use Rattle.bg_http.specs.declared.request.Request.{Request}

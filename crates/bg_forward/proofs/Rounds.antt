@@ -1,6 +1,6 @@
 -- Lemmas on the connections of a worker.
 use Rattle.std.proofs.Common.{◌≡◌, ℕ, ◌+◌, Option, Some, None, ◌∙◌, arith}
-use Rattle.bg_book.specs.declared.calls.Ticket.{Ticket}
+use Rattle.bg_rollout.specs.declared.ticket.Ticket.{Ticket}
 use Rattle.bg_ledger.specs.declared.holding.Holding.{Holding}
 use Rattle.bg_forward.specs.Seats.{Worked, calls_made}
 

@@ -2,7 +2,7 @@
 use Rattle.std.specs.Prelude.{◌≡◌, ◌⊎◌, ℕ, IfSome, if◌then◌else◌, List}
 use Rattle.std.specs.Prelude.{[], ◌++◌, Option, Some, None, Result, Ok, Err, ⊤}
 use Rattle.std.specs.Io.KnownBytes.{Appends}
-use Rattle.bg_book.specs.declared.calls.Ticket.{Ticket}
+use Rattle.bg_rollout.specs.declared.ticket.Ticket.{Ticket}
 use Rattle.bg_http.specs.RequestRules.{owes_continue}
 use Rattle.bg_http.specs.Statuses.{request_status}
 use Rattle.bg_http.specs.Texts.{refusal_text, response_text}

@@ -1,7 +1,7 @@
 -- What a connection, and a worker, make of a seat.
 use Rattle.std.specs.Prelude.{◌≡◌, ℕ, ◌+◌, ◌*◌, ◌≤◌, List, length, slice_get, Option, Some, None}
-use Rattle.bg_book.specs.Changes.{seat_in}
-use Rattle.bg_book.specs.declared.calls.Ticket.{Ticket}
+use Rattle.bg_rollout.specs.Changes.{seat_in}
+use Rattle.bg_rollout.specs.declared.ticket.Ticket.{Ticket}
 use Rattle.bg_ledger.specs.Holdings.{vacated}
 use Rattle.bg_ledger.specs.declared.holding.Holding.{Holding}
 

@@ -1,8 +1,8 @@
 //! The gate of a running program.
 ghost use Rattle.bg_book.specs.Headline.{Headline};
-ghost use Rattle.bg_book.specs.Meeting.{Meets};
-ghost use Rattle.bg_book.specs.Refusals.{IsTicket};
-ghost use Rattle.bg_book.specs.Routing.{Routing};
+ghost use Rattle.bg_rollout.specs.Meeting.{Meets};
+ghost use Rattle.bg_rollout.specs.Refusals.{IsTicket};
+ghost use Rattle.bg_rollout.specs.Routing.{Routing};
 
 use crate::gate::Gate;
 use bg_book::{Desk, EnterFault, Left, Ticket};
@@ -10,8 +10,13 @@ use bg_ledger::{Names, Seat};
 use bg_revisions::Service;
 use std::sync::Wait;
 
+/// The entries of closed requests are dropped whenever the request has left whose number is a multiple of this: often
+/// enough that the history stays small and no call waits long for it, and rarely enough that it costs nothing that
+/// shows.
+const REQUESTS_BETWEEN_COMPACTIONS: u64 = 1 << 15;
+
 /// A desk, with the handle by which its lock is awaited. It meets [`Gate`] by [`Desk::enter`] and
-/// [`Desk::leave`].
+/// [`Desk::leave`], and keeps the history small: it compacts it now and then, and where it is full.
 #[derive(Drop)]
 pub struct Door<'a, N: Names, R> {
     rt: &'a R,
@@ -30,10 +35,20 @@ impl<N: Names, R: Wait> Gate<N> for Door<'_, N, R> {
         (b : Routing) × Headline b × Meets b seat × IsTicket b service t };
 
     fn enter(&self, seat: &mut Seat<N>, service: Service) -> Result<Ticket, EnterFault> {
-        self.desk.enter(self.rt, seat, service)
+        match self.desk.enter(self.rt, seat, service) {
+            Err(EnterFault::HistoryFull) => {
+                let _dropped = self.desk.compact(self.rt);
+                self.desk.enter(self.rt, seat, service)
+            }
+            answer => answer,
+        }
     }
 
     fn leave(&self, seat: &mut Seat<N>) -> Left {
-        self.desk.leave(self.rt, seat)
+        let left = self.desk.leave(self.rt, seat);
+        if left.number % REQUESTS_BETWEEN_COMPACTIONS == 0 {
+            let _dropped = self.desk.compact(self.rt);
+        }
+        left
     }
 }

@@ -1,7 +1,7 @@
 //! What a request passes before and after it is forwarded.
 ghost use Rattle.std.specs.Prelude.{◌≡◌, ◌<◌, IfOk, OnErr, ⊤};
-ghost use Rattle.bg_book.specs.Changes.{seat_in};
-ghost use Rattle.bg_book.specs.declared.calls.Ticket.{Ticket};
+ghost use Rattle.bg_rollout.specs.Changes.{seat_in};
+ghost use Rattle.bg_rollout.specs.declared.ticket.Ticket.{Ticket};
 ghost use Rattle.bg_ledger.specs.Holdings.{vacated};
 ghost use Rattle.bg_ledger.specs.declared.holding.Holding.{Holding};
 ghost use Rattle.bg_revisions.specs.declared.revision.Service.{Service};

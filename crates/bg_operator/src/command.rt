@@ -16,6 +16,8 @@ pub enum Command {
     Leave { seat: u32 },
     /// The report is asked for.
     Report,
+    /// The entries of closed requests are dropped from the history.
+    Compact,
     /// The script ends here.
     Quit,
 }

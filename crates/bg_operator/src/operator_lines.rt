@@ -1,7 +1,7 @@
 //! The lines of an operator, read one after the other.
-ghost use Rattle.std.specs.Prelude.{List, ℕ, IfOk};
+ghost use Rattle.std.specs.Prelude.{◌≡◌, List, ℕ, IfOk};
 ghost use Rattle.bg_operator.specs.Reading.{Gives, Known};
-ghost use Rattle.bg_operator.specs.OperatorLines.{NextIs};
+ghost use Rattle.bg_operator.specs.OperatorLines.{NextIs, orders_quit};
 
 use crate::command::Command;
 use crate::line_fault::LineFault;
@@ -10,17 +10,6 @@ use crate::parsing::parse_line;
 use crate::read_fault::ReadFault;
 use std::alloc::Global;
 use std::io::BufRead;
-
-/// What comes next in the lines of a script or of a control connection.
-#[derive(Debug, Drop)]
-pub enum NextLine {
-    /// A line other than `quit`: what it orders, or why it orders nothing.
-    Read(Result<Command, LineFault>),
-    /// `quit`.
-    Quit,
-    /// No further line.
-    End,
-}
 
 /// Takes the lines of a script or of a control connection. The reader is lent at each call.
 #[derive(Drop)]
@@ -38,10 +27,14 @@ impl OperatorLines {
         }
     }
 
-    /// What comes next. A line that is too long is passed over, and is `TooLong`.
+    /// What the next line orders, or why it orders nothing; none where there is no further line. A line that is
+    /// too long is passed over, and is `TooLong`.
     ///
     /// After a `ReadFault` the reader is of no use.
-    pub fn next<B: BufRead>(&mut self, reader: &mut B) -> Result<NextLine, ReadFault>
+    pub fn next<B: BufRead>(
+        &mut self,
+        reader: &mut B,
+    ) -> Result<Option<Result<Command, LineFault>>, ReadFault>
         ensures { IfOk result (λ next. Known (B.remaining reader.old) (B.remaining reader.new)
             (NextIs next)) }
     {
@@ -50,16 +43,20 @@ impl OperatorLines {
     }
 }
 
-/// What a line that was found so orders.
-fn line_read(alloc: Global, found: Found, line: &[u8]) -> NextLine
+/// Whether the line is `quit`.
+pub fn is_quit(read: &Result<Command, LineFault>) -> bool
+    ensures { result ≡ orders_quit read.now }
+{
+    matches!(read, Ok(Command::Quit))
+}
+
+/// What a line that was found so orders, if there is one.
+fn line_read(alloc: Global, found: Found, line: &[u8]) -> Option<Result<Command, LineFault>>
     ensures { (xs ys : List ℕ) → Gives found line.now xs ys → NextIs result xs ys }
 {
     match found {
-        Found::End => NextLine::End,
-        Found::TooLong => NextLine::Read(Err(LineFault::TooLong)),
-        Found::Line => match parse_line(alloc, line) {
-            Ok(Command::Quit) => NextLine::Quit,
-            read => NextLine::Read(read),
-        },
+        Found::End => None,
+        Found::TooLong => Some(Err(LineFault::TooLong)),
+        Found::Line => Some(parse_line(alloc, line)),
     }
 }

@@ -24,7 +24,7 @@ use std::alloc::Global;
 /// - `verdict pre` or `verdict post`, and then `successful`, `failed` or `error`
 /// - `promote`, `promote full`, `abort` and `retry`
 /// - `enter SEAT active` or `enter SEAT preview`, and `leave SEAT`
-/// - `report` and `quit`
+/// - `report`, `compact` and `quit`
 ///
 /// A number is 1 to 20 digits whose value is below 2^16 for a port, 2^32 for a seat and a size, and
 /// 2^64 for a moment and a revision. A name may be any word here: the book judges it.
@@ -55,6 +55,7 @@ fn command(alloc: Global, first: &str, words: Words) -> Result<Command, LineFaul
         "enter" => enter(words),
         "leave" => leave(words),
         "report" => alone(Command::Report, words),
+        "compact" => alone(Command::Compact, words),
         "quit" => alone(Command::Quit, words),
         _ => Err(LineFault::UnknownWord),
     }

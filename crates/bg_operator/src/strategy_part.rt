@@ -6,7 +6,7 @@ ghost use Rattle.bg_operator.specs.Parting.{IsPart, IsWhole, largest_strategy};
 ghost use Rattle.bg_operator.specs.Taking.{Gathers, line_text};
 
 use crate::read_fault::ReadFault;
-use crate::taking::{LineEnd, TURNS, take_line};
+use crate::taking::{LineEnd, MOST_TURNS, take_line};
 use std::alloc::Global;
 use std::io::{BufRead, ErrorKind};
 
@@ -33,7 +33,7 @@ pub fn part_before_script<B: BufRead>(
 {
     let mut part = Vec::new(alloc);
     let mut line = Vec::new(alloc);
-    for _ in 0..TURNS {
+    for _ in 0..MOST_TURNS {
         let end = take_line(reader, &mut line, LARGEST_STRATEGY + 1)?;
         if is_mark(&line, end) {
             return Ok(StrategyPart::Whole(part));
@@ -59,7 +59,7 @@ pub fn whole_input<B: BufRead>(alloc: Global, reader: &mut B) -> Result<Strategy
         (IsWhole part)) }
 {
     let mut whole = Vec::new(alloc);
-    for _ in 0..TURNS {
+    for _ in 0..MOST_TURNS {
         let at_end = gather_piece(reader, &mut whole)?;
         if whole.len() > LARGEST_STRATEGY {
             return Ok(StrategyPart::TooLarge);

@@ -7,8 +7,8 @@ ghost use Rattle.bg_operator.specs.Taking.{PassesLine, PassesPiece, TakesLine, T
 use crate::read_fault::ReadFault;
 use std::io::{BufRead, ErrorKind};
 
-/// After so many turns a loop over a reader gives up.
-pub(crate) const TURNS: u32 = 1 << 24;
+/// After so many turns a loop over a reader gives up, as over the lines of a script or of a connection.
+pub const MOST_TURNS: u32 = 1 << 24;
 
 /// How a line that was taken ends.
 #[derive(Clone, Copy, Debug, Drop, PartialEq, Eq)]
@@ -31,7 +31,7 @@ pub(crate) fn take_line<B: BufRead>(
         (TakesLine room end line.new.items)) }
 {
     line.clear();
-    for _ in 0..TURNS {
+    for _ in 0..MOST_TURNS {
         if line.len() >= room {
             return Ok(LineEnd::Room);
         }
@@ -85,7 +85,7 @@ pub(crate) fn skip_line<B: BufRead>(reader: &mut B) -> Result<(), ReadFault>
     ensures { OnOk result
         (Known (B.remaining reader.old) (B.remaining reader.new) PassesLine) }
 {
-    for _ in 0..TURNS {
+    for _ in 0..MOST_TURNS {
         if skip_piece(reader)? {
             return Ok(());
         }

@@ -1,9 +1,9 @@
 -- Lemmas on the lines of a control connection.
-use Rattle.std.proofs.Common.{◌≡◌, ℕ, List, [], ◌∷◌, refl, sym, subst, Option}
+use Rattle.std.proofs.Common.{◌≡◌, ℕ, true, false, List, [], ◌∷◌, refl, sym, subst, Option, Some, None}
 use Rattle.std.specs.Prelude.{Result, Ok, OnOk}
 use Rattle.std.proofs.lemmas.Result.{on_ok_weaker}
 use Rattle.bg_book.specs.Headline.{Headline}
-use Rattle.bg_book.specs.Routing.{Routing}
+use Rattle.bg_rollout.specs.Routing.{Routing}
 use Rattle.bg_report.specs.Reports.{report_text}
 use Rattle.bg_script.specs.declared.run_end.RunEnd.{RunEnd}
 use Rattle.std.specs.Io.KnownBytes.{Appends}
@@ -13,17 +13,17 @@ use Rattle.bg_operator.specs.declared.command.Command.TheVariants as command
 use Rattle.bg_operator.specs.declared.line_fault.LineFault.{LineFault}
 use Rattle.bg_operator.specs.Commands.{IsReadAs, line_reading}
 use Rattle.bg_operator.specs.Lines.{lines_of}
-use Rattle.bg_operator.specs.declared.operator_lines.NextLine.TheVariants as next_line
-use Rattle.bg_operator.specs.OperatorLines.{NextIs}
+use Rattle.bg_operator.specs.OperatorLines.{NextIs, orders_quit}
 use Rattle.bg_script.specs.declared.answer.Answer.{Answer}
 use Rattle.bg_script.specs.declared.answer.Answer.TheVariants as answer
-use Rattle.bg_book.specs.declared.calls.Control.{Control}
+use Rattle.bg_rollout.specs.declared.control.Control.{Control}
 use Rattle.bg_book.specs.declared.calls.Reply.{Reply}
 use Rattle.bg_script.specs.declared.control_side.BeforeOpen.TheVariants as before_open
 use Rattle.bg_script.specs.declared.control_side.ControlEnd.TheVariants as control_end
+use Rattle.bg_script.proofs.Quitting.{is_the_quit, not_quit}
 use Rattle.bg_script.specs.AnswerTexts.{answer_text}
-use Rattle.bg_script.specs.Scripts.{Written, Said, Reported, text_of, written_text}
-use Rattle.bg_script.specs.Connections.{AnsweredBy, AnswersAtDesk, AnswersBeforeOpen, ClosedAnswer, StepBeforeOpen, DeskStep, EventAnswer, MayBeAsked, WroteAnswers, WroteAtDesk, WroteReport}
+use Rattle.bg_script.specs.Scripts.{IsDropped, Written, Said, Reported, text_of, written_text}
+use Rattle.bg_script.specs.Connections.{AnsweredBy, AnswersAtDesk, AnswersBeforeOpen, ClosedAnswer, StepBeforeOpen, DeskStep, EventAnswer, MayBeAsked, Orders, WroteAnswers, WroteAtDesk, WroteReport}
 
 abbrev pub Step : Type 1
 Step = Result Command LineFault → Written → Type 0
@@ -41,47 +41,60 @@ goes_nowhere step first xs = λ last rest later answers appended. record { all =
 
 -- one more line is answered
 goes_on : (step : Step) (first now new : Option (List ℕ)) (read : Result Command LineFault) (written : Written) (xs ys zs : List ℕ)
-    → Goes step first now xs ys → NextIs (next_line.Read read) ys zs → (MayBeAsked read → step read written) → Appends now new (written_text written)
+    → Goes step first now xs ys → NextIs (Some read) ys zs → orders_quit read ≡ false → (MayBeAsked read → step read written) → Appends now new (written_text written)
     → Goes step first new xs zs
-goes_on step first now new read written xs ys zs p line s wrote = λ last rest later answers appended.
+goes_on step first now new read written xs ys zs p line other s wrote = λ last rest later answers appended.
     let more : AnsweredBy step (lines_of ys) rest (written ∷ later) =
-    subst (λ ls. AnsweredBy step ls rest (written ∷ later)) (sym line.1) ((read, line.2.0, s line.2.1), answers) in
+    subst (λ ls. AnsweredBy step ls rest (written ∷ later)) (sym line.1) ((read, line.2, s (not_quit read other)), answers) in
     p last rest (written ∷ later) more (Appends-trans now new last _ _ wrote appended)
 
 pub goes_on_closed : (first now new : Option (List ℕ)) (read : Result Command LineFault) (said : Answer) (xs ys zs : List ℕ)
-    → Goes StepBeforeOpen first now xs ys → NextIs (next_line.Read read) ys zs → (MayBeAsked read → ClosedAnswer read said) → Appends now new (answer_text said)
+    → Goes StepBeforeOpen first now xs ys → NextIs (Some read) ys zs → orders_quit read ≡ false → (MayBeAsked read → ClosedAnswer read said) → Appends now new (answer_text said)
     → Goes StepBeforeOpen first new xs zs
-goes_on_closed first now new read said xs ys zs p line s wrote = goes_on StepBeforeOpen first now new read (Said said) xs ys zs p line s wrote
+goes_on_closed first now new read said xs ys zs p line other s wrote = goes_on StepBeforeOpen first now new read (Said said) xs ys zs p line other s wrote
 
 pub goes_on_at_desk : (first now new : Option (List ℕ)) (read : Result Command LineFault) (xs ys zs : List ℕ)
-    → Goes DeskStep first now xs ys → NextIs (next_line.Read read) ys zs → WroteAtDesk read now new → Goes DeskStep first new xs zs
-goes_on_at_desk first now new read xs ys zs p line w = goes_on DeskStep first now new read w.written xs ys zs p line w.step w.appended
+    → Goes DeskStep first now xs ys → NextIs (Some read) ys zs → orders_quit read ≡ false → WroteAtDesk read now new → Goes DeskStep first new xs zs
+goes_on_at_desk first now new read xs ys zs p line other w = goes_on DeskStep first now new read w.written xs ys zs p line other w.step w.appended
 
 -- no further line is answered
 stops : (step : Step) (first now : Option (List ℕ)) (xs ys : List ℕ) → Goes step first now xs ys → WroteAnswers step first now (lines_of xs) (lines_of ys)
 stops step first now xs ys p = p now (lines_of ys) [] refl (Appends-nil now)
 
+-- the next line orders this
+ordered : (order : Command) (read : Result Command LineFault) (ys zs : List ℕ) → NextIs (Some read) ys zs → read ≡ Ok order
+    → Orders order (lines_of ys) (lines_of zs)
+ordered order read ys zs line is = (line.0, line.1, subst (λ r. IsReadAs (line_reading line.0) r) is line.2)
+
 pub opens : (first now : Option (List ℕ)) (read : Result Command LineFault) (name ports : List ℕ) (xs ys zs : List ℕ) → Goes StepBeforeOpen first now xs ys
-    → NextIs (next_line.Read read) ys zs → read ≡ Ok (command.Open name ports) → AnswersBeforeOpen (before_open.Open name ports) first now xs zs
+    → NextIs (Some read) ys zs → read ≡ Ok (command.Open name ports) → AnswersBeforeOpen (before_open.Open name ports) first now xs zs
 opens first now read name ports xs ys zs p line is = record {
   rest = lines_of ys;
   wrote = stops StepBeforeOpen first now xs ys p;
-  ends = (line.0, line.1, subst (λ r. IsReadAs (line_reading line.0) r) is line.2.0);
+  ends = ordered (command.Open name ports) read ys zs line is;
 }
 
-pub quits_before_open : (first now : Option (List ℕ)) (xs ys zs : List ℕ) → Goes StepBeforeOpen first now xs ys → NextIs next_line.Quit ys zs
-    → AnswersBeforeOpen before_open.Quit first now xs zs
-quits_before_open first now xs ys zs p line = record { rest = lines_of ys; wrote = stops StepBeforeOpen first now xs ys p; ends = line }
+pub quits_before_open : (first now : Option (List ℕ)) (read : Result Command LineFault) (xs ys zs : List ℕ) → Goes StepBeforeOpen first now xs ys
+    → NextIs (Some read) ys zs → orders_quit read ≡ true → AnswersBeforeOpen before_open.Quit first now xs zs
+quits_before_open first now read xs ys zs p line quit = record {
+  rest = lines_of ys;
+  wrote = stops StepBeforeOpen first now xs ys p;
+  ends = ordered command.Quit read ys zs line (is_the_quit read quit);
+}
 
-pub ends_before_open : (first now : Option (List ℕ)) (xs ys zs : List ℕ) → Goes StepBeforeOpen first now xs ys → NextIs next_line.End ys zs
+pub ends_before_open : (first now : Option (List ℕ)) (xs ys zs : List ℕ) → Goes StepBeforeOpen first now xs ys → NextIs None ys zs
     → AnswersBeforeOpen before_open.End first now xs zs
 ends_before_open first now xs ys zs p line = record { rest = lines_of ys; wrote = stops StepBeforeOpen first now xs ys p; ends = line }
 
-pub quits_at_desk : (first now : Option (List ℕ)) (xs ys zs : List ℕ) → Goes DeskStep first now xs ys → NextIs next_line.Quit ys zs
-    → AnswersAtDesk control_end.Quit first now xs zs
-quits_at_desk first now xs ys zs p line = record { rest = lines_of ys; wrote = stops DeskStep first now xs ys p; ends = line }
+pub quits_at_desk : (first now : Option (List ℕ)) (read : Result Command LineFault) (xs ys zs : List ℕ) → Goes DeskStep first now xs ys
+    → NextIs (Some read) ys zs → orders_quit read ≡ true → AnswersAtDesk control_end.Quit first now xs zs
+quits_at_desk first now read xs ys zs p line quit = record {
+  rest = lines_of ys;
+  wrote = stops DeskStep first now xs ys p;
+  ends = ordered command.Quit read ys zs line (is_the_quit read quit);
+}
 
-pub ends_at_desk : (first now : Option (List ℕ)) (xs ys zs : List ℕ) → Goes DeskStep first now xs ys → NextIs next_line.End ys zs
+pub ends_at_desk : (first now : Option (List ℕ)) (xs ys zs : List ℕ) → Goes DeskStep first now xs ys → NextIs None ys zs
     → AnswersAtDesk control_end.End first now xs zs
 ends_at_desk first now xs ys zs p line = record { rest = lines_of ys; wrote = stops DeskStep first now xs ys p; ends = line }
 
@@ -99,6 +112,10 @@ report_at_desk read first last r is wrote = on_ok_weaker r
 pub event_at_desk : (read : Result Command LineFault) (event : Control) (reply : Reply) → read ≡ Ok (command.Control event) → EventAnswer event reply
     → DeskStep read (Said (answer.Made reply))
 event_at_desk read event reply is told = subst (λ x. DeskStep x (Said (answer.Made reply))) (sym is) told
+
+pub compaction_at_desk : (read : Result Command LineFault) (count : ℕ) → read ≡ Ok command.Compact → ((book : Routing) × Headline book × IsDropped book count)
+    → DeskStep read (Said (answer.Compacted count))
+compaction_at_desk read count is told = subst (λ x. DeskStep x (Said (answer.Compacted count))) (sym is) told
 
 -- the report of a book was written
 pub report_written : (bytes : List ℕ) (first last : Option (List ℕ)) (r : Result Unit RunEnd) (book : Routing) → Headline book → bytes ≡ report_text book

@@ -1,3 +1,4 @@
+pub mod Quitting
 pub mod FoundInBytes
 pub mod ScriptSteps
 pub mod ControlSteps

@@ -1,10 +1,11 @@
 -- How the answers to the lines of a script are written.
 use Rattle.std.specs.Prelude.{ℕ, Bool, true, false, List, ◌++◌, codes}
-use Rattle.bg_book.specs.FaultNames.{open_fault_name}
+use Rattle.std.specs.Fmt.{decimal}
+use Rattle.bg_rollout.specs.FaultNames.{open_fault_name}
 use Rattle.bg_operator.specs.FaultNames.{line_fault_name}
 use Rattle.bg_report.specs.Replies.{refused, reply_text}
 use Rattle.bg_script.specs.declared.answer.Answer.{Answer}
-use Rattle.bg_script.specs.declared.answer.Answer.TheVariants.{Opened, OpenRefused, NotOpen, AlreadyOpen, Made, NotHere, OutOfMemory, Unread}
+use Rattle.bg_script.specs.declared.answer.Answer.TheVariants.{Opened, OpenRefused, NotOpen, AlreadyOpen, Made, Compacted, NotHere, OutOfMemory, Unread}
 
 -- the line of an answer
 abbrev pub answer_text : Answer → List ℕ
@@ -13,6 +14,7 @@ answer_text (OpenRefused fault) = refused (open_fault_name fault)
 answer_text NotOpen = refused (codes "NotOpen")
 answer_text AlreadyOpen = refused (codes "AlreadyOpen")
 answer_text (Made answer) = reply_text answer
+answer_text (Compacted count) = codes "compacted " ++ decimal count ++ codes "\n"
 answer_text NotHere = refused (codes "NotHere")
 answer_text OutOfMemory = refused (codes "OutOfMemory")
 answer_text (Unread fault) = codes "fault " ++ line_fault_name fault ++ codes "\n"

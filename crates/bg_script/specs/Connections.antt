@@ -1,19 +1,19 @@
 -- What the lines of a control connection are answered.
 use Rattle.std.specs.Prelude.{◌≡◌, ◌≢◌, ◌≤◌, ℕ, List, [], ◌∷◌, Option, None, Result, Ok, Err}
 use Rattle.std.specs.Io.KnownBytes.{Appends}
-use Rattle.bg_book.specs.declared.calls.Control.{Control}
+use Rattle.bg_rollout.specs.declared.control.Control.{Control}
 use Rattle.bg_book.specs.declared.calls.Reply.{Reply}
 use Rattle.bg_book.specs.declared.calls.Reply.TheVariants.{Done, ControlRefused}
-use Rattle.bg_book.specs.declared.control_fault.ControlFault.TheVariants as control_fault
+use Rattle.bg_rollout.specs.declared.control_fault.ControlFault.TheVariants as control_fault
+use Rattle.bg_book.specs.Desks.{StepsTo}
 use Rattle.bg_book.specs.Headline.{Headline}
-use Rattle.bg_book.specs.Refusals.{control_refusal, IsRefusedBy}
-use Rattle.bg_book.specs.Routing.{Routing}
+use Rattle.bg_rollout.specs.Refusals.{control_refusal, IsRefusedBy}
+use Rattle.bg_rollout.specs.Routing.{Routing}
 use Rattle.bg_operator.specs.declared.command.Command.{Command}
 use Rattle.bg_operator.specs.declared.command.Command.TheVariants as command
 use Rattle.bg_operator.specs.declared.line_fault.LineFault.{LineFault}
 use Rattle.bg_operator.specs.Commands.{IsReadAs, line_reading}
 use Rattle.bg_operator.specs.Lines.{lines_of}
-use Rattle.bg_operator.specs.OperatorLines.{IsQuit}
 use Rattle.bg_script.specs.declared.answer.Answer.{Answer}
 use Rattle.bg_script.specs.declared.answer.Answer.TheVariants as answer
 use Rattle.bg_script.specs.declared.control_side.Asked.{Asked}
@@ -22,7 +22,7 @@ use Rattle.bg_script.specs.declared.control_side.BeforeOpen.{BeforeOpen}
 use Rattle.bg_script.specs.declared.control_side.BeforeOpen.TheVariants as before_open
 use Rattle.bg_script.specs.declared.control_side.ControlEnd.{ControlEnd}
 use Rattle.bg_script.specs.declared.control_side.ControlEnd.TheVariants as control_end
-use Rattle.bg_script.specs.Scripts.{Written, Said, Reported, text_of, written_text}
+use Rattle.bg_script.specs.Scripts.{IsDropped, Written, Said, Reported, text_of, written_text}
 
 -- a line that was read so is one to be answered
 abbrev pub MayBeAsked : Result Command LineFault → Type 0
@@ -36,6 +36,7 @@ ClosedAnswer (Ok (command.Control event)) said = said ≡ answer.NotOpen
 ClosedAnswer (Ok (command.Enter seat service)) said = said ≡ answer.NotHere
 ClosedAnswer (Ok (command.Leave seat)) said = said ≡ answer.NotHere
 ClosedAnswer (Ok command.Report) said = said ≡ answer.NotOpen
+ClosedAnswer (Ok command.Compact) said = said ≡ answer.NotOpen
 ClosedAnswer (Ok command.Quit) said = ⊥
 
 -- while no book is open a line that was read so is answered so; it opens none
@@ -43,10 +44,11 @@ abbrev pub StepBeforeOpen : Result Command LineFault → Written → Type 0
 StepBeforeOpen read (Said said) = ClosedAnswer read said
 StepBeforeOpen read (Reported book) = ⊥
 
--- what an event is answered by a book
+-- what an event is answered by a book: the number of outcomes by which it stepped, or its refusal
 abbrev pub EventReply : Routing → Control → Reply → Type 0
 EventReply book event (Done outcomes) =
     (control_refusal book event ≡ None) × (outcomes ≤ 140)
+    × ((new : Routing) × StepsTo book event new outcomes)
 EventReply book event (ControlRefused fault) =
     IsRefusedBy (control_refusal book event) control_fault.OutOfMemory fault
 EventReply book event _ = ⊥
@@ -65,6 +67,12 @@ abbrev pub ReportStep : Written → Type 0
 ReportStep (Reported book) = Headline book
 ReportStep (Said said) = said ≡ answer.OutOfMemory
 
+-- the number of entries that such a book drops when it is compacted
+abbrev pub CompactionStep : Written → Type 0
+CompactionStep (Said (answer.Compacted count)) =
+    (book : Routing) × Headline book × IsDropped book count
+CompactionStep _ = ⊥
+
 -- what a line that was read so is answered at a desk
 abbrev pub DeskStep : Result Command LineFault → Written → Type 0
 DeskStep (Err fault) written = written ≡ Said (answer.Unread fault)
@@ -73,12 +81,14 @@ DeskStep (Ok (command.Control event)) written = EventStep event written
 DeskStep (Ok (command.Enter seat service)) written = written ≡ Said answer.NotHere
 DeskStep (Ok (command.Leave seat)) written = written ≡ Said answer.NotHere
 DeskStep (Ok command.Report) written = ReportStep written
+DeskStep (Ok command.Compact) written = CompactionStep written
 DeskStep (Ok command.Quit) written = ⊥
 
 -- what a line that was read so asks of an open book, or what it is answered without one
 abbrev pub Asks : Result Command LineFault → Asked → Type 0
 Asks read (asked.Event event) = read ≡ Ok (command.Control event)
 Asks read asked.Report = read ≡ Ok command.Report
+Asks read asked.Compaction = read ≡ Ok command.Compact
 Asks read (asked.Nothing said) = DeskStep read (Said said)
 
 -- from first to last the report was written, or that memory for it was refused
@@ -109,16 +119,20 @@ pub record WroteAnswers (step : Result Command LineFault → Written → Type 0)
   pub answers : AnsweredBy step lines rest all
   pub appended : Appends first last (text_of all)
 
+-- the first line orders this, and the later ones are unread
+abbrev pub Orders : Command → List (List ℕ) → List (List ℕ) → Type 0
+Orders command lines later = (line : List ℕ) × (lines ≡ line ∷ later)
+    × IsReadAs (line_reading line) (Ok command)
+
 -- why lines are not answered any more while no book is open, where these are unread then
 abbrev pub EndsBeforeOpen : BeforeOpen → List (List ℕ) → List (List ℕ) → Type 0
-EndsBeforeOpen (before_open.Open name ports) rest later = (line : List ℕ) × (rest ≡ line ∷ later)
-    × IsReadAs (line_reading line) (Ok (command.Open name ports))
-EndsBeforeOpen before_open.Quit rest later = IsQuit rest later
+EndsBeforeOpen (before_open.Open name ports) rest later = Orders (command.Open name ports) rest later
+EndsBeforeOpen before_open.Quit rest later = Orders command.Quit rest later
 EndsBeforeOpen before_open.End rest later = rest ≡ []
 
 -- why lines are not answered any more at a desk, where these are unread then
 abbrev pub EndsAtDesk : ControlEnd → List (List ℕ) → List (List ℕ) → Type 0
-EndsAtDesk control_end.Quit rest later = IsQuit rest later
+EndsAtDesk control_end.Quit rest later = Orders command.Quit rest later
 EndsAtDesk control_end.End rest later = rest ≡ []
 
 -- from first to last the lines of xs were answered while no book is open; ys are unread

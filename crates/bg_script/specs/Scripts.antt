@@ -1,25 +1,26 @@
 -- What the lines of a script are answered.
-use Rattle.std.specs.Prelude.{◌≡◌, ℕ, Bool, false, ◌||◌, List, [], ◌∷◌, ⊤, Option, None, Result, Ok, Err, if◌then◌else◌}
+use Rattle.std.specs.Prelude.{◌≡◌, ◌+◌, ℕ, Bool, false, ◌||◌, length, List, [], ◌∷◌, ⊤, Option, None, Result, Ok, Err, if◌then◌else◌}
 use Rattle.std.specs.List.{flat_map}
 use Rattle.std.specs.Io.KnownBytes.{Appends}
 use Rattle.bg_strategy.specs.declared.strategy.Strategy.{Strategy}
 use Rattle.bg_ledger.specs.declared.holding.Holding.{Holding}
 use Rattle.bg_book.specs.declared.calls.Call.{Call}
 use Rattle.bg_book.specs.declared.calls.Call.TheVariants as call
-use Rattle.bg_book.specs.declared.fault.OpenFault.TheVariants as open_fault
-use Rattle.bg_book.specs.Refusals.{open_refusal, usual_limits, IsRefusedBy}
-use Rattle.bg_book.specs.Changes.{opened, NewSeats}
-use Rattle.bg_book.specs.Routing.{Routing}
+use Rattle.bg_rollout.specs.declared.fault.OpenFault.TheVariants as open_fault
+use Rattle.bg_rollout.specs.Refusals.{open_refusal, usual_limits, IsRefusedBy}
+use Rattle.bg_rollout.specs.Changes.{opened, NewSeats}
+use Rattle.bg_rollout.specs.Compaction.{with_compacted}
+use Rattle.bg_rollout.specs.Routing.{Routing}
 use Rattle.bg_book.specs.Runs.{CallStep}
 use Rattle.bg_operator.specs.declared.command.Command.{Command}
-use Rattle.bg_operator.specs.declared.command.Command.TheVariants.{Open, Control, Enter, Leave, Report, Quit}
+use Rattle.bg_operator.specs.declared.command.Command.TheVariants.{Open, Control, Enter, Leave, Report, Compact, Quit}
 use Rattle.bg_operator.specs.declared.line_fault.LineFault.{LineFault}
 use Rattle.bg_operator.specs.Commands.{IsReadAs, line_reading}
 use Rattle.bg_operator.specs.Lines.{lines_of}
 use Rattle.bg_operator.specs.Parting.{part_of, rest_of}
 use Rattle.bg_report.specs.Reports.{report_text}
 use Rattle.bg_script.specs.declared.answer.Answer.{Answer}
-use Rattle.bg_script.specs.declared.answer.Answer.TheVariants.{Opened, OpenRefused, NotOpen, AlreadyOpen, Made, Unread}
+use Rattle.bg_script.specs.declared.answer.Answer.TheVariants.{Opened, OpenRefused, NotOpen, AlreadyOpen, Made, Compacted, Unread}
 use Rattle.bg_script.specs.declared.finding.Finding.{Finding}
 use Rattle.bg_script.specs.declared.finding.Finding.TheVariants.{Means}
 use Rattle.bg_script.specs.AnswerTexts.{answer_text, is_fault}
@@ -68,6 +69,7 @@ ClosedStep s count (Ok (Enter seat service)) written next =
     Stays (Closed s count) NotOpen written next
 ClosedStep s count (Ok (Leave seat)) written next = Stays (Closed s count) NotOpen written next
 ClosedStep s count (Ok Report) written next = Stays (Closed s count) NotOpen written next
+ClosedStep s count (Ok Compact) written next = Stays (Closed s count) NotOpen written next
 ClosedStep s count (Ok Quit) written next = ⊥
 
 -- what a call is answered, by the rules of the book
@@ -76,7 +78,17 @@ CallMade book seats made (Said (Made reply)) (Running new new_seats) =
     CallStep book seats made reply new new_seats
 CallMade book seats made _ _ = ⊥
 
--- what a line that was read so is answered while a book is open: only a call changes it
+-- so many entries are dropped from the book's history when it is compacted
+abbrev pub IsDropped : Routing → ℕ → Type 0
+IsDropped book count = count + length (with_compacted book).past ≡ length book.past
+
+-- the history is compacted, and the answer is the number of entries that were dropped
+abbrev pub CompactedStep : Routing → List Holding → Written → Stage → Type 0
+CompactedStep book seats (Said (Compacted count)) next =
+    IsDropped book count × (next ≡ Running (with_compacted book) seats)
+CompactedStep book seats _ next = ⊥
+
+-- what a line that was read so is answered while a book is open: only a call and a compaction change it
 abbrev pub RunningStep : Routing → List Holding → Result Command LineFault → Written → Stage
     → Type 0
 RunningStep book seats (Err fault) written next =
@@ -91,6 +103,7 @@ RunningStep book seats (Ok (Leave seat)) written next =
     CallMade book seats (call.Leave seat) written next
 RunningStep book seats (Ok Report) written next =
     (written ≡ Reported book) × (next ≡ Running book seats)
+RunningStep book seats (Ok Compact) written next = CompactedStep book seats written next
 RunningStep book seats (Ok Quit) written next = ⊥
 
 -- a line that was read so is answered so, and the script stands so then; `quit` is not answered

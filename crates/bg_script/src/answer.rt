@@ -21,6 +21,8 @@ pub enum Answer {
     AlreadyOpen,
     /// The book answered a call.
     Made(Reply),
+    /// So many entries were dropped from the history.
+    Compacted(u64),
     /// Requests enter and leave elsewhere, by the workers.
     NotHere,
     /// Memory for the report was refused.
@@ -41,6 +43,7 @@ impl Answer {
             | Answer::NotOpen
             | Answer::AlreadyOpen
             | Answer::Made(_)
+            | Answer::Compacted(_)
             | Answer::NotHere
             | Answer::OutOfMemory => false,
         }
@@ -58,6 +61,7 @@ pub fn write_answer<W: Write>(answer: &Answer, writer: &mut W) -> io::Result<()>
         Answer::NotOpen => writeln!(writer, "refused NotOpen"),
         Answer::AlreadyOpen => writeln!(writer, "refused AlreadyOpen"),
         Answer::Made(reply) => bg_report::reply(reply, writer),
+        Answer::Compacted(count) => writeln!(writer, "compacted {count}"),
         Answer::NotHere => writeln!(writer, "refused NotHere"),
         Answer::OutOfMemory => writeln!(writer, "refused OutOfMemory"),
         Answer::Unread(fault) => writeln!(writer, "fault {}", fault.name()),

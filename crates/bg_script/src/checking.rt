@@ -19,10 +19,8 @@ pub fn check<R: Read, W: Write>(alloc: Global, reader: &mut R, writer: &mut W) -
         (Checks (W.contents writer.old) (W.contents writer.new) status)) }
 {
     let finding = finding_of_input(alloc, reader)?;
-    match write_finding(&finding, writer) {
-        Ok(()) => Ok(finding.status()),
-        Err(_) => Err(RunEnd::WriteFailed),
-    }
+    write_finding(&finding, writer)?;
+    Ok(finding.status())
 }
 
 /// What the whole input turns out to be, read as the JSON text of a strategy. An input above 1,048,576

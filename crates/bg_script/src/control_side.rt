@@ -10,10 +10,10 @@ ghost use Rattle.bg_script.specs.AnswerTexts.{answer_text};
 ghost use Rattle.bg_script.specs.Connections.{AnswersAtDesk, AnswersBeforeOpen, Asks, ClosedAnswer, EventAnswer, MayBeAsked, WroteAtDesk, WroteReport};
 
 use crate::answer::{Answer, write_answer};
-use crate::run_end::{MOST_LINES, RunEnd};
-use bg_book::{Book, Control, Desk, Question, Reply};
+use crate::run_end::RunEnd;
+use bg_book::{Book, Control, ControlFault, Desk, Question, Reply};
 use bg_ledger::Names;
-use bg_operator::{Command, LineFault, NextLine, OperatorLines};
+use bg_operator::{Command, LineFault, MOST_TURNS, OperatorLines, is_quit};
 use bg_revisions::{Name, Ports};
 use std::alloc::Global;
 use std::io::{BufRead, Write};
@@ -53,12 +53,13 @@ pub fn answer_before_open<B: BufRead, W: Write>(
     ensures { IfOk result (λ end. Known (B.remaining reader.old) (B.remaining reader.new)
         (AnswersBeforeOpen end (W.contents writer.old) (W.contents writer.new))) }
 {
-    for _ in 0..MOST_LINES {
-        let read = match lines.next(reader)? {
-            NextLine::Read(read) => read,
-            NextLine::Quit => return Ok(BeforeOpen::Quit),
-            NextLine::End => return Ok(BeforeOpen::End),
+    for _ in 0..MOST_TURNS {
+        let Some(read) = lines.next(reader)? else {
+            return Ok(BeforeOpen::End);
         };
+        if is_quit(&read) {
+            return Ok(BeforeOpen::Quit);
+        }
         match opening(read) {
             Ok((name, ports)) => return Ok(BeforeOpen::Open { name, ports }),
             Err(answer) => tell(&answer, writer)?,
@@ -75,7 +76,9 @@ fn opening(read: Result<Command, LineFault>) -> Result<(Name, Ports), Answer>
     match read {
         Ok(Command::Open { name, ports }) => Ok((name, ports)),
         Ok(Command::Enter { .. } | Command::Leave { .. }) => Err(Answer::NotHere),
-        Ok(Command::Control(_) | Command::Report | Command::Quit) => Err(Answer::NotOpen),
+        Ok(Command::Control(_) | Command::Report | Command::Compact | Command::Quit) => {
+            Err(Answer::NotOpen)
+        }
         Err(fault) => Err(Answer::Unread(fault)),
     }
 }
@@ -83,7 +86,8 @@ fn opening(read: Result<Command, LineFault>) -> Result<(Name, Ports), Answer>
 /// Answers each line by the book of a desk, up to `quit`, which is not answered, or to the end of
 /// the connection.
 ///
-/// An event is answered as [`Desk::control`] answers it, and `report` the report; `open` is answered
+/// An event is answered as [`Desk::control`] answers it (where that is `HistoryFull`, after the history was
+/// compacted), `report` the report, and `compact` the number of entries that were dropped; `open` is answered
 /// `refused AlreadyOpen`, `enter` and `leave` `refused NotHere`, and a line that orders nothing its
 /// fault. Nothing is written while the desk is locked. A `RunEnd` comes where a read or a write
 /// fails, where memory for a line is refused, and after 2^24 lines.
@@ -98,12 +102,13 @@ pub fn answer_at_desk<N: Names, R: Wait, B: BufRead, W: Write>(
     ensures { IfOk result (λ end. Known (B.remaining reader.old) (B.remaining reader.new)
         (AnswersAtDesk end (W.contents writer.old) (W.contents writer.new))) }
 {
-    for _ in 0..MOST_LINES {
-        let read = match lines.next(reader)? {
-            NextLine::Read(read) => read,
-            NextLine::Quit => return Ok(ControlEnd::Quit),
-            NextLine::End => return Ok(ControlEnd::End),
+    for _ in 0..MOST_TURNS {
+        let Some(read) = lines.next(reader)? else {
+            return Ok(ControlEnd::End);
         };
+        if is_quit(&read) {
+            return Ok(ControlEnd::Quit);
+        }
         answer_line(rt, alloc, desk, read, writer)?;
     }
     Err(RunEnd::ReadFailed)
@@ -122,6 +127,7 @@ fn answer_line<N: Names, R: Wait, W: Write>(
     match what_is_asked(read) {
         Asked::Event(event) => tell(&Answer::Made(event_reply(rt, desk, &event)), writer),
         Asked::Report => tell_report(rt, alloc, desk, writer),
+        Asked::Compaction => tell(&Answer::Compacted(desk.compact(rt)), writer),
         Asked::Nothing(answer) => tell(&answer, writer),
     }
 }
@@ -133,6 +139,8 @@ enum Asked {
     Event(Control),
     /// The report.
     Report,
+    /// That its history is compacted.
+    Compaction,
     /// Nothing; the line is answered so.
     Nothing(Answer),
 }
@@ -143,14 +151,28 @@ fn what_is_asked(read: Result<Command, LineFault>) -> Asked
     match read {
         Ok(Command::Control(event)) => Asked::Event(event),
         Ok(Command::Report) => Asked::Report,
+        Ok(Command::Compact) => Asked::Compaction,
         Ok(Command::Open { .. } | Command::Quit) => Asked::Nothing(Answer::AlreadyOpen),
         Ok(Command::Enter { .. } | Command::Leave { .. }) => Asked::Nothing(Answer::NotHere),
         Err(fault) => Asked::Nothing(Answer::Unread(fault)),
     }
 }
 
-/// What the book of a desk answers to an event.
+/// What the book of a desk answers to an event. Where its history is full, the entries of closed requests are
+/// dropped, and it is asked once more.
 fn event_reply<N: Names, R: Wait>(rt: &R, desk: &Desk<N>, event: &Control) -> Reply
+    ensures { EventAnswer event.now result }
+{
+    let reply = reply_at_once(rt, desk, event);
+    if !matches!(reply, Reply::ControlRefused(ControlFault::HistoryFull)) {
+        return reply;
+    }
+    let _dropped = desk.compact(rt);
+    reply_at_once(rt, desk, event)
+}
+
+/// What the book of a desk answers to an event as it is.
+fn reply_at_once<N: Names, R: Wait>(rt: &R, desk: &Desk<N>, event: &Control) -> Reply
     ensures { EventAnswer event.now result }
 {
     match desk.control(rt, event) {
@@ -198,27 +220,14 @@ fn tell<W: Write>(answer: &Answer, writer: &mut W) -> Result<(), RunEnd>
     ensures { OnOk result (Appends (W.contents writer.old) (W.contents writer.new)
         (answer_text answer.now)) }
 {
-    match write_answer(answer, writer) {
-        Ok(()) => flushed(writer),
-        Err(_) => Err(RunEnd::WriteFailed),
-    }
+    write_answer(answer, writer)?;
+    Ok(writer.flush()?)
 }
 
 /// Writes a text, and flushes it.
 fn write_through<W: Write>(text: &[u8], writer: &mut W) -> Result<(), RunEnd>
     ensures { OnOk result (Appends (W.contents writer.old) (W.contents writer.new) text.now) }
 {
-    match writer.write_all(text) {
-        Ok(()) => flushed(writer),
-        Err(_) => Err(RunEnd::WriteFailed),
-    }
-}
-
-fn flushed<W: Write>(writer: &mut W) -> Result<(), RunEnd>
-    ensures { Keeps (W.contents writer.old) (W.contents writer.new) }
-{
-    match writer.flush() {
-        Ok(()) => Ok(()),
-        Err(_) => Err(RunEnd::WriteFailed),
-    }
+    writer.write_all(text)?;
+    Ok(writer.flush()?)
 }

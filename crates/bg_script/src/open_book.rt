@@ -3,7 +3,7 @@ ghost use Rattle.std.specs.Prelude.{◌≡◌, ◌≤◌, [], List, IfOk, IfErr,
 ghost use Rattle.bg_ledger.specs.Blanks.{AreAllFor};
 ghost use Rattle.bg_ledger.specs.declared.holding.Holding.{Holding};
 ghost use Rattle.bg_history.specs.Requests.{open_requests};
-ghost use Rattle.bg_book.specs.Routing.{Routing};
+ghost use Rattle.bg_rollout.specs.Routing.{Routing};
 ghost use Rattle.bg_book.specs.Runs.{AreOut, CallStep, LeavesAll};
 ghost use Rattle.bg_script.specs.declared.answer.Answer.TheVariants.{Opened, OpenRefused};
 ghost use Rattle.bg_script.specs.Scripts.{OpenStep, Said, Reported, Closed, Running};
@@ -40,7 +40,7 @@ pub struct OpenBook<N: Names> {
 
 impl<N: Names> Model for OpenBook<N> {
     ghost use Rattle.std.specs.Prelude.{◌≡◌, true};
-    ghost use Rattle.bg_book.specs.Gathering.{are_all};
+    ghost use Rattle.bg_rollout.specs.Gathering.{are_all};
     ghost use Rattle.bg_script.specs.Serving.{OpenState};
 
     ghost Value = { OpenState };
@@ -121,6 +121,7 @@ impl<N: Names> OpenBook<N> {
             Ok(Command::Enter { seat, service }) => Call::Enter { seat, service },
             Ok(Command::Leave { seat }) => Call::Leave { seat },
             Ok(Command::Report) => return write_report(&self.book, writer),
+            Ok(Command::Compact) => return say(Answer::Compacted(self.book.compact()), writer),
             Ok(Command::Open { .. } | Command::Quit) => return say(Answer::AlreadyOpen, writer),
             Err(fault) => return say(Answer::Unread(fault), writer),
         };
@@ -155,10 +156,8 @@ impl<N: Names> OpenBook<N> {
 pub fn say<W: Write>(answer: Answer, writer: &mut W) -> Result<bool, RunEnd>
     ensures { IfOk result (Wrote (Said answer) (W.contents writer.old) (W.contents writer.new)) }
 {
-    match write_answer(&answer, writer) {
-        Ok(()) => Ok(answer.is_fault()),
-        Err(_) => Err(RunEnd::WriteFailed),
-    }
+    write_answer(&answer, writer)?;
+    Ok(answer.is_fault())
 }
 
 /// Writes the report, which is no fault.
@@ -166,8 +165,6 @@ fn write_report<N: Names, W: Write>(book: &Book<N>, writer: &mut W) -> Result<bo
     ensures { IfOk result
         (Wrote (Reported book.now) (W.contents writer.old) (W.contents writer.new)) }
 {
-    match bg_report::report(book, writer) {
-        Ok(()) => Ok(false),
-        Err(_) => Err(RunEnd::WriteFailed),
-    }
+    bg_report::report(book, writer)?;
+    Ok(false)
 }

@@ -8,9 +8,9 @@ ghost use Rattle.bg_script.specs.Serving.{RanOpened, StepRead};
 use crate::answer::Answer;
 use crate::finding::{Finding, finding_in, write_finding};
 use crate::open_book::{OpenBook, Terms, say};
-use crate::run_end::{MOST_LINES, RunEnd};
+use crate::run_end::RunEnd;
 use bg_ledger::{Blanks, Names};
-use bg_operator::{Command, LineFault, NextLine, OperatorLines, part_before_script};
+use bg_operator::{Command, LineFault, MOST_TURNS, OperatorLines, is_quit, part_before_script};
 use std::alloc::Global;
 use std::io::{BufRead, BufReader, Read, Write};
 use std::marker::Brand;
@@ -54,10 +54,8 @@ pub fn replay<R: Read, W: Write>(
 fn refuse<W: Write>(finding: &Finding, writer: &mut W) -> Result<u8, RunEnd>
     ensures { IfOk result (Refuses finding.now (W.contents writer.old) (W.contents writer.new)) }
 {
-    match write_finding(finding, writer) {
-        Ok(()) => Ok(finding.status()),
-        Err(_) => Err(RunEnd::WriteFailed),
-    }
+    write_finding(finding, writer)?;
+    Ok(finding.status())
 }
 
 /// Answers each line up to the end or `quit`. Returns whether a fault was among the answers.
@@ -72,10 +70,13 @@ fn run<B: BufRead, W: Write>(
         (W.contents writer.new) faulted)) }
 {
     let mut faulted = false;
-    for _ in 0..MOST_LINES {
-        let NextLine::Read(read) = lines.next(reader)? else {
+    for _ in 0..MOST_TURNS {
+        let Some(read) = lines.next(reader)? else {
             return Ok(faulted);
         };
+        if is_quit(&read) {
+            return Ok(faulted);
+        }
         match run_open::<Brand, B, W>(terms, Blanks::new(), &read, lines, reader, writer) {
             Ok(end) => {
                 let later = end?;
@@ -144,10 +145,13 @@ fn answer_lines<N: Names, B: BufRead, W: Write>(
         (W.contents writer.new) faulted)) }
 {
     let mut faulted = false;
-    for _ in 0..MOST_LINES {
-        let NextLine::Read(read) = lines.next(reader)? else {
+    for _ in 0..MOST_TURNS {
+        let Some(read) = lines.next(reader)? else {
             return Ok(faulted);
         };
+        if is_quit(&read) {
+            return Ok(faulted);
+        }
         let fault = opened.serve(read, writer)?;
         faulted |= fault;
     }

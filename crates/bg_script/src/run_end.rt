@@ -4,10 +4,8 @@ ghost use Rattle.bg_script.specs.declared.run_end.RunEnd.TheVariants as run_end;
 
 use bg_operator::ReadFault;
 use std::alloc::AllocError;
+use std::io;
 use thiserror::Error;
-
-/// After so many lines a script or a control connection is given up.
-pub(crate) const MOST_LINES: u32 = 1 << 24;
 
 /// Why a run of `check` or of `replay` ends before its end. What was written by then is of no use.
 #[derive(Clone, Copy, Debug, Drop, PartialEq, Eq, Error)]
@@ -28,6 +26,13 @@ impl From<AllocError> for RunEnd {
 
     fn from(_refused: AllocError) -> RunEnd {
         RunEnd::OutOfMemory
+    }
+}
+
+/// Output alone fails by such an error: input fails by a [`ReadFault`].
+impl From<io::Error> for RunEnd {
+    fn from(_unwritten: io::Error) -> RunEnd {
+        RunEnd::WriteFailed
     }
 }
 

@@ -1,6 +1,7 @@
 //! Connections that are forwarded.
 
 mod connections;
+mod doors;
 mod failures;
 mod fakes;
 mod messages;

@@ -1,3 +1,5 @@
 //! The list of entries.
 
+mod audit;
 mod entries;
+mod sizes;

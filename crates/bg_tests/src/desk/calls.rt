@@ -1,6 +1,6 @@
 //! The calls of a list, made at a desk.
 ghost use Rattle.std.specs.Prelude.{◌≡◌};
-ghost use Rattle.bg_book.specs.Gathering.{indices};
+ghost use Rattle.bg_rollout.specs.Gathering.{indices};
 
 use bg_book::laws::same_order;
 use bg_book::{Call, Desk, Reply};

@@ -1,6 +1,6 @@
 //! Scripts through a desk, on one thread: it answers and records what the book answers and records.
 ghost use Rattle.std.specs.Prelude.{◌≡◌, true, ⊤};
-ghost use Rattle.bg_book.specs.Gathering.{are_all, indices};
+ghost use Rattle.bg_rollout.specs.Gathering.{are_all, indices};
 ghost use Rattle.bg_ledger.specs.Blanks.{AreAllFor};
 
 use super::calls::make;
@@ -38,6 +38,8 @@ struct Played {
 trait Player {
     fn call(&mut self, call: &Call) -> Reply;
 
+    fn compact(&mut self) -> u64;
+
     fn report(&self, text: &mut Vec<u8>) -> io::Result<()>;
 }
 
@@ -52,6 +54,10 @@ impl<N: Names> Player for AtBook<N> {
     fn call(&mut self, call: &Call) -> Reply {
         lent();
         self.book.call(self.seats.as_mut_slice(), call)
+    }
+
+    fn compact(&mut self) -> u64 {
+        self.book.compact()
     }
 
     fn report(&self, text: &mut Vec<u8>) -> io::Result<()> {
@@ -87,6 +93,10 @@ impl<N: Names, R: Wait> Player for AtDesk<'_, N, R> {
         make(self.rt, &self.desk, self.seats.as_mut_slice(), call)
     }
 
+    fn compact(&mut self) -> u64 {
+        self.desk.compact(self.rt)
+    }
+
     fn report(&self, text: &mut Vec<u8>) -> io::Result<()> {
         self.desk.look(self.rt, Report { text })
     }
@@ -102,6 +112,7 @@ fn play<P: Player>(script: &Script, player: &mut P, answers: &mut Vec<u8>) -> Re
             }
             Command::Leave { seat } => reply(&player.call(&Call::Leave { seat }), answers)?,
             Command::Report => player.report(answers)?,
+            Command::Compact => writeln!(answers, "compacted {}", player.compact())?,
             Command::Open { .. } | Command::Quit => return Err(LineFault::UnknownWord.into()),
         }
     }

@@ -1,7 +1,19 @@
 //! The scripts that are played at a book and at a desk.
 
 /// What `blueGreen` has beside the active service, and the lines after `open v1 9001 9002`.
-pub(super) const ROWS: [(&str, &str); 16] = [
+pub(super) const ROWS: [(&str, &str); 17] = [
+    // drops the entries of closed requests, and of neighbouring ticks all but the last
+    (
+        "",
+        "available 1 2
+enter 0 active
+enter 1 active
+leave 0
+compact
+tick 1
+tick 2
+compact",
+    ),
     // switches and scales down
     (
         "",

@@ -1,6 +1,6 @@
 //! Threads at one desk.
 ghost use Rattle.std.specs.Prelude.{◌≡◌, IfOk};
-ghost use Rattle.bg_book.specs.Gathering.{indices};
+ghost use Rattle.bg_rollout.specs.Gathering.{indices};
 ghost use Rattle.bg_book.specs.Runs.{AreOut};
 ghost use Rattle.bg_ledger.specs.Blanks.{AreAllFor};
 

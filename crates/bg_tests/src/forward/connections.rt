@@ -1,7 +1,7 @@
 //! One connection at the seat of a book, over memory.
 ghost use Rattle.std.specs.Prelude.{◌≡◌, []};
 ghost use Rattle.bg_forward.specs.Buffers.{held};
-ghost use Rattle.bg_book.specs.Gathering.{indices};
+ghost use Rattle.bg_rollout.specs.Gathering.{indices};
 ghost use Rattle.bg_ledger.specs.Blanks.{AreAllFor};
 
 use super::fakes::{Endpoint, Line, MANY, Seen, Shut};

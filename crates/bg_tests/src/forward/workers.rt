@@ -1,6 +1,6 @@
 //! Workers, each in a thread of its own.
 ghost use Rattle.std.specs.Prelude.{◌≡◌, length};
-ghost use Rattle.bg_book.specs.Gathering.{indices};
+ghost use Rattle.bg_rollout.specs.Gathering.{indices};
 ghost use Rattle.bg_forward.specs.Seats.{AllOut, AllWorked};
 ghost use Rattle.bg_ledger.specs.Blanks.{AreAllFor};
 

@@ -5,4 +5,4 @@ use Rattle.bg_operator.proofs.operator_lines.line_read.Goals as goal
 pub returns-in-TooLong : goal.returns-in-TooLong
 returns-in-TooLong c xs ys given =
     let long = rw c.in-TooLong.is at given in
-    (long.0, long.1, (inl (sym (is_too_long long.0 long.2)), λ e. cc))
+    (long.0, long.1, inl (sym (is_too_long long.0 long.2)))

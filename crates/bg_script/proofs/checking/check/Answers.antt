@@ -1,7 +1,7 @@
 use Rattle.bg_script.proofs.FoundInBytes.{checks_all}
 use Rattle.bg_script.proofs.checking.check.Goals as goal
 
-pub returns-in-Ok : goal.returns-in-Ok
-returns-in-Ok g c =
+pub returns : goal.returns
+returns g c =
     checks_all (g.R.Read.remaining c.args.reader.now) _ _ c.in_ok-finding.finding c.status.result
-    c.in_ok-finding.ensures c.in-Ok.ensures c.status.ensures
+    c.in_ok-finding.ensures c.in_ok-write_finding.ensures c.status.ensures

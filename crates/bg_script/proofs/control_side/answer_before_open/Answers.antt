@@ -1,24 +1,27 @@
+use Rattle.std.proofs.Common.{sym, ◌∙◌}
 use Rattle.bg_script.specs.declared.control_side.BeforeOpen.TheVariants as before_open
 use Rattle.bg_operator.specs.OperatorLines.{NextIs}
 use Rattle.bg_script.specs.Connections.{AnswersBeforeOpen, StepBeforeOpen}
 use Rattle.bg_script.proofs.ControlSteps.{Goes, ends_before_open, goes_nowhere, goes_on_closed, opens, quits_before_open}
+use Rattle.bg_script.proofs.Quitting.{none_of}
 use Rattle.bg_script.proofs.ScriptSteps.{Known-both, Known-self}
 use Rattle.bg_script.proofs.control_side.answer_before_open.Goals as goal
 
-pub returns-in-Quit : goal.returns-in-Quit
-returns-in-Quit g c =
+pub returns-then-is_quit : goal.returns-then-is_quit
+returns-then-is_quit g c =
     let first = g.W.Write.contents c.args.writer.now in
     let now = g.W.Write.contents c.loop.writer in
     Known-both (Goes StepBeforeOpen first now) (NextIs c.in_ok-read.field-0) (AnswersBeforeOpen before_open.Quit first now) _ _ _
-    (λ xs ys zs p q. quits_before_open first now xs ys zs p (rw c.in-Quit.is at q))
+    (λ xs ys zs p q. quits_before_open first now c.in-Some.read xs ys zs p (rw c.in-Some.is at q) (sym c.is_quit.ensures ∙ c.if-is_quit.true))
     c.loop.invariant c.in_ok-read.ensures
 
-pub returns-in-End : goal.returns-in-End
-returns-in-End g c =
+pub returns-in_default : goal.returns-in_default
+returns-in_default g c =
     let first = g.W.Write.contents c.args.writer.now in
     let now = g.W.Write.contents c.loop.writer in
+    let none = none_of c.in_ok-read.field-0 c.in_default.not-Some in
     Known-both (Goes StepBeforeOpen first now) (NextIs c.in_ok-read.field-0) (AnswersBeforeOpen before_open.End first now) _ _ _
-    (λ xs ys zs p q. ends_before_open first now xs ys zs p (rw c.in-End.is at q))
+    (λ xs ys zs p q. ends_before_open first now xs ys zs p (rw none at q))
     c.loop.invariant c.in_ok-read.ensures
 
 pub returns-in-Ok : goal.returns-in-Ok
@@ -26,7 +29,7 @@ returns-in-Ok g c =
     let first = g.W.Write.contents c.args.writer.now in
     let now = g.W.Write.contents c.loop.writer in
     Known-both (Goes StepBeforeOpen first now) (NextIs c.in_ok-read.field-0) (AnswersBeforeOpen (before_open.Open c.in-Ok.name c.in-Ok.ports) first now) _ _ _
-    (λ xs ys zs p q. opens first now c.in-Read.read c.in-Ok.name c.in-Ok.ports xs ys zs p (rw c.in-Read.is at q) c.in-Ok.ensures.ok)
+    (λ xs ys zs p q. opens first now c.in-Some.read c.in-Ok.name c.in-Ok.ports xs ys zs p (rw c.in-Some.is at q) c.in-Ok.ensures.ok)
     c.loop.invariant c.in_ok-read.ensures
 
 pub loop-preserved : goal.loop-preserved
@@ -35,7 +38,7 @@ loop-preserved g c =
     let now = g.W.Write.contents c.loop.writer in
     let new = g.W.Write.contents c.tell.new.writer in
     Known-both (Goes StepBeforeOpen first now) (NextIs c.in_ok-read.field-0) (Goes StepBeforeOpen first new) _ _ _
-    (λ xs ys zs p q. goes_on_closed first now new c.in-Read.read c.in-Err.answer xs ys zs p (rw c.in-Read.is at q) c.in-Err.ensures.err c.in_ok-tell-in-Err.ensures)
+    (λ xs ys zs p q. goes_on_closed first now new c.in-Some.read c.in-Err.answer xs ys zs p (rw c.in-Some.is at q) (sym c.is_quit.ensures ∙ c.if-is_quit.false) c.in-Err.ensures.err c.in_ok-tell-in-Err.ensures)
     c.loop.invariant c.in_ok-read.ensures
 
 pub loop-init : goal.loop-init

@@ -1,5 +1,5 @@
-use Rattle.bg_script.specs.declared.answer.Answer.TheVariants.{Made}
-use Rattle.bg_script.proofs.ControlSteps.{event_at_desk, report_at_desk, said_at_desk}
+use Rattle.bg_script.specs.declared.answer.Answer.TheVariants.{Compacted, Made}
+use Rattle.bg_script.proofs.ControlSteps.{compaction_at_desk, event_at_desk, report_at_desk, said_at_desk}
 use Rattle.bg_script.proofs.control_side.answer_line.Goals as goal
 
 pub returns-in-Event : goal.returns-in-Event
@@ -12,3 +12,8 @@ returns-in-Report g c = report_at_desk c.args.read _ _ c.tell_report.result (λ 
 
 pub returns-in-Nothing : goal.returns-in-Nothing
 returns-in-Nothing g c = said_at_desk c.args.read c.in-Nothing.answer _ _ c.tell-in-Nothing.result (λ ask. rw c.in-Nothing.is at (c.what_is_asked.ensures ask)) c.tell-in-Nothing.ensures
+
+pub returns-in-Compaction : goal.returns-in-Compaction
+returns-in-Compaction g c = said_at_desk c.args.read (Compacted c.compact.result) _ _ c.tell-in-Compaction.result
+    (λ ask. compaction_at_desk c.args.read c.compact.result (rw c.in-Compaction.is at (c.what_is_asked.ensures ask)) c.compact.ensures.told)
+    c.tell-in-Compaction.ensures

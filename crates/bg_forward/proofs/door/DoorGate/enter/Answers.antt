@@ -1,10 +1,10 @@
-use Rattle.std.proofs.Common.{IfOk, Result, Ok, Err}
+use Rattle.std.proofs.Common.{IfOk, Result, Ok, Err, subst}
 use Rattle.bg_book.specs.Headline.{Headline}
-use Rattle.bg_book.specs.Meeting.{Meets}
-use Rattle.bg_book.specs.Refusals.{IsTicket}
-use Rattle.bg_book.specs.Routing.{Routing}
-use Rattle.bg_book.specs.declared.calls.Ticket.{Ticket}
-use Rattle.bg_book.specs.declared.fault.EnterFault.{EnterFault}
+use Rattle.bg_rollout.specs.Meeting.{Meets}
+use Rattle.bg_rollout.specs.Refusals.{IsTicket}
+use Rattle.bg_rollout.specs.Routing.{Routing}
+use Rattle.bg_rollout.specs.declared.ticket.Ticket.{Ticket}
+use Rattle.bg_rollout.specs.declared.fault.EnterFault.{EnterFault}
 use Rattle.bg_ledger.specs.declared.holding.Holding.{Holding}
 use Rattle.bg_revisions.specs.declared.revision.Service.{Service}
 use Rattle.bg_forward.proofs.door.DoorGate.enter.Goals as goal
@@ -16,7 +16,13 @@ given : (b : Routing) (seat : Holding) (service : Service) (r : Result Ticket En
 given b seat service (Ok t) headline meets is = (b, headline, meets, is)
 given b seat service (Err e) headline meets is = tt
 
-pub returns-clause-gives : goal.returns-clause-gives
-returns-clause-gives g c =
+pub returns-in-Err-HistoryFull-clause-gives : goal.returns-in-Err-HistoryFull-clause-gives
+returns-in-Err-HistoryFull-clause-gives g c =
+    let told = c.enter-in-Err-HistoryFull.ensures.told in
+    given told.0 c.args.seat.now c.args.service c.enter-in-Err-HistoryFull.result told.1
+    (subst (λ (seat : Holding). Meets told.0 seat) c.in-Err-HistoryFull.ensures.seat_unchanged told.2) told.4
+
+pub returns-in_default-2-clause-gives : goal.returns-in_default-2-clause-gives
+returns-in_default-2-clause-gives g c =
     let told = c.enter.ensures.told in
     given told.0 c.args.seat.now c.args.service c.enter.result told.1 told.2 told.4
