@@ -1,21 +1,27 @@
 # check: for the working day.  build: proves and builds the program.  test: the gate.  demo: the examples.  demo-live: a
-# rollout under traffic.  bench: times.
-.PHONY: check build test demo demo-live bench bg_book bg_operator bg_report bg_http bg_http_read bg_forward
+# rollout under traffic.  bench: times.  NAME: proves and builds the library NAME and what it stands on.
+CRATES := $(shell sed -n 's/^\([a-z_]*\)[^:]*:.*/\1/p' crates.txt)
+LIBRARIES := $(foreach crate,$(CRATES),$(if $(wildcard crates/$(crate)/src/lib.rt),$(crate)))
+# The libraries that a crate stands on, by its line of crates.txt.
+below = $(filter $(LIBRARIES),$(shell sed -n 's/^$(1)\( [^:]*\)*: *//p' crates.txt))
+BENCHES := $(filter-out bench/run.sh,$(wildcard bench/*.sh))
+
+.PHONY: check build libraries test demo demo-live bench $(LIBRARIES)
 
 check:
 	rt all check
 	scripts/whole_program.sh
 
-# The layers above the book are proved side by side.
 build:
-	$(MAKE) --no-print-directory -j bg_operator bg_report bg_forward
+	$(MAKE) --no-print-directory -j $(shell nproc) libraries
 	cd crates/bg_switch && rt run -- check < ../../examples/direct.json > /dev/null
 
-bg_operator bg_report: bg_book
-bg_http_read: bg_http
-bg_forward: bg_book bg_http_read
+# What the program stands on, as much side by side as there are processors.
+libraries: $(call below,bg_switch)
 
-bg_book bg_operator bg_report bg_http bg_http_read bg_forward:
+$(foreach crate,$(LIBRARIES),$(eval $(crate): $(call below,$(crate))))
+
+$(LIBRARIES):
 	cd crates/$@ && rt lib
 
 test:
@@ -27,14 +33,11 @@ test:
 demo: build
 	bin/bg_switch check < examples/direct.json
 	bin/bg_switch check < examples/tested_before_and_after.json
-	scripts/demo.sh
+	examples/demo.sh
 
 demo-live: build
 	examples/live/demo.py
 
+# Each bench, one after the other; it fails at the end where one did.
 bench: build
-	bench/replay.sh
-	bench/rollouts.sh
-	bench/desk.sh
-	bench/lists.sh
-	bench/http.sh
+	@status=0; for bench in $(BENCHES); do echo "$$bench"; $$bench || status=1; done; exit $$status

@@ -7,6 +7,7 @@ import concurrent.futures
 import http.client
 import http.server
 import os
+import random
 import resource
 import shutil
 import socket
@@ -92,13 +93,17 @@ def start_backend(revision):
 
 
 def free_ports(count):
-    """Ports that nothing listens at."""
-    sockets = [socket.socket() for _ in range(count)]
-    for one in sockets:
-        one.bind(("127.0.0.1", 0))
-    ports = [one.getsockname()[1] for one in sockets]
-    for one in sockets:
-        one.close()
+    """Ports that nothing listens at, below those that the system gives to connections of itself."""
+    ports = []
+    while len(ports) < count:
+        port = random.randrange(20000, 32768)
+        with socket.socket() as one:
+            try:
+                one.bind(("127.0.0.1", port))
+            except OSError:
+                continue
+        if port not in ports:
+            ports.append(port)
     return ports
 
 

@@ -1,8 +1,21 @@
 #!/bin/sh
-# Runs `serve` of the built program before small backends on loopback, and compares what clients and the operator are
-# answered (scripts/live.py; python3, and curl where it is there).
+# Runs `serve` of the built program before small backends on loopback (python3, and curl): what clients and operators are
+# answered (live.py), slow peers (live_patience.py), the operator's tool, the controller, and the session of README.md. They run side by side, since they
+# mostly wait.
 set -eu
 cd "$(dirname -- "$0")/.."
 # Builds the program where it is stale.
 bin/bg_switch check < examples/direct.json > /dev/null
-exec python3 scripts/live.py
+work=$(mktemp -d)
+trap 'rm -rf "$work"' EXIT
+parts='live live_patience live_operator live_controller live_readme'
+for part in $parts; do
+    { python3 -B "scripts/$part.py" > "$work/$part" 2>&1 && : > "$work/$part.passed"; } &
+done
+wait
+failed=0
+for part in $parts; do
+    cat "$work/$part"
+    [ -e "$work/$part.passed" ] || failed=1
+done
+exit "$failed"

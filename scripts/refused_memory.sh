@@ -86,9 +86,14 @@ refuse_to_libraries() {
     judge 'the calls that were made and those that were refused' all_were_refused
 }
 
+# On standard error stands nothing, or only what a person is told beside the replies.
+has_no_complaint() {
+    ! grep -qv '^bg_switch: ' "$work/complaint"
+}
+
 # Status and replies are the row's.
 is_as_in_row() {
-    [ ! -s "$work/complaint" ] && [ "$status" = "$(cat "$row/status")" ] && cmp -s "$row/replies" "$work/replies"
+    has_no_complaint && [ "$status" = "$(cat "$row/status")" ] && cmp -s "$row/replies" "$work/replies"
 }
 
 # The run has ended for want of memory, and what it wrote until then is the row's.
@@ -117,7 +122,7 @@ without_line() {
 # One line was refused, and all others are answered as in a run without that line, where memory is ample.
 has_refused_a_line() {
     place=$(place_refused)
-    [ ! -s "$work/complaint" ] && [ -n "$place" ] || return
+    has_no_complaint && [ -n "$place" ] || return
     without_line "$place" > "$work/without"
     wanted=0
     "$switch" "$@" < "$work/without" > "$work/wanted" || wanted=$?

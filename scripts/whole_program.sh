@@ -36,10 +36,12 @@ expect_to() {
     fi
 }
 
-# The worked rows.
+# The worked rows. Where the strategy is no JSON, standard error says where it breaks.
 for row in rows/*; do
+    complaint=''
+    ! grep -qx 'fault NotJson' "$row/replies" || complaint='bg_switch: the strategy is no JSON: *'
     # shellcheck disable=SC2046  # the words of the command
-    expect "$(cat "$row/status")" "$row/replies" '' $(cat "$row/command") < "$row/input"
+    expect "$(cat "$row/status")" "$row/replies" "$complaint" $(cat "$row/command") < "$row/input"
 done
 
 # The examples.
@@ -85,6 +87,13 @@ expect 2 /dev/null '?*' "$(printf '\377')" < /dev/null
 expect 2 /dev/null '?*--seats*' replay --help < /dev/null
 expect 2 /dev/null '?*--active*' serve --help < /dev/null
 
+# The help says what a connection is that counts, who `quit` ends, and what each word takes.
+for word in '' serve; do
+    expect 2 /dev/null '*[Aa]ny connection counts*health check*quit ends the operators*not the workers*' $word --help < /dev/null
+    expect 2 /dev/null '*--active*65535*--preview*65535*--control*65535*--workers*1 to 7*--count*1 to 1000000*' $word --help < /dev/null
+done
+expect 2 /dev/null '*1 to 8*4 where it isn*' replay --help < /dev/null
+
 # As many seats as the words ask for, and 4 where they ask for none: a request at each of nine places.
 {
     echo '{"spec":{"strategy":{"blueGreen":{"activeService":"web"}}}}'
@@ -110,15 +119,46 @@ expect_seats 2 --seats 2
 expect_seats 8 --seats=8
 
 # Faults, and an input without end.
+no_json='bg_switch: the strategy is no JSON:'
 echo 'fault NotJson' > "$work/not_json"
-expect 1 "$work/not_json" '' check < /dev/null
-expect 1 "$work/not_json" '' replay < /dev/null
+expect 1 "$work/not_json" "$no_json EOF while parsing at line 1 column 0" check < /dev/null
+expect 1 "$work/not_json" "$no_json EOF while parsing at line 1 column 0" replay < /dev/null
 echo 'fault TooLarge' > "$work/too_large"
 expect 1 "$work/too_large" '' check < /dev/zero
 expect 1 "$work/too_large" '' replay < /dev/zero
 { cat examples/direct.json && printf -- '---\nreport\nreports\n'; } > "$work/unknown"
 printf 'refused NotOpen\nfault UnknownWord\n' > "$work/unknown_replies"
 expect 1 "$work/unknown_replies" '' replay < "$work/unknown"
+
+# Where JSON breaks: the line, and the byte in it. Of bytes that are no text it is the first of those.
+printf '{"spec": {\n  "replicas": 2,\n  strategy: {}\n}}\n' > "$work/broken"
+expect 1 "$work/not_json" "$no_json invalid JSON at line 3 column 3" check < "$work/broken"
+printf '{}\n\377' > "$work/broken"
+expect 1 "$work/not_json" "$no_json invalid JSON at line 2 column 1" check < "$work/broken"
+{ printf '{"spec"\n' && printf -- '---\nopen v1 9001\n'; } > "$work/broken"
+expect 1 "$work/not_json" "$no_json EOF while parsing at line 2 column 0" replay < "$work/broken"
+
+# A text that looks like YAML.
+yaml="$no_json invalid JSON at line *
+bg_switch: it looks like YAML: \`kubectl get rollout NAME -o json\` writes JSON"
+for text in 'apiVersion: argoproj.io/v1alpha1\nkind: Rollout\n' '# a rollout\n\n  spec:\n' '---\nkind: Rollout\n'; do
+    printf -- "$text" > "$work/yaml"
+    expect 1 "$work/not_json" "$yaml" check < "$work/yaml"
+done
+
+# Keys that nobody knows, one edit away from one that is known. The settings are as without them.
+sed 's/"blueGreen": {/&"autoPromotionEnable": false, "prevewService": "x", "activeServise": 1, "scaleDownDelay": 7, /' \
+    examples/direct.json > "$work/misspelt"
+misspelt='bg_switch: blueGreen has "activeServise", which is passed over: did you mean "activeService"?
+bg_switch: blueGreen has "autoPromotionEnable", which is passed over: did you mean "autoPromotionEnabled"?
+bg_switch: blueGreen has "prevewService", which is passed over: did you mean "previewService"?'
+expect 0 examples/direct.settings "$misspelt" check < "$work/misspelt"
+printf -- '---\n' | cat "$work/misspelt" - > "$work/misspelt_script"
+expect 0 /dev/null "$misspelt" replay < "$work/misspelt_script"
+# All keys of a blueGreen strategy are known.
+sed 's/"blueGreen": {/&"antiAffinity": {}, "activeMetadata": {}, "previewMetadata": {}, "maxUnavailable": 1, "abortScaleDownDelaySeconds": 30, /' \
+    examples/direct.json > "$work/known"
+expect 0 examples/direct.settings '' check < "$work/known"
 
 # Input that can't be read, as a folder can't, and output that takes nothing.
 expect 1 /dev/null ReadFailed check < examples

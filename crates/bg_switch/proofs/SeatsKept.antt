@@ -2,7 +2,7 @@
 use Rattle.std.proofs.Common.{◌≡◌, ℕ, suc, List, [], ◌∷◌, ◌++◌, length, take, Some, true, refl, ap, ◌∙◌, arith, take_at}
 use Rattle.std.specs.Prelude.{slice_get}
 use Rattle.bg_ledger.specs.declared.holding.Holding.{Holding}
-use Rattle.bg_book.specs.Gathering.{are_all, are_from, indices}
+use Rattle.bg_rollout.specs.Gathering.{are_all, are_from, indices}
 use Rattle.bg_forward.specs.Seats.{AllWorked}
 
 same_indices : (old new : List Holding) → length new ≡ length old

@@ -10,6 +10,31 @@ use std::alloc::{AllocError, Global};
 
 const GREATEST_PORT: u64 = 65_535;
 
+/// What the help of `serve` says beside its words.
+const NOTES_ON_SERVING: &str = "\
+Any connection counts towards --count, a health check too, and one that sends nothing. Once the
+workers of a port have taken all of theirs, the port is closed, and clients are refused at once.
+The active port has --workers workers, the preview port one.
+A line quit ends the operators' side, not the workers': the program ends once both are done. It then
+prints the report, and ends with status 0; 1 where the strategy has a fault or a port can't be bound.
+In the environment, BG_SWITCH_PATIENCE_SECONDS is how many seconds a request may take from its
+connection on, and a response from the dial on, until it is whole: 1 to 60; 60 where it isn't given.";
+
+/// What the help of the program says beside its commands.
+const NOTES: &str = "\
+check has no words of its own. replay takes --seats N: how many requests can be open at once, 1 to 8;
+4 where it isn't given. serve takes, on ports of 127.0.0.1:
+  --active P   port of clients whose requests go to the active revision, 1 to 65535; has to be given
+  --preview P  that of the revision under preview, 1 to 65535; no such port where it isn't given
+  --control P  port at which operators' lines are answered, 1 to 65535; has to be given
+  --workers N  how many requests the active port forwards at a time, 1 to 7; has to be given
+  --count K    how many connections each worker takes until it ends, 1 to 1000000; has to be given;
+               any connection counts, a health check too, and the port is closed after the last
+A line quit ends the operators' side of serve, not the workers'.
+The strategy comes on standard input, as `kubectl get rollout NAME -o json` writes it.
+Status: 0; 1 after a fault, and where the run ends early; 2 after words that are no order, and after
+this help.";
+
 /// `--NAME N`, N from 1 to `most`, which may be left out.
 fn number_option<'a>(alloc: Global, name: &'a str, most: u64, help: &'a str) -> Arg<'a>
     ensures rule { rule_of result ≡ number_rule name.entry.now most }
@@ -49,7 +74,7 @@ fn replay_command<'a>(alloc: Global) -> Result<Command<'a>, AllocError>
         alloc,
         "seats",
         8,
-        "How many requests can be open at once, 1 to 8; 4 where it is not given",
+        "How many requests can be open at once, 1 to 8; 4 where it isn't given",
     );
     Command::new(alloc, "replay")
         .about(
@@ -68,19 +93,19 @@ fn with_ports<'a>(alloc: Global, command: Command<'a>) -> Result<Command<'a>, Al
         alloc,
         "active",
         GREATEST_PORT,
-        "The port of 127.0.0.1 whose requests go to the active revision",
+        "The port of 127.0.0.1 whose requests go to the active revision, 1 to 65535; has to be given",
     );
     let preview = number_option(
         alloc,
         "preview",
         GREATEST_PORT,
-        "The port of 127.0.0.1 whose requests go to the revision under preview",
+        "The port of 127.0.0.1 whose requests go to the revision under preview, 1 to 65535; none where it isn't given",
     );
     let control = required_option(
         alloc,
         "control",
         GREATEST_PORT,
-        "The port of 127.0.0.1 at which an operator's lines are answered",
+        "The port of 127.0.0.1 at which operators' lines are answered, 1 to 65535; has to be given",
     );
     command.arg(active)?.arg(preview)?.arg(control)
 }
@@ -90,20 +115,20 @@ fn serve_command<'a>(alloc: Global) -> Result<Command<'a>, AllocError>
     ensures app { IfOk result (λ c. app_of c ≡ serve_app) }
     ensures local { IfOk result (λ c. (fields_of c).has_globals ≡ false) }
 {
-    let command = Command::new(alloc, "serve").about(
-        "Forwards HTTP requests to the revisions of the strategy on standard input",
-    );
+    let command = Command::new(alloc, "serve")
+        .about("Forwards HTTP requests to the revisions of the strategy on standard input")
+        .after_help(NOTES_ON_SERVING);
     let workers = required_option(
         alloc,
         "workers",
         7,
-        "How many workers the active port has, 1 to 7; each forwards one request at a time",
+        "How many workers the active port has, 1 to 7; each forwards one request at a time; has to be given",
     );
     let count = required_option(
         alloc,
         "count",
         1_000_000,
-        "How many connections each worker takes before it ends, 1 to 1000000",
+        "How many connections each worker takes before it ends, 1 to 1000000; has to be given",
     );
     with_ports(alloc, command)?.arg(workers)?.arg(count)
 }
@@ -114,6 +139,7 @@ fn top_command<'a>(alloc: Global) -> Command<'a>
 {
     Command::new(alloc, "bg_switch")
         .about("A blue-green traffic switch for one rollout")
+        .after_help(NOTES)
         .subcommand_required(true)
         .disable_help_subcommand(true)
 }

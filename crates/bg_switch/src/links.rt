@@ -1,21 +1,15 @@
 //! Connections of the system: those of clients, and those to endpoints.
 
 use crate::listeners::Listeners;
+use crate::patience::Timed;
 use bg_forward::{Accept, Dial};
 use bg_http::Duplex;
 use bg_revisions::Service;
+use std::io;
 use std::io::{ErrorKind, Read, Write};
-use std::net::{IpAddr, Ipv4Addr, Net, Shutdown, SocketAddr, TcpListener, TcpStream};
+use std::net::{IpAddr, Ipv4Addr, Net, Shutdown, SocketAddr, TcpStream};
+use std::sync::Wait;
 use std::time::{Clock, Duration, Instant};
-use std::{io, thread};
-
-/// How many seconds a read or a write of a client or an endpoint may wait.
-const PATIENCE_SECONDS: u64 = 30;
-
-/// How often an accept is tried that fails, and how many milliseconds pass in between.
-const ACCEPT_TRIES: u32 = 10;
-
-const ACCEPT_PAUSE_MILLIS: u64 = 100;
 
 /// How long, in milliseconds, and how many bytes a client may still send once it was answered.
 const LINGER_MILLIS: u64 = 1_000;
@@ -27,42 +21,35 @@ pub fn home(port: u16) -> SocketAddr {
     SocketAddr::new(IpAddr::V4(Ipv4Addr::LOCALHOST), port)
 }
 
-/// Lets no read and no write of a stream wait for longer than [`PATIENCE_SECONDS`].
-fn limit_waiting(stream: &TcpStream) -> io::Result<()> {
-    let patience = Some(Duration::from_secs(PATIENCE_SECONDS));
-    stream.set_read_timeout(patience)?;
-    stream.set_write_timeout(patience)
-}
-
-/// The connection of a client.
+/// The connection of a client. Its request has to be whole in time.
 #[derive(Drop)]
-pub struct Client {
-    stream: TcpStream,
+pub struct Client<'a, C: Clock> {
+    request: Timed<'a, C>,
 }
 
-impl Read for Client {
+impl<C: Clock> Read for Client<'_, C> {
     fn read(&mut self, buf: &mut [u8]) -> io::Result<usize> {
-        self.stream.read(buf)
+        self.request.read_in_time(buf)
     }
 }
 
-impl Write for Client {
+impl<C: Clock> Write for Client<'_, C> {
     fn write(&mut self, buf: &[u8]) -> io::Result<usize> {
-        self.stream.write(buf)
+        self.request.stream.write(buf)
     }
 
     fn flush(&mut self) -> io::Result<()> {
-        self.stream.flush()
+        self.request.stream.flush()
     }
 }
 
-impl Duplex for Client {
+impl<C: Clock> Duplex for Client<'_, C> {
     fn receive(&mut self, buf: &mut [u8]) -> io::Result<usize> {
-        self.stream.read(buf)
+        self.request.read_in_time(buf)
     }
 
     fn send(&mut self, bytes: &[u8]) -> io::Result<()> {
-        self.stream.write_all(bytes)
+        self.request.stream.write_all(bytes)
     }
 }
 
@@ -102,75 +89,92 @@ fn linger<C: Clock>(stream: &mut TcpStream, clock: &C) -> io::Result<()> {
 
 /// The clients of the active and of the preview port.
 #[derive(Drop)]
-pub struct Clients<'a, C: Clock> {
+pub struct Clients<'a, R: Clock + Wait> {
+    rt: &'a R,
     listeners: &'a Listeners,
-    clock: &'a C,
+    /// How many seconds a request may take.
+    patience: u64,
 }
 
-impl<'a, C: Clock> Clients<'a, C> {
-    /// The clients that come to the listeners.
-    pub fn new(listeners: &'a Listeners, clock: &'a C) -> Clients<'a, C> {
-        Clients { listeners, clock }
-    }
-
-    /// The next connection. An accept that fails, as where no file descriptor is free, is tried again
-    /// after a pause.
-    fn next_stream(&self, listener: &TcpListener) -> io::Result<TcpStream> {
-        for _ in 1..ACCEPT_TRIES {
-            if let Ok((stream, _from)) = listener.accept() {
-                return Ok(stream);
-            }
-            thread::sleep(self.clock, Duration::from_millis(ACCEPT_PAUSE_MILLIS));
+impl<'a, R: Clock + Wait> Clients<'a, R> {
+    /// The clients that come to the listeners. A request may take so many seconds.
+    pub fn new(rt: &'a R, listeners: &'a Listeners, patience: u64) -> Clients<'a, R> {
+        Clients {
+            rt,
+            listeners,
+            patience,
         }
-        let (stream, _from) = listener.accept()?;
-        Ok(stream)
     }
 }
 
-impl<'a, C: Clock> Accept for Clients<'a, C> {
-    type Stream = Client;
+impl<'a, R: Clock + Wait> Accept for Clients<'a, R> {
+    type Stream = Client<'a, R>;
 
-    fn accept(&self, service: Service) -> io::Result<Client> {
-        let Some(listener) = self.listeners.of(service) else {
+    fn accept(&self, service: Service) -> io::Result<Client<'a, R>> {
+        let Some(port) = self.listeners.of(service) else {
             return Err(io::Error::from(ErrorKind::NotFound));
         };
-        let stream = self.next_stream(listener)?;
-        limit_waiting(&stream)?;
-        Ok(Client { stream })
+        let stream = port.accept(self.rt)?;
+        let request = Timed::begin(stream, self.rt, self.patience)?;
+        Ok(Client { request })
     }
 
     /// A socket that is closed with bytes unread resets the connection, and the client may lose its
     /// answer (RFC 9112 section 9.6). So where there are some, or more may come of a request, the
     /// writing side is shut first, and what the client still sends is passed over for a while.
-    fn close(&self, client: Client, whole: bool) {
-        let Client { mut stream } = client;
+    fn close(&self, client: Client<'a, R>, whole: bool) {
+        let mut stream = client.request.stream;
         if whole && is_drained(&stream).unwrap_or(false) {
             return;
         }
         // the connection ends here in either case
-        let _ = linger(&mut stream, self.clock);
+        let _ = linger(&mut stream, self.rt);
+    }
+}
+
+/// The connection to an endpoint. Its response has to be whole in time.
+#[derive(Drop)]
+pub struct Upstream<'a, C: Clock> {
+    response: Timed<'a, C>,
+}
+
+impl<C: Clock> Read for Upstream<'_, C> {
+    fn read(&mut self, buf: &mut [u8]) -> io::Result<usize> {
+        self.response.read_in_time(buf)
+    }
+}
+
+impl<C: Clock> Write for Upstream<'_, C> {
+    fn write(&mut self, buf: &[u8]) -> io::Result<usize> {
+        self.response.write_in_time(buf)
+    }
+
+    fn flush(&mut self) -> io::Result<()> {
+        self.response.stream.flush()
     }
 }
 
 /// Connections to endpoints, which are ports of this machine.
 #[derive(Drop)]
-pub struct Endpoints<'a, R: Net<Stream = TcpStream>> {
+pub struct Endpoints<'a, R: Net<Stream = TcpStream> + Clock> {
     rt: &'a R,
+    /// How many seconds a response may take.
+    patience: u64,
 }
 
-impl<'a, R: Net<Stream = TcpStream>> Endpoints<'a, R> {
-    /// Connections that are made by this handle.
-    pub fn new(rt: &'a R) -> Endpoints<'a, R> {
-        Endpoints { rt }
+impl<'a, R: Net<Stream = TcpStream> + Clock> Endpoints<'a, R> {
+    /// Connections that are made by this handle. A response may take so many seconds.
+    pub fn new(rt: &'a R, patience: u64) -> Endpoints<'a, R> {
+        Endpoints { rt, patience }
     }
 }
 
-impl<R: Net<Stream = TcpStream>> Dial for Endpoints<'_, R> {
-    type Stream = TcpStream;
+impl<'a, R: Net<Stream = TcpStream> + Clock> Dial for Endpoints<'a, R> {
+    type Stream = Upstream<'a, R>;
 
-    fn dial(&self, port: u16) -> io::Result<TcpStream> {
+    fn dial(&self, port: u16) -> io::Result<Upstream<'a, R>> {
         let stream = TcpStream::connect(self.rt, home(port))?;
-        limit_waiting(&stream)?;
-        Ok(stream)
+        let response = Timed::begin(stream, self.rt, self.patience)?;
+        Ok(Upstream { response })
     }
 }

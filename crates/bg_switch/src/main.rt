@@ -3,17 +3,24 @@
 
 mod carrying_out;
 mod command_line;
+mod keeping;
 mod links;
 mod listeners;
 mod opening;
 mod operators;
 mod orders;
+mod patience;
+mod reasons;
 mod serving;
+mod spelling;
 mod words;
 mod working;
 
 use crate::carrying_out::{check_buffered, replay_buffered};
+use crate::keeping::Keeping;
 use crate::orders::{Order, OrderFault};
+use crate::patience::patience_seconds;
+use crate::reasons::{tell_reasons, tell_reasons_before_script};
 use crate::serving::{Site, serve};
 use bg_script::RunEnd;
 use std::env;
@@ -50,8 +57,11 @@ fn main(rt: HostRuntime) -> ExitCode {
                 control,
                 workers,
                 count,
+                patience: patience_seconds(&rt),
             };
-            serve(&rt, rt.alloc(), site, &mut rt.stdin(), &mut rt.stdout())
+            let mut input = Keeping::new(rt.alloc(), rt.stdin());
+            let (mut output, mut errors) = (rt.stdout(), rt.stderr());
+            serve(&rt, rt.alloc(), site, &mut input, &mut output, &mut errors)
         }
     };
     match done {
@@ -60,15 +70,25 @@ fn main(rt: HostRuntime) -> ExitCode {
     }
 }
 
-/// Does what `check` orders. Answers the exit status.
+/// Does what `check` orders, and tells on standard error what the text of the strategy lets suspect.
+/// Answers the exit status.
 fn checked(rt: &HostRuntime) -> Result<u8, RunEnd> {
-    let (status, _stdout) = check_buffered(rt.alloc(), &mut rt.stdin(), rt.stdout())?;
+    let mut input = Keeping::new(rt.alloc(), rt.stdin());
+    let (status, _stdout) = check_buffered(rt.alloc(), &mut input, rt.stdout())?;
+    if let Some(text) = input.take_kept() {
+        let _ = tell_reasons(rt.alloc(), &text, &mut rt.stderr());
+    }
     Ok(status)
 }
 
-/// Does what `replay` orders. Answers the exit status.
+/// Does what `replay` orders, and tells on standard error what the text of the strategy lets suspect.
+/// Answers the exit status.
 fn replayed(rt: &HostRuntime, seats: u8) -> Result<u8, RunEnd> {
-    let (status, _stdout) = replay_buffered(rt.alloc(), seats, &mut rt.stdin(), rt.stdout())?;
+    let mut input = Keeping::new(rt.alloc(), rt.stdin());
+    let (status, _stdout) = replay_buffered(rt.alloc(), seats, &mut input, rt.stdout())?;
+    if let Some(kept) = input.take_kept() {
+        let _ = tell_reasons_before_script(rt.alloc(), &kept, &mut rt.stderr());
+    }
     Ok(status)
 }
 

@@ -35,6 +35,8 @@ pub struct Scene<'a> {
     pub seats: u32,
     /// How many connections each worker takes.
     pub count: u32,
+    /// How many seconds a request or a response may take until it is whole.
+    pub patience: u64,
 }
 
 /// The first revision of a book.

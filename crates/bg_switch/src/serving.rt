@@ -1,7 +1,9 @@
 //! `serve`: workers at the ports of clients, beside the operators at the control port.
 
+use crate::keeping::Keeping;
 use crate::listeners::Listeners;
 use crate::opening::{Scene, await_open};
+use crate::reasons::tell_reasons;
 use bg_script::{Finding, RunEnd, finding_of_input, write_finding};
 use std::alloc::Global;
 use std::io;
@@ -24,6 +26,8 @@ pub struct Site {
     pub workers: u8,
     /// How many connections each worker takes.
     pub count: u32,
+    /// How many seconds a request or a response may take until it is whole.
+    pub patience: u64,
 }
 
 /// Serves clients by the strategy that the whole input is the JSON text of, and by the lines of
@@ -34,24 +38,35 @@ pub struct Site {
 /// worker then takes its connections, while operators are answered up to `quit`. When all are done
 /// the report and the number of the workers' calls are written. Nothing more is written where no book
 /// was opened.
-pub fn serve<R, I: Read, W: Write>(
+///
+/// On `errors` it tells why the strategy is no JSON, which of its keys look misspelt, and which port
+/// can't be bound and why; where that can't be written, nothing else changes.
+pub fn serve<R, I: Read, W: Write, E: Write>(
     rt: &R,
     alloc: Global,
     site: Site,
-    input: &mut I,
+    input: &mut Keeping<I>,
     output: &mut W,
+    errors: &mut E,
 ) -> Result<u8, RunEnd>
 where
     R: Net<Listener = TcpListener, Stream = TcpStream> + Threads + Wait + Clock + Sync,
 {
     let finding = finding_of_input(alloc, input)?;
+    if let Some(text) = input.take_kept() {
+        let _ = tell_reasons(alloc, &text, errors);
+    }
     let Finding::Means(strategy) = &finding else {
         written(write_finding(&finding, output))?;
         return Ok(finding.status());
     };
-    let Ok(listeners) = Listeners::bind(rt, site.active, site.preview, site.control) else {
-        written(writeln!(output, "fault Bind"))?;
-        return Ok(1);
+    let listeners = match Listeners::bind(rt, &site) {
+        Ok(listeners) => listeners,
+        Err(fault) => {
+            let _ = writeln!(errors, "bg_switch: {fault}");
+            written(writeln!(output, "fault Bind"))?;
+            return Ok(1);
+        }
     };
     written(tell_listening(output))?;
     let scene = Scene {
@@ -60,6 +75,7 @@ where
         listeners: &listeners,
         seats: u32::from(site.workers) + u32::from(site.preview.is_some()),
         count: site.count,
+        patience: site.patience,
     };
     await_open(rt, &scene, output)?;
     Ok(0)

@@ -47,8 +47,8 @@ where
     let count = scene.count;
     let control = &scene.listeners.control;
     let door = Door::new(rt, desk);
-    let clients = Clients::new(scene.listeners, rt);
-    let endpoints = Endpoints::new(rt);
+    let clients = Clients::new(rt, scene.listeners, scene.patience);
+    let endpoints = Endpoints::new(rt, scene.patience);
     join_mut(
         rt,
         &mut ||

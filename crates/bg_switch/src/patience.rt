@@ -1,0 +1,115 @@
+//! How long the messages of clients and of endpoints may take.
+ghost use Rattle.std.specs.Io.{ReadsAtMost, WritesAtMost};
+ghost use Rattle.bg_switch.specs.CommandLine.{IsBetween};
+
+use std::io::{ErrorKind, Read, Write};
+use std::net::TcpStream;
+use std::rt::Env;
+use std::time::{Clock, Duration, Instant};
+use std::{env, io};
+
+/// How many seconds one read or write of a client or an endpoint may wait.
+const WAIT_SECONDS: u64 = 30;
+
+/// How many seconds a message may take until it is whole.
+const MOST_SECONDS: u64 = 60;
+
+/// The environment's variable that gives a message fewer seconds.
+const VARIABLE: &str = "BG_SWITCH_PATIENCE_SECONDS";
+
+/// How many seconds a message may take until it is whole: what the environment's
+/// `BG_SWITCH_PATIENCE_SECONDS` says, 1 to 60, and 60 where it says nothing of the kind.
+pub fn patience_seconds<R: Env + AllocGlobal>(rt: &R) -> u64
+    ensures { IsBetween 1 60 result }
+{
+    match env::var(rt, VARIABLE) {
+        Ok(text) => seconds_in(text.as_str()),
+        Err(_) => MOST_SECONDS,
+    }
+}
+
+fn seconds_in(text: &str) -> u64
+    ensures { IsBetween 1 60 result }
+{
+    match text.parse::<u64>() {
+        Ok(seconds) if 1 <= seconds && seconds <= MOST_SECONDS => seconds,
+        _ => MOST_SECONDS,
+    }
+}
+
+/// A connection of which a message is awaited, which has to be whole in time.
+///
+/// The clock is asked once as it begins, and before each read but the first; a shorter wait is set
+/// only where less than that of one read is left. So a message that the first read brings costs no
+/// system call.
+#[derive(Drop)]
+pub struct Timed<'a, C: Clock> {
+    /// The connection.
+    pub stream: TcpStream,
+    clock: &'a C,
+    start: Instant,
+    longest: Duration,
+    /// Whether it is asked what is left before the next read or write.
+    is_late: bool,
+}
+
+impl<'a, C: Clock> Timed<'a, C> {
+    /// Begins to await a message that may take so many seconds. No read and no write of the stream
+    /// waits for longer than 30 seconds.
+    pub fn begin(stream: TcpStream, clock: &'a C, seconds: u64) -> io::Result<Timed<'a, C>> {
+        let longest = Duration::from_secs(seconds);
+        let wait = Duration::from_secs(WAIT_SECONDS);
+        stream.set_read_timeout(Some(longest.min(wait)))?;
+        stream.set_write_timeout(Some(wait))?;
+        let start = Instant::now(clock)?;
+        Ok(Timed {
+            stream,
+            clock,
+            start,
+            longest,
+            is_late: false,
+        })
+    }
+
+    /// Reads as the stream does, but waits for no longer than the message may still take.
+    pub fn read_in_time(&mut self, buf: &mut [u8]) -> io::Result<usize>
+        ensures { ReadsAtMost result buf.new }
+    {
+        if self.is_late
+            && let Some(left) = self.short_time_left()?
+        {
+            self.stream.set_read_timeout(Some(left))?;
+        }
+        self.is_late = true;
+        self.stream.read(buf)
+    }
+
+    /// Writes as the stream does. A write that takes a part alone has waited, so from then on no
+    /// write and no read waits for longer than the message may still take.
+    pub fn write_in_time(&mut self, bytes: &[u8]) -> io::Result<usize>
+        ensures { WritesAtMost result bytes.now }
+    {
+        if self.is_late
+            && let Some(left) = self.short_time_left()?
+        {
+            self.stream.set_write_timeout(Some(left))?;
+        }
+        let count = self.stream.write(bytes)?;
+        self.is_late = self.is_late || count < bytes.len();
+        Ok(count)
+    }
+
+    /// What is left of the time, where that is less than one read or write may wait. Refused where
+    /// nothing is left.
+    fn short_time_left(&self) -> io::Result<Option<Duration>> {
+        let left = self.longest.saturating_sub(self.start.elapsed(self.clock)?);
+        if left.is_zero() {
+            return Err(io::Error::from(ErrorKind::TimedOut));
+        }
+        if left < Duration::from_secs(WAIT_SECONDS) {
+            Ok(Some(left))
+        } else {
+            Ok(None)
+        }
+    }
+}

@@ -1,0 +1,30 @@
+#!/bin/sh
+# Runs the plan beside this script: two endpoints for each revision, the switch, and the controller, up to ctrl-C.
+# Watch it from another terminal with `bin/operator 18082 watch`.
+set -eu
+cd "$(dirname -- "$0")"
+pages=$(mktemp -d)
+started=
+end() {
+    # shellcheck disable=SC2086  # the numbers of the processes
+    kill $started 2> /dev/null || true
+    rm -rf "$pages"
+}
+trap end EXIT
+trap 'exit 0' INT TERM
+
+for revision in 1 2; do
+    mkdir "$pages/v$revision"
+    echo "media-v$revision" > "$pages/v$revision/index.html"
+    for port in "19${revision}01" "19${revision}02"; do
+        python3 -m http.server "$port" --bind 127.0.0.1 --directory "$pages/v$revision" > /dev/null 2>&1 &
+        started="$started $!"
+    done
+done
+# Builds the program where it is stale.
+../../bin/bg_switch check < rollout.json > /dev/null
+../../bin/bg_switch serve --active 18080 --preview 18081 --control 18082 --workers 4 --count 100000 < rollout.json &
+started="$started $!"
+../../bin/controller plan.json &
+started="$started $!"
+wait $!

@@ -1,0 +1,1 @@
+"""What bin/operator is made of."""
