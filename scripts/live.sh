@@ -1,7 +1,7 @@
 #!/bin/sh
 # Runs `serve` of the built program before small backends on loopback (python3, and curl): what clients and operators are
-# answered (live.py), slow peers (live_patience.py), the operator's tool, the controller, and the session of README.md. They run side by side, since they
-# mostly wait.
+# answered (live.py), slow peers (live_patience.py), the operator's tool, the controller, and the session of README.md.
+# They run side by side, since they mostly wait.
 set -eu
 cd "$(dirname -- "$0")/.."
 # Builds the program where it is stale.

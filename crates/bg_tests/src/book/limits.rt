@@ -94,7 +94,7 @@ fn keeps_room_for_each_leaving(rt: HostRuntime) -> Result<(), Fail> {
         seats: 4,
         limits: Limits {
             entries: 141,
-            numbers: 100,
+            numbers: 1 << 53,
         },
         calls: &calls,
     };
