@@ -1,6 +1,5 @@
 //! The routing book.
 
-mod compaction;
 mod limits;
 mod runs;
 pub(crate) mod samples;

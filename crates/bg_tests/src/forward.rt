@@ -1,7 +1,6 @@
 //! Connections that are forwarded.
 
 mod connections;
-mod doors;
 mod failures;
 mod fakes;
 mod messages;

@@ -1,5 +1,4 @@
 //! The list of entries.
 
-mod audit;
 mod entries;
 mod sizes;
