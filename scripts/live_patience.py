@@ -12,7 +12,9 @@ import tempfile
 import threading
 import time
 
-SWITCH = "bin/bg_switch"
+import live
+from live import SWITCH, check, free_ports
+
 ROLLOUT = '{"spec": {"strategy": {"blueGreen": {"activeService": "web", "previewService": "web-preview"}}}}'
 REQUEST = b"GET / HTTP/1.1\r\nHost: x\r\n\r\n"
 ANSWER = b"HTTP/1.1 200 OK\r\nContent-Length: 2\r\n\r\nok"
@@ -23,25 +25,6 @@ PATIENCE = 4
 SLACK = 6
 # No wait of a test is longer.
 LONGEST = 30
-passed = failed = 0
-
-
-def check(name, got, wanted):
-    global passed, failed
-    if got == wanted:
-        passed += 1
-    else:
-        failed += 1
-        print(f"FAILED: {name}: {got!r}, not {wanted!r}")
-
-
-def free_ports(count):
-    """Ports that nothing listens at."""
-    with contextlib.ExitStack() as opened:
-        sockets = [opened.enter_context(socket.socket()) for _ in range(count)]
-        for one in sockets:
-            one.bind(("127.0.0.1", 0))
-        return [one.getsockname()[1] for one in sockets]
 
 
 def connect(port):
@@ -298,8 +281,8 @@ def main():
     connections_used_up()
     a_client_too_many()
     reasons()
-    print(f"live_patience: {passed} passed, {failed} failed")
-    sys.exit(failed != 0)
+    print(f"live_patience: {live.passed} passed, {live.failed} failed")
+    sys.exit(live.failed != 0)
 
 
 if __name__ == "__main__":
