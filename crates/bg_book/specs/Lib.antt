@@ -3,3 +3,4 @@ pub mod Desks
 pub mod Invariant
 pub mod Runs
 pub mod Compaction
+pub mod OpenBooks

@@ -11,6 +11,7 @@ mod calls;
 mod desk;
 mod fault;
 pub mod laws;
+mod open_book;
 
 pub use bg_rollout::{
     Control, ControlFault, EnterFault, GatherFault, Left, Limits, OpenFault, Ticket,
@@ -19,3 +20,4 @@ pub use book::Book;
 pub use calls::{Call, Reply};
 pub use desk::{Desk, Question};
 pub use fault::RunFault;
+pub use open_book::OpenBook;

@@ -1,7 +1,8 @@
 //! The gate of a running program.
+ghost use Rattle.std.specs.Prelude.{◌≡◌, None};
 ghost use Rattle.bg_book.specs.Headline.{Headline};
 ghost use Rattle.bg_rollout.specs.Meeting.{Meets};
-ghost use Rattle.bg_rollout.specs.Refusals.{IsTicket};
+ghost use Rattle.bg_rollout.specs.Refusals.{IsTicket, enter_refusal};
 ghost use Rattle.bg_rollout.specs.Routing.{Routing};
 
 use crate::gate::Gate;
@@ -32,7 +33,8 @@ impl<'a, N: Names, R> Door<'a, N, R> {
 
 impl<N: Names, R: Wait> Gate<N> for Door<'_, N, R> {
     ghost gives = { λ _ service seat t.
-        (b : Routing) × Headline b × Meets b seat × IsTicket b service t };
+        (b : Routing) × Headline b × Meets b seat
+        × (enter_refusal b service ≡ None) × IsTicket b service t };
 
     fn enter(&self, seat: &mut Seat<N>, service: Service) -> Result<Ticket, EnterFault> {
         match self.desk.enter(self.rt, seat, service) {

@@ -24,3 +24,4 @@ pub mod Shares
 pub mod Order
 pub mod Gathered
 pub mod Compacting
+pub mod Telling

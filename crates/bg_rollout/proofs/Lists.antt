@@ -206,7 +206,7 @@ find_list f r (x ∷ xs) = go (x == r) refl (find_list f r xs) where
   go false e rest = rest
 
 -- the requests of a revision that doesn't exist are none, where each open request is at one that does
-none_elsewhere : (s : Strategy) (past : List Entry) (r : ℕ) (qs : List Request) → exists_in r past ≡ false → list_all (λ q. stands_scaled s q.revision past) qs ≡ true
+pub none_elsewhere : (s : Strategy) (past : List Entry) (r : ℕ) (qs : List Request) → exists_in r past ≡ false → list_all (λ q. stands_scaled s q.revision past) qs ≡ true
     → filter (λ q. q.revision == r) qs ≡ []
 none_elsewhere s past r [] gone stand = refl
 none_elsewhere s past r (q ∷ qs) gone stand = let both = and_parts (stands_scaled s q.revision past) _ stand in go (q.revision == r) refl both.0 (none_elsewhere s past r qs gone both.1) where

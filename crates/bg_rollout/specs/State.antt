@@ -1,5 +1,5 @@
 -- The state of a rollout: what its past asks for.
-use Rattle.std.specs.Prelude.{ℕ, zero, suc, ◌+◌, List, [], ◌∷◌, map, Option}
+use Rattle.std.specs.Prelude.{ℕ, zero, suc, ◌+◌, ◌==◌, List, [], ◌∷◌, map, length, find, slice_get, Option, Some, None}
 use Rattle.bg_strategy.specs.declared.strategy.Strategy.{Strategy}
 use Rattle.bg_revisions.specs.declared.revision.Revision.{Revision}
 use Rattle.bg_revisions.specs.declared.revision.Selectors.{Selectors}
@@ -33,7 +33,8 @@ pub record State : Type 0 where
   pub revisions : List RevisionState
   pub seats : List Holding
 
--- revision r
+-- revision r; its deadline is read from the table of the past, which says the same as the past
+-- (`table_tells_deadlines` of bg_scaledown)
 abbrev pub revision_state : Strategy → Opening → List Entry → ℕ → RevisionState
 revision_state s o past r = record {
   revision = revision_of s o past r;
@@ -55,3 +56,25 @@ state_of s o closed past = record {
   revisions = map (revision_state s o past) (existing past);
   seats = seats_from closed past 0 o.seats;
 }
+
+-- what a state says of its revisions to who asks by a place or by a number: one that isn't there has
+-- no deadline and no open request
+abbrev pub revision_at : State → ℕ → Option Revision
+revision_at t place = slice_get (map (λ v. v.revision) t.revisions) place
+
+abbrev pub numbered : ℕ → List RevisionState → Option RevisionState
+numbered r revisions = find (λ v. v.revision.number == r) revisions
+
+abbrev pub deadline_in_state : Option RevisionState → Option ℕ
+deadline_in_state None = None
+deadline_in_state (Some v) = v.deadline
+
+abbrev pub deadline_at : State → ℕ → Option ℕ
+deadline_at t r = deadline_in_state (numbered r t.revisions)
+
+abbrev pub requests_in_state : Option RevisionState → List OpenRequest
+requests_in_state None = []
+requests_in_state (Some v) = v.requests
+
+abbrev pub open_count_at : State → ℕ → ℕ
+open_count_at t r = length (requests_in_state (numbered r t.revisions))

@@ -6,7 +6,9 @@ ghost use Rattle.bg_history.specs.declared.entry.Entry.{Entry};
 ghost use Rattle.bg_history.specs.declared.entry.Entry.TheVariants.{Leave};
 ghost use Rattle.bg_history.specs.declared.entry.Outcome.{Outcome};
 ghost use Rattle.bg_history.specs.Kept.{Opening};
+ghost use Rattle.bg_history.specs.Deadlines.{deadline};
 ghost use Rattle.bg_history.specs.Requests.{calls_of, open_at, open_requests};
+ghost use Rattle.bg_history.specs.Sizes.{existing};
 ghost use Rattle.bg_history.specs.Steps.{Follows};
 ghost use Rattle.bg_history_compaction.specs.Laws.{Answers, Same};
 ghost use Rattle.bg_history_listing.specs.Listed.{revisions_of};
@@ -19,12 +21,13 @@ ghost use Rattle.bg_rollout.specs.Invariant.{RoutingStands};
 ghost use Rattle.bg_rollout.specs.PastState.{lists_of, requests_at, share};
 ghost use Rattle.bg_rollout.specs.Refusals.{all_open};
 ghost use Rattle.bg_rollout.specs.Routing.{Routing};
-ghost use Rattle.bg_rollout.specs.State.{state_of};
+ghost use Rattle.bg_rollout.specs.State.{deadline_at, open_count_at, revision_at, state_of};
 ghost use Rattle.bg_scaledown.specs.Past.{table_of};
 
 use bg_history_compaction::laws::{compacts, keeps_table};
 use bg_history_facts::laws::reachable;
 use bg_history_settling::laws::work_falls;
+use bg_scaledown::laws::table_tells_deadlines;
 
 /// The list of each revision has just its open requests, each at the node of its seat's index, and they are as many
 /// as the shares of the seats.
@@ -37,6 +40,23 @@ pub fn lists_requests()
         → (r : ℕ) → sum_by (share r) b.seats ≡ length (open_at r b.past) }
 {
     reachable();
+}
+
+/// What runs says of its revisions what the past says: how many there are, which stands at a place, and of each number
+/// its deadline and how many requests are open.
+pub fn state_tells()
+    ensures count { (b : Routing) → RoutingStands b
+        → length b.running.revisions ≡ length (existing b.past) }
+    ensures revisions { (b : Routing) → RoutingStands b → (place : ℕ)
+        → revision_at b.running place
+        ≡ slice_get (revisions_of b.strategy b.opening b.past) place }
+    ensures deadlines { (b : Routing) → RoutingStands b → (r : ℕ)
+        → deadline_at b.running r ≡ deadline b.strategy r b.past }
+    ensures open { (b : Routing) → RoutingStands b → (r : ℕ)
+        → open_count_at b.running r ≡ length (open_at r b.past) }
+{
+    reachable();
+    table_tells_deadlines();
 }
 
 /// A seat that is in has one of the open requests: there is one less once it has left, and each open request of its

@@ -37,7 +37,7 @@ time-live s r (Some m) = go m.kind m.moment m.stood where
   go Cleared at stood = refl
 
 -- the table's deadlines are the past's
-deadline-is_deadline : (s : Strategy) (r : ℕ) (past : List Entry) → due.deadline_in (table_of s past) r ≡ history.deadline s r past
+pub deadline-is_deadline : (s : Strategy) (r : ℕ) (past : List Entry) → due.deadline_in (table_of s past) r ≡ history.deadline s r past
 deadline-is_deadline s r past =
     ap (option_map (λ m. m.deadline)) (mark_of-stamps r (stamps_of s past) ∙ ap (option_map (λ stamp. stamp.mark)) (stamp_of-past s r past))
     ∙ time-live s r (mark s r past)

@@ -6,7 +6,7 @@ ghost use Rattle.bg_history.specs.Turns.{moment, newest_of};
 ghost use Rattle.bg_history.specs.Selections.{active_of, selectors_of};
 ghost use Rattle.bg_history.specs.Sizes.{existing};
 ghost use Rattle.bg_history.specs.Deadlines.{deadline, exists_in, is_due};
-ghost use Rattle.bg_scaledown.specs.Due.{has_room_for, is_due_in};
+ghost use Rattle.bg_scaledown.specs.Due.{deadline_in, has_room_for, is_due_in};
 ghost use Rattle.bg_scaledown.specs.Events.{may_mark};
 ghost use Rattle.bg_scaledown.specs.Past.{table_of, DeadlinesStand};
 
@@ -35,3 +35,9 @@ pub fn table_tells_due()
 {
     existing_ascends();
 }
+
+/// The table of a past tells the deadline of each revision, as that past says it.
+pub fn table_tells_deadlines()
+    ensures { (s : Strategy) (past : List Entry) (r : ℕ)
+        → deadline_in (table_of s past) r ≡ deadline s r past }
+{}

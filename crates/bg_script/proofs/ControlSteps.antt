@@ -19,6 +19,7 @@ use Rattle.bg_script.specs.declared.answer.Answer.TheVariants as answer
 use Rattle.bg_rollout.specs.declared.control.Control.{Control}
 use Rattle.bg_book.specs.declared.calls.Reply.{Reply}
 use Rattle.bg_script.specs.declared.control_side.BeforeOpen.TheVariants as before_open
+use Rattle.bg_script.specs.declared.control_side.FirstRevision.{FirstRevision}
 use Rattle.bg_script.specs.declared.control_side.ControlEnd.TheVariants as control_end
 use Rattle.bg_script.proofs.Quitting.{is_the_quit, not_quit}
 use Rattle.bg_script.specs.AnswerTexts.{answer_text}
@@ -66,12 +67,12 @@ ordered : (order : Command) (read : Result Command LineFault) (ys zs : List ℕ)
     → Orders order (lines_of ys) (lines_of zs)
 ordered order read ys zs line is = (line.0, line.1, subst (λ r. IsReadAs (line_reading line.0) r) is line.2)
 
-pub opens : (first now : Option (List ℕ)) (read : Result Command LineFault) (name ports : List ℕ) (xs ys zs : List ℕ) → Goes StepBeforeOpen first now xs ys
-    → NextIs (Some read) ys zs → read ≡ Ok (command.Open name ports) → AnswersBeforeOpen (before_open.Open name ports) first now xs zs
-opens first now read name ports xs ys zs p line is = record {
+pub opens : (first now : Option (List ℕ)) (read : Result Command LineFault) (revision : FirstRevision) (xs ys zs : List ℕ) → Goes StepBeforeOpen first now xs ys
+    → NextIs (Some read) ys zs → read ≡ Ok (command.Open revision.name revision.ports) → AnswersBeforeOpen (before_open.Open revision) first now xs zs
+opens first now read revision xs ys zs p line is = record {
   rest = lines_of ys;
   wrote = stops StepBeforeOpen first now xs ys p;
-  ends = ordered (command.Open name ports) read ys zs line is;
+  ends = ordered (command.Open revision.name revision.ports) read ys zs line is;
 }
 
 pub quits_before_open : (first now : Option (List ℕ)) (read : Result Command LineFault) (xs ys zs : List ℕ) → Goes StepBeforeOpen first now xs ys

@@ -126,7 +126,8 @@ Orders command lines later = (line : List ℕ) × (lines ≡ line ∷ later)
 
 -- why lines are not answered any more while no book is open, where these are unread then
 abbrev pub EndsBeforeOpen : BeforeOpen → List (List ℕ) → List (List ℕ) → Type 0
-EndsBeforeOpen (before_open.Open name ports) rest later = Orders (command.Open name ports) rest later
+EndsBeforeOpen (before_open.Open first) rest later =
+    Orders (command.Open first.name first.ports) rest later
 EndsBeforeOpen before_open.Quit rest later = Orders command.Quit rest later
 EndsBeforeOpen before_open.End rest later = rest ≡ []
 

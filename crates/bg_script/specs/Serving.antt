@@ -1,19 +1,12 @@
 -- How one line is answered, as the parts of a replay state it.
 use Rattle.std.specs.Prelude.{◌≡◌, ◌≢◌, ℕ, Bool, List, Option, Result, Ok}
 use Rattle.std.specs.Io.KnownBytes.{Appends}
-use Rattle.bg_ledger.specs.declared.holding.Holding.{Holding}
-use Rattle.bg_rollout.specs.Routing.{Routing}
 use Rattle.bg_operator.specs.declared.command.Command.{Command}
 use Rattle.bg_operator.specs.declared.command.Command.TheVariants.{Quit}
 use Rattle.bg_operator.specs.declared.line_fault.LineFault.{LineFault}
 use Rattle.bg_script.specs.declared.answer.Answer.TheVariants.{Opened}
 use Rattle.bg_script.specs.AnswerTexts.{answer_text}
 use Rattle.bg_script.specs.Scripts.{Stage, ReadStep, Ran, Written, is_fault_written, written_text}
-
--- a book that is open, and its seats
-pub record OpenState : Type 0 where
-  pub book : Routing
-  pub seats : List Holding
 
 -- what a line that was read so is answered, where it isn't `quit`
 abbrev pub StepRead : Stage → Result Command LineFault → Written → Stage → Type 0

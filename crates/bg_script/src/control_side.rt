@@ -19,11 +19,18 @@ use std::alloc::Global;
 use std::io::{BufRead, Write};
 use std::sync::Wait;
 
+/// The first revision of a book that is asked for.
+#[derive(Debug, Drop)]
+pub struct FirstRevision {
+    pub name: Name,
+    pub ports: Ports,
+}
+
 /// Why the lines of a control connection are no longer answered while no book is open.
 #[derive(Debug, Drop)]
 pub enum BeforeOpen {
     /// A line orders that a book is opened. It is not yet answered.
-    Open { name: Name, ports: Ports },
+    Open(FirstRevision),
     /// The line is `quit`.
     Quit,
     /// The connection has no further line.
@@ -61,20 +68,20 @@ pub fn answer_before_open<B: BufRead, W: Write>(
             return Ok(BeforeOpen::Quit);
         }
         match opening(read) {
-            Ok((name, ports)) => return Ok(BeforeOpen::Open { name, ports }),
+            Ok(first) => return Ok(BeforeOpen::Open(first)),
             Err(answer) => tell(&answer, writer)?,
         }
     }
     Err(RunEnd::ReadFailed)
 }
 
-/// The name and the ports of an `open`, or what another line is answered while no book is open.
-fn opening(read: Result<Command, LineFault>) -> Result<(Name, Ports), Answer>
-    ensures ok { IfOk result (λ order. read ≡ Ok (Command.Open order.0 order.1)) }
+/// The first revision of an `open`, or what another line is answered while no book is open.
+fn opening(read: Result<Command, LineFault>) -> Result<FirstRevision, Answer>
+    ensures ok { IfOk result (λ first. read ≡ Ok (Command.Open first.name first.ports)) }
     ensures err { IfErr result (λ answer. MayBeAsked read → ClosedAnswer read answer) }
 {
     match read {
-        Ok(Command::Open { name, ports }) => Ok((name, ports)),
+        Ok(Command::Open { name, ports }) => Ok(FirstRevision { name, ports }),
         Ok(Command::Enter { .. } | Command::Leave { .. }) => Err(Answer::NotHere),
         Ok(Command::Control(_) | Command::Report | Command::Compact | Command::Quit) => {
             Err(Answer::NotOpen)

@@ -7,16 +7,16 @@
 #![tactic(auto)]
 
 mod answer;
+mod answering;
 mod checking;
 mod control_side;
 mod finding;
-mod open_book;
 mod replaying;
 mod run_end;
 
 pub use answer::{Answer, write_answer};
 pub use checking::{check, finding_of_input};
-pub use control_side::{BeforeOpen, ControlEnd, answer_at_desk, answer_before_open};
+pub use control_side::{BeforeOpen, ControlEnd, FirstRevision, answer_at_desk, answer_before_open};
 pub use finding::{Finding, write_finding};
 pub use replaying::replay;
 pub use run_end::RunEnd;

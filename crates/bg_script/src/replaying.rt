@@ -6,9 +6,10 @@ ghost use Rattle.bg_script.specs.Scripts.{Ran, Refuses, Replays, Stage, Said, Cl
 ghost use Rattle.bg_script.specs.Serving.{RanOpened, StepRead};
 
 use crate::answer::Answer;
+use crate::answering::{Terms, answer_by, begin, say};
 use crate::finding::{Finding, finding_in, write_finding};
-use crate::open_book::{OpenBook, Terms, say};
 use crate::run_end::RunEnd;
+use bg_book::OpenBook;
 use bg_ledger::{Blanks, Names};
 use bg_operator::{Command, LineFault, MOST_TURNS, OperatorLines, is_quit, part_before_script};
 use std::alloc::Global;
@@ -112,7 +113,7 @@ fn run_open<N: Names, B: BufRead, W: Write>(
         (Said answer) (Closed terms.now.strategy.now terms.now.seats)) }
     ensures unchanged { OnErr result ((reader.new ≡ reader.old) × (writer.new ≡ writer.old)) }
 {
-    let mut opened = OpenBook::<N>::begin(terms, read, blanks)?;
+    let mut opened = begin::<N>(terms, read, blanks)?;
     let end = answer_opened(&mut opened, lines, reader, writer);
     let _history = opened.close();
     Ok(end)
@@ -152,7 +153,7 @@ fn answer_lines<N: Names, B: BufRead, W: Write>(
         if is_quit(&read) {
             return Ok(faulted);
         }
-        let fault = opened.serve(read, writer)?;
+        let fault = answer_by(opened, read, writer)?;
         faulted |= fault;
     }
     Err(RunEnd::ReadFailed)

@@ -7,6 +7,7 @@ use Rattle.clap.specs.declared.error.kind.ErrorKind.TheVariants as kind
 use Rattle.clap.specs.declared.builder.value_parser.ValueParser.TheVariants as value_parser
 use Rattle.bg_switch.specs.declared.orders.Order.{Order}
 use Rattle.bg_switch.specs.declared.orders.Order.TheVariants.{Check, Replay, Serve}
+use Rattle.bg_switch.specs.declared.orders.Site.{Site}
 use Rattle.bg_switch.specs.declared.orders.OrderFault.{OrderFault}
 use Rattle.bg_switch.specs.declared.orders.OrderFault.TheVariants.{Words, OutOfMemory}
 
@@ -72,22 +73,20 @@ abbrev pub IsGiven : ℕ → ℕ → Text → List Row → ℕ → Type 0
 IsGiven least most id rows n = (number_of id rows ≡ Some n) × IsBetween least most n
 
 -- what `serve` is given
-pub record IsServe (rows : List Row) (active : ℕ) (preview : Option ℕ) (control workers count : ℕ)
-    : Type 0 where
-  pub active_is : IsGiven 1 65535 (codes "active") rows active
-  pub preview_is : preview ≡ number_of (codes "preview") rows
-  pub preview_range : IfSome preview (IsBetween 1 65535)
-  pub control_is : IsGiven 1 65535 (codes "control") rows control
-  pub workers_is : IsGiven 1 7 (codes "workers") rows workers
-  pub count_is : IsGiven 1 1000000 (codes "count") rows count
+pub record IsServe (rows : List Row) (site : Site) : Type 0 where
+  pub active_is : IsGiven 1 65535 (codes "active") rows site.active
+  pub preview_is : site.preview ≡ number_of (codes "preview") rows
+  pub preview_range : IfSome site.preview (IsBetween 1 65535)
+  pub control_is : IsGiven 1 65535 (codes "control") rows site.control
+  pub workers_is : IsGiven 1 7 (codes "workers") rows site.workers
+  pub count_is : IsGiven 1 1000000 (codes "count") rows site.count
 
 -- the order is the subcommand of this name with these matches; 4 seats where no number is given
 abbrev pub IsOrderOf : Text → List Row → Order → Type 0
 IsOrderOf name rows Check = name ≡ codes "check"
 IsOrderOf name rows (Replay seats) = (name ≡ codes "replay")
     × (seats ≡ unwrap_or (number_of (codes "seats") rows) 4) × IsBetween 1 8 seats
-IsOrderOf name rows (Serve active preview control workers count) =
-    (name ≡ codes "serve") × IsServe rows active preview control workers count
+IsOrderOf name rows (Serve site) = (name ≡ codes "serve") × IsServe rows site
 
 -- `clap` accepts the words, and the order is the subcommand of its matches
 abbrev pub IsOrderIn : List Text → Order → Type 0

@@ -21,7 +21,7 @@ use crate::keeping::Keeping;
 use crate::orders::{Order, OrderFault};
 use crate::patience::patience_seconds;
 use crate::reasons::{tell_reasons, tell_reasons_before_script};
-use crate::serving::{Site, serve};
+use crate::serving::serve;
 use bg_script::RunEnd;
 use std::env;
 use std::io::ErrorKind;
@@ -44,24 +44,19 @@ fn main(rt: HostRuntime) -> ExitCode {
     let done = match order {
         Order::Check => checked(&rt),
         Order::Replay { seats } => replayed(&rt, seats),
-        Order::Serve {
-            active,
-            preview,
-            control,
-            workers,
-            count,
-        } => {
-            let site = Site {
-                active,
-                preview,
-                control,
-                workers,
-                count,
-                patience: patience_seconds(&rt),
-            };
+        Order::Serve(site) => {
+            let patience = patience_seconds(&rt);
             let mut input = Keeping::new(rt.alloc(), rt.stdin());
             let (mut output, mut errors) = (rt.stdout(), rt.stderr());
-            serve(&rt, rt.alloc(), site, &mut input, &mut output, &mut errors)
+            serve(
+                &rt,
+                rt.alloc(),
+                site,
+                patience,
+                &mut input,
+                &mut output,
+                &mut errors,
+            )
         }
     };
     match done {

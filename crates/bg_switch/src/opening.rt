@@ -8,9 +8,10 @@ use crate::serving::written;
 use crate::working::{services_of, work_beside_operators};
 use bg_book::{Book, Desk, Limits, OpenFault};
 use bg_ledger::{Blanks, Names, Seat};
+use bg_operator::MOST_TURNS;
 use bg_report::report;
-use bg_revisions::{Name, Ports, Service};
-use bg_script::{Answer, BeforeOpen, RunEnd};
+use bg_revisions::Service;
+use bg_script::{Answer, BeforeOpen, FirstRevision, RunEnd};
 use bg_strategy::Strategy;
 use std::alloc::Global;
 use std::io;
@@ -20,9 +21,6 @@ use std::net::{Net, TcpListener, TcpStream};
 use std::sync::Wait;
 use std::thread::Threads;
 use std::time::Clock;
-
-/// After so many refused `open`s an operator's connection is given up.
-const MOST_OPENS: u32 = 1 << 24;
 
 /// What the workers and the operators share, once the ports are bound.
 #[derive(Drop)]
@@ -37,13 +35,6 @@ pub struct Scene<'a> {
     pub count: u32,
     /// How many seconds a request or a response may take until it is whole.
     pub patience: u64,
-}
-
-/// The first revision of a book.
-#[derive(Drop)]
-struct First {
-    name: Name,
-    ports: Ports,
 }
 
 /// Answers operators, one after the other, until one opens a book, by which clients are then served to
@@ -67,7 +58,7 @@ where
 }
 
 /// Answers an operator. Returns whether the run is done: clients were served to the end, or the
-/// operator quits.
+/// operator quits. After 2^24 refused `open`s its connection is given up.
 fn answer_opener<R, W: Write>(
     rt: &R,
     scene: &Scene,
@@ -77,9 +68,9 @@ fn answer_opener<R, W: Write>(
 where
     R: Net<Listener = TcpListener, Stream = TcpStream> + Threads + Wait + Clock + Sync,
 {
-    for _ in 0..MOST_OPENS {
+    for _ in 0..MOST_TURNS {
         let first = match operator.before_open() {
-            Ok(BeforeOpen::Open { name, ports }) => First { name, ports },
+            Ok(BeforeOpen::Open(first)) => first,
             Ok(BeforeOpen::Quit) => return Ok(true),
             Ok(BeforeOpen::End) | Err(_) => return Ok(false),
         };
@@ -103,7 +94,7 @@ fn open_and_serve<N: Names + Send + Sync, R, W: Write>(
     rt: &R,
     scene: &Scene,
     blanks: Blanks,
-    first: &First,
+    first: &FirstRevision,
     operator: &mut Operator,
     output: &mut W,
 ) -> Result<Result<(), RunEnd>, OpenFault>

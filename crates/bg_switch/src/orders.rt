@@ -12,19 +12,24 @@ pub enum Order {
     /// Tell what the strategy on standard input means.
     Check,
     /// Answer the script after the strategy, with so many seats, 1 to 8.
-    Replay {
-        seats: u8,
-    },
-    /// Forward requests that come to the port `active` and, where it is given, to `preview`, by the
-    /// lines of an operator that come to the port `control`. So many workers, 1 to 7, are at `active`,
-    /// and each takes `count` connections, 1 to 1,000,000. Ports are from 1 to 65535.
-    Serve {
-        active: u16,
-        preview: Option<u16>,
-        control: u16,
-        workers: u8,
-        count: u32,
-    },
+    Replay { seats: u8 },
+    /// Forward requests that come to the ports of clients, by the lines of operators.
+    Serve(Site),
+}
+
+/// Where `serve` takes connections, and how many. Ports are from 1 to 65535.
+#[derive(Clone, Copy, Debug, Drop, PartialEq, Eq)]
+pub struct Site {
+    /// The port of the active service.
+    pub active: u16,
+    /// The port of the preview service, where it is given.
+    pub preview: Option<u16>,
+    /// The port of operators.
+    pub control: u16,
+    /// How many workers the active service has, 1 to 7. The preview service has one.
+    pub workers: u8,
+    /// How many connections each worker takes, 1 to 1,000,000.
+    pub count: u32,
 }
 
 /// Why the words are no order.

@@ -3,6 +3,7 @@
 use crate::keeping::Keeping;
 use crate::listeners::Listeners;
 use crate::opening::{Scene, await_open};
+use crate::orders::Site;
 use crate::reasons::tell_reasons;
 use bg_script::{Finding, RunEnd, finding_of_input, write_finding};
 use std::alloc::Global;
@@ -13,25 +14,8 @@ use std::sync::Wait;
 use std::thread::Threads;
 use std::time::Clock;
 
-/// The words of `serve`.
-#[derive(Clone, Copy, Debug, Drop)]
-pub struct Site {
-    /// The port of the active service.
-    pub active: u16,
-    /// The port of the preview service, where it is given.
-    pub preview: Option<u16>,
-    /// The port of operators.
-    pub control: u16,
-    /// How many workers the active service has. The preview service has one.
-    pub workers: u8,
-    /// How many connections each worker takes.
-    pub count: u32,
-    /// How many seconds a request or a response may take until it is whole.
-    pub patience: u64,
-}
-
 /// Serves clients by the strategy that the whole input is the JSON text of, and by the lines of
-/// operators. Answers the exit status: 1 where the strategy has a fault or a port can't be bound,
+/// operators; a request and a response may each take `patience` seconds until they are whole. Answers the exit status: 1 where the strategy has a fault or a port can't be bound,
 /// whose line is written, and else 0.
 ///
 /// Once the ports are bound, `listening` is written. An `open` of an operator opens the book; each
@@ -45,6 +29,7 @@ pub fn serve<R, I: Read, W: Write, E: Write>(
     rt: &R,
     alloc: Global,
     site: Site,
+    patience: u64,
     input: &mut Keeping<I>,
     output: &mut W,
     errors: &mut E,
@@ -75,7 +60,7 @@ where
         listeners: &listeners,
         seats: u32::from(site.workers) + u32::from(site.preview.is_some()),
         count: site.count,
-        patience: site.patience,
+        patience,
     };
     await_open(rt, &scene, output)?;
     Ok(0)

@@ -4,7 +4,7 @@ ghost use Rattle.clap.specs.Words.{IsUnsignedIn, first_of, found_of, rows_of};
 ghost use Rattle.bg_switch.specs.CommandLine.{HasWordsOfServe, IsBetween, IsFaultFrom, IsFaultIn, IsIn, IsKnown, IsOrderIn, IsOrderOf, number};
 
 use crate::command_line::program_command;
-use crate::orders::{Order, OrderFault};
+use crate::orders::{Order, OrderFault, Site};
 use clap::error::ErrorKind;
 use clap::{ArgMatches, Error};
 use std::alloc::Global;
@@ -70,7 +70,7 @@ fn serve_of(matches: &ArgMatches) -> Order
     requires { HasWordsOfServe (rows_of (found_of matches.now)) }
     ensures { IsOrderOf (codes "serve") (rows_of (found_of matches.now)) result }
 {
-    Order::Serve {
+    Order::Serve(Site {
         active: port_in(given(matches, "active")),
         preview: match text_of(matches, "preview") {
             Some(text) => Some(port_in(text)),
@@ -79,7 +79,7 @@ fn serve_of(matches: &ArgMatches) -> Order
         control: port_in(given(matches, "control")),
         workers: workers_in(given(matches, "workers")),
         count: count_in(given(matches, "count")),
-    }
+    })
 }
 
 fn text_of<'a>(matches: &ArgMatches<'a>, id: &str) -> Option<&'a str>

@@ -8,12 +8,14 @@ ghost use Rattle.bg_history.specs.Selections.{selectors_of};
 ghost use Rattle.bg_history_listing.specs.Listed.{revisions_of};
 ghost use Rattle.bg_promotion.specs.Phases.{phase_of};
 ghost use Rattle.bg_rollout.specs.PastState.{is_draining as is_draining_in};
+ghost use Rattle.bg_rollout.specs.State.{deadline_at, open_count_at, revision_at};
 
 use crate::book::Book;
 use bg_history::History;
 use bg_ledger::Names;
 use bg_promotion::Phase;
 use bg_revisions::{Revision, Selectors};
+use bg_rollout::laws::state_tells;
 use bg_strategy::Strategy;
 
 impl<N: Names> Book<N> {
@@ -53,30 +55,42 @@ impl<N: Names> Book<N> {
 
     /// How many revisions exist.
     pub fn count(&self) -> usize
-        ensures { result ≡ length (existing self.now.past) }
+        ensures past { result ≡ length (existing self.now.past) }
+        ensures running { result ≡ length self.now.running.revisions }
     {
+        state_tells();
+        self.rollout.stands();
         self.rollout.revisions().len()
     }
 
     /// The revision at a place, from 0, in order of number; none past the last.
     pub fn revision(&self, place: usize) -> Option<&Revision>
-        ensures { option_copied result ≡ slice_get
+        ensures past { option_copied result ≡ slice_get
             (revisions_of self.now.strategy self.now.opening self.now.past) place }
+        ensures running { option_copied result ≡ revision_at self.now.running place }
     {
+        state_tells();
+        self.rollout.stands();
         self.rollout.revisions().get(place)
     }
 
     /// The moment from which the revision of this number may be scaled down, if it has one.
     pub fn deadline_of(&self, number: u64) -> Option<u64>
-        ensures { result ≡ deadline self.now.strategy number self.now.past }
+        ensures past { result ≡ deadline self.now.strategy number self.now.past }
+        ensures running { result ≡ deadline_at self.now.running number }
     {
+        state_tells();
+        self.rollout.stands();
         self.rollout.deadline_of(number)
     }
 
     /// How many requests are open at the revision of this number; 0 where there is none.
     pub fn open_count(&self, number: u64) -> usize
-        ensures { result ≡ length (open_at number self.now.past) }
+        ensures past { result ≡ length (open_at number self.now.past) }
+        ensures running { result ≡ open_count_at self.now.running number }
     {
+        state_tells();
+        self.rollout.stands();
         self.rollout.open_count(number)
     }
 

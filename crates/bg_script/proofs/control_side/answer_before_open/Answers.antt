@@ -28,8 +28,8 @@ pub returns-in-Ok : goal.returns-in-Ok
 returns-in-Ok g c =
     let first = g.W.Write.contents c.args.writer.now in
     let now = g.W.Write.contents c.loop.writer in
-    Known-both (Goes StepBeforeOpen first now) (NextIs c.in_ok-read.field-0) (AnswersBeforeOpen (before_open.Open c.in-Ok.name c.in-Ok.ports) first now) _ _ _
-    (λ xs ys zs p q. opens first now c.in-Some.read c.in-Ok.name c.in-Ok.ports xs ys zs p (rw c.in-Some.is at q) c.in-Ok.ensures.ok)
+    Known-both (Goes StepBeforeOpen first now) (NextIs c.in_ok-read.field-0) (AnswersBeforeOpen (before_open.Open c.in-Ok.first) first now) _ _ _
+    (λ xs ys zs p q. opens first now c.in-Some.read c.in-Ok.first xs ys zs p (rw c.in-Some.is at q) c.in-Ok.ensures.ok)
     c.loop.invariant c.in_ok-read.ensures
 
 pub loop-preserved : goal.loop-preserved

@@ -9,10 +9,10 @@ pub loop-preserved : goal.loop-preserved
 loop-preserved g c =
     let start = Running c.args.opened.now.book c.args.opened.now.seats in
     let stage = Running c.loop.opened.book c.loop.opened.seats in
-    let next = Running c.serve.new.self.book c.serve.new.self.seats in
+    let next = Running c.answer_by.new.opened.book c.answer_by.new.opened.seats in
     let first = g.W.Write.contents c.args.writer.now in
     let now = g.W.Write.contents c.loop.writer in
-    let new = g.W.Write.contents c.serve.new.writer in
+    let new = g.W.Write.contents c.answer_by.new.writer in
     let faulted = c.loop.faulted in
     let fault = c.in_ok-fault.fault in
     Known-both (Goes start first now stage faulted) (NextIs c.in_ok-read.field-0) (Goes start first new next (faulted || fault)) _ _ _

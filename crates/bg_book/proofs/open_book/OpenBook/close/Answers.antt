@@ -1,7 +1,7 @@
 use Rattle.std.proofs.Common.{length, subst}
+use Rattle.bg_book.specs.OpenBooks.{OpenState}
 use Rattle.bg_book.specs.Runs.{LeavesAll}
-use Rattle.bg_script.specs.Serving.{OpenState}
-use Rattle.bg_script.proofs.open_book.OpenBook.close.Goals as goal
+use Rattle.bg_book.proofs.open_book.OpenBook.close.Goals as goal
 
 pub returns-clause-left : goal.returns-clause-left
 returns-clause-left g c =

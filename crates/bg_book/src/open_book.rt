@@ -1,0 +1,132 @@
+//! A book together with its seats, for who shares neither.
+ghost use Rattle.std.specs.Prelude.{◌≡◌, ◌≤◌, ◌+◌, [], List, IfOk, OnErr, length, true};
+ghost use Rattle.bg_history.specs.Requests.{open_requests};
+ghost use Rattle.bg_ledger.specs.Blanks.{AreAllFor};
+ghost use Rattle.bg_ledger.specs.declared.holding.Holding.{Holding};
+ghost use Rattle.bg_rollout.specs.Changes.{opened, NewSeats};
+ghost use Rattle.bg_rollout.specs.Compaction.{with_compacted};
+ghost use Rattle.bg_rollout.specs.Gathering.{are_all};
+ghost use Rattle.bg_rollout.specs.Refusals.{open_refusal, AnswersBy};
+ghost use Rattle.bg_rollout.specs.Routing.{Routing};
+ghost use Rattle.bg_rollout.specs.declared.fault.OpenFault.TheVariants.{OutOfMemory};
+ghost use Rattle.bg_book.specs.Runs.{AreOut, CallStep, LeavesAll, Runs, Unchanged};
+
+use crate::book::Book;
+use crate::calls::{Call, Reply};
+use crate::fault::RunFault;
+use crate::laws::lent;
+use bg_history::History;
+use bg_ledger::{Blanks, Names, Seat};
+use bg_rollout::{Limits, OpenFault};
+use bg_strategy::Strategy;
+use std::alloc::Global;
+use std::marker::Model;
+
+/// An open book and all its seats. It can't be dropped: it ends in [`OpenBook::close`], or is taken apart by
+/// [`OpenBook::into_parts`].
+pub struct OpenBook<N: Names> {
+    book: Book<N>,
+    seats: Vec<Seat<N>>,
+}
+
+impl<N: Names> Model for OpenBook<N> {
+    ghost use Rattle.std.specs.Prelude.{◌≡◌, true};
+    ghost use Rattle.bg_rollout.specs.Gathering.{are_all};
+    ghost use Rattle.bg_book.specs.OpenBooks.{OpenState};
+
+    ghost Value = { OpenState };
+
+    ghost view = { λ opened. record { book = opened.book; seats = opened.seats.items } };
+
+    ghost invariant = { λ opened. are_all N.seats opened.seats.items ≡ true };
+}
+
+impl<N: Names> OpenBook<N> {
+    /// Opens a book as [`Book::open`] does, and is refused as it is.
+    pub fn open(
+        alloc: Global,
+        strategy: &Strategy,
+        name: &str,
+        ports: &[u16],
+        seats: u32,
+        limits: Limits,
+        blanks: Blanks,
+    ) -> Result<OpenBook<N>, OpenFault>
+        requires blanks { AreAllFor N.Names blanks }
+        requires seats { 1 ≤ seats → seats ≤ 8 → N.seats ≡ seats }
+        ensures refusal { AnswersBy
+            (open_refusal strategy.now name.now ports.now seats limits) OutOfMemory result }
+        ensures book { IfOk result
+            (λ made. made.book ≡ opened strategy.now name.now ports.now seats limits made.seats) }
+        ensures seats { IfOk result (λ made. NewSeats seats made.seats) }
+    {
+        let (book, seats) = Book::open(alloc, strategy, name, ports, seats, limits, blanks)?;
+        Ok(OpenBook { book, seats })
+    }
+
+    /// The book, for who reads it.
+    pub fn book(&self) -> &Book<N>
+        ensures { result.now ≡ self.now.book }
+    {
+        &self.book
+    }
+
+    /// The seats, in order of index.
+    pub fn seats(&self) -> &[Seat<N>]
+        ensures { result.now ≡ self.now.seats }
+    {
+        self.seats.as_slice()
+    }
+
+    /// Makes one call, and answers as [`Book::call`] does.
+    pub fn call(&mut self, call: &Call) -> Reply
+        ensures { CallStep self.old.book self.old.seats call.now result
+            self.new.book self.new.seats }
+    {
+        lent();
+        self.book.call(self.seats.as_mut_slice(), call)
+    }
+
+    /// Makes the calls one after the other, and answers and is refused as [`Book::run`] is.
+    pub fn run(&mut self, calls: &[Call]) -> Result<Vec<Reply>, RunFault>
+        ensures replies { IfOk result (λ replies. Runs self.old.book self.old.seats calls.now
+            replies.items self.new.book self.new.seats) }
+        ensures unchanged { OnErr result
+            (Unchanged self.old.book self.old.seats self.new.book self.new.seats) }
+    {
+        lent();
+        self.book.run(self.seats.as_mut_slice(), calls)
+    }
+
+    /// Compacts the history, as [`Book::compact`] does. Gives the number of entries that were dropped.
+    pub fn compact(&mut self) -> u64
+        ensures book { self.new.book ≡ with_compacted self.old.book }
+        ensures seats { self.new.seats ≡ self.old.seats }
+        ensures dropped { result + length self.new.book.past ≡ length self.old.book.past }
+    {
+        self.book.compact()
+    }
+
+    /// The book and its seats, each by itself.
+    pub fn into_parts(self) -> (Book<N>, Vec<Seat<N>>)
+        ensures book { result.0 ≡ self.book }
+        ensures seats { result.1.items ≡ self.seats }
+        ensures all { are_all N.seats result.1.items ≡ true }
+    {
+        let OpenBook { book, seats } = self;
+        (book, seats)
+    }
+
+    /// Lets each request that is in leave, in the order of the seats, without a reply, and gathers the book. Gives
+    /// its history. It takes no memory.
+    pub fn close(self) -> History
+        ensures left { (new : Routing) × (seats : List Holding)
+            × LeavesAll self.book self.seats (length self.seats) new seats
+            × AreOut seats × (result.opening ≡ new.opening) × (result.closed ≡ new.closed)
+            × (result.past ≡ new.past) }
+        ensures none_open { open_requests result.past ≡ [] }
+    {
+        let OpenBook { book, seats } = self;
+        book.close(seats)
+    }
+}
