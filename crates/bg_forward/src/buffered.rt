@@ -3,15 +3,13 @@ ghost use Rattle.std.specs.Prelude.{◌≡◌, ◌≤◌, [], OnOk, drop, vec_le
 ghost use Rattle.std.specs.Io.KnownBytes.{Keeps};
 ghost use Rattle.bg_forward.specs.Buffers.{buffered, held, stream_of};
 
+use bg_http::MOST_TURNS;
 use std::alloc::Global;
 use std::io;
 use std::io::{ErrorKind, Write};
 
 /// How many bytes are gathered before they go on.
 const ROOM: usize = 4096;
-
-/// So often it is tried to hand on what is held.
-const MOST_TURNS: u32 = 1 << 24;
 
 /// A stream whose writes are gathered, up to 4,096 bytes, and go on where there is no room for
 /// more, or at `flush`: so the head of a message goes out in one write where it fits. What is held

@@ -3,5 +3,6 @@ pub mod Digits
 pub mod GivenLengths
 pub mod KeptFields
 pub mod NamedCodings
+pub mod RuledNames
 pub mod Splits
 mod WorkedMessages

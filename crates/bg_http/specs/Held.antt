@@ -4,6 +4,7 @@ use Rattle.std.specs.Borrow.{Bor}
 use Rattle.bg_http.specs.Elements.{elements, elements_named}
 use Rattle.bg_http.specs.Lengths.{Length, absent, is, wrong}
 use Rattle.bg_http.specs.Codings.{is_chunked, is_empty}
+use Rattle.bg_http.specs.Names.{spelled}
 use Rattle.bg_http.specs.declared.elements.Elements.{Elements}
 use Rattle.bg_http.specs.declared.lengths.OneLength.{OneLength}
 use Rattle.bg_http.specs.declared.lengths.OneLength.TheVariants as held
@@ -20,7 +21,7 @@ FirstElement value (element, rest) = elements value ≡ element.now ∷ elements
 
 -- the elements that are still to come
 abbrev pub elements_left : Elements → List (List ℕ)
-elements_left e = elements_if e.value ++ elements_named e.name.now e.fields.now
+elements_left e = elements_if e.value ++ elements_named (spelled e.name) e.fields.now
 
 -- what Content-Length fields say, as the code holds it
 abbrev pub length_held : OneLength → Length

@@ -3,6 +3,7 @@ pub mod Elements
 pub mod Held
 pub mod Laws
 pub mod Lengths
+pub mod Names
 pub mod Removed
 pub mod RequestRules
 pub mod ResponseRules

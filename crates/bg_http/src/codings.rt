@@ -3,8 +3,9 @@ ghost use Rattle.std.specs.Prelude.{◌≡◌, length, min};
 ghost use Rattle.bg_http.specs.Codings.{codings, ends_in_chunked};
 ghost use Rattle.bg_http.specs.Held.{add_coding};
 
-use crate::bytes::Bytes;
 use crate::elements::{elements_named, is_same_name};
+use crate::field::Field;
+use crate::names::RuledName;
 
 /// How many codings there are, counted up to two, and whether the last of them is `chunked`.
 #[derive(Clone, Copy)]
@@ -28,7 +29,7 @@ impl Codings {
 }
 
 /// The codings that all Transfer-Encoding fields name (RFC 9112 section 6.1).
-pub(crate) fn named_codings(fields: &[(Bytes, Bytes)]) -> Codings
+pub(crate) fn named_codings(fields: &[Field]) -> Codings
     ensures count { result.count ≡ min (length (codings fields.now)) 2 }
     ensures chunked_last { result.chunked_last ≡ ends_in_chunked (codings fields.now) }
 {
@@ -36,7 +37,7 @@ pub(crate) fn named_codings(fields: &[(Bytes, Bytes)]) -> Codings
         count: 0,
         chunked_last: false,
     };
-    for element in elements_named(fields, b"transfer-encoding") {
+    for element in elements_named(fields, RuledName::TransferEncoding) {
         found = found.add(element);
     }
     found

@@ -3,8 +3,10 @@ ghost use Rattle.std.specs.Prelude.{◌≡◌, IfNone, [], position};
 ghost use Rattle.std.specs.Str.{str_eq_ignore_ascii_case};
 ghost use Rattle.bg_http.specs.Elements.{elements_named as elements_of, has_field as has_named, is_blank as is_blank_byte, is_comma, without_blanks, trimmed};
 ghost use Rattle.bg_http.specs.Held.{FirstElement, elements_left};
+ghost use Rattle.bg_http.specs.Names.{spelled};
 
-use crate::bytes::Bytes;
+use crate::field::Field;
+use crate::names::RuledName;
 
 /// Whether both are one name (RFC 9110 section 5.1: names are compared without case).
 pub(crate) fn is_same_name(one: &[u8], other: &[u8]) -> bool
@@ -14,10 +16,10 @@ pub(crate) fn is_same_name(one: &[u8], other: &[u8]) -> bool
 }
 
 /// Whether a field has the name.
-pub(crate) fn has_field(fields: &[(Bytes, Bytes)], name: &[u8]) -> bool
-    ensures { result ≡ has_named name.now fields.now }
+pub(crate) fn has_field(fields: &[Field], name: RuledName) -> bool
+    ensures { result ≡ has_named (spelled name) fields.now }
 {
-    fields.iter().any(|field| is_same_name(field.0.get(), name))
+    fields.iter().any(|field| field.is(name))
 }
 
 /// Whether the byte is a space or a tab (RFC 9110 section 5.6.3).
@@ -75,13 +77,13 @@ pub(crate) struct Elements<'a> {
     /// What is left of the value of a field that was begun.
     value: Option<&'a [u8]>,
     /// The fields that are left.
-    fields: &'a [(Bytes, Bytes)],
-    name: &'a [u8],
+    fields: &'a [Field],
+    name: RuledName,
 }
 
 /// The elements of all fields that have the name, in order.
-pub(crate) fn elements_named<'a>(fields: &'a [(Bytes, Bytes)], name: &'a [u8]) -> Elements<'a>
-    ensures { elements_left result ≡ elements_of name.now fields.now }
+pub(crate) fn elements_named(fields: &[Field], name: RuledName) -> Elements<'_>
+    ensures { elements_left result ≡ elements_of (spelled name) fields.now }
 {
     Elements {
         value: None,
@@ -100,8 +102,8 @@ impl Elements<'_> {
             && let [field, rest @ ..] = self.fields
         {
             self.fields = rest;
-            if is_same_name(field.0.get(), self.name) {
-                self.value = Some(field.1.get());
+            if field.is(self.name) {
+                self.value = Some(field.value());
             }
         }
     }

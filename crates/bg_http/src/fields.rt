@@ -1,7 +1,7 @@
 //! The fields of a head.
 ghost use Rattle.std.specs.Prelude.{◌≡◌, ◌++◌, ◌∷◌, [], length, slice_get, option_copied, IfOk, OnOk, OnErr};
 
-use crate::bytes::Bytes;
+use crate::field::Field;
 use std::alloc::{AllocError, Global};
 use std::marker::Model;
 
@@ -10,7 +10,7 @@ use std::marker::Model;
 #[derive(Drop, Debug)]
 pub struct Fields {
     alloc: Global,
-    list: Vec<(Bytes, Bytes)>,
+    list: Vec<Field>,
 }
 
 impl Model for Fields {
@@ -47,9 +47,8 @@ impl Fields {
         ensures ok { OnOk result (self.new ≡ self.old ++ (name.now, value.now) ∷ []) }
         ensures err { OnErr result (self.new ≡ self.old) }
     {
-        let name = Bytes::new(self.alloc, name)?;
-        let value = Bytes::new(self.alloc, value)?;
-        self.list.push((name, value))?;
+        let field = Field::new(self.alloc, name, value)?;
+        self.list.push(field)?;
         Ok(())
     }
 
@@ -60,15 +59,15 @@ impl Fields {
         self.list.len()
     }
 
-    /// The name and the value of the field at `place`, counted from 0.
-    pub fn at(&self, place: usize) -> Option<&(Bytes, Bytes)>
+    /// The field at `place`, counted from 0.
+    pub fn at(&self, place: usize) -> Option<&Field>
         ensures { option_copied result ≡ slice_get self.now place }
     {
         self.list.get(place)
     }
 
-    /// All fields, each a name and a value.
-    pub fn get(&self) -> &[(Bytes, Bytes)]
+    /// All fields.
+    pub fn get(&self) -> &[Field]
         ensures { result.now ≡ self.now }
     {
         self.list.as_slice()

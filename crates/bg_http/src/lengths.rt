@@ -5,8 +5,9 @@ ghost use Rattle.std.specs.List.{list_all};
 ghost use Rattle.bg_http.specs.Held.{elements_left, length_held};
 ghost use Rattle.bg_http.specs.Lengths.{content_length as length_in, is_digits as is_digits_in, has_digits as has_digits_in, number_within, without_zeros as digits_of};
 
-use crate::bytes::Bytes;
 use crate::elements::{Elements, elements_named};
+use crate::field::Field;
+use crate::names::RuledName;
 
 /// What all Content-Length fields say together. The digits are without leading zeros, so none for
 /// 0.
@@ -55,10 +56,10 @@ fn all_have_digits(mut elements: Elements<'_>, digits: &[u8]) -> bool
 
 /// The one length that all elements of the Content-Length fields give. Texts of digits are
 /// compared, so no number is too large (RFC 9110 section 8.6, RFC 9112 section 6.3).
-pub(crate) fn content_length(fields: &[(Bytes, Bytes)]) -> OneLength<'_>
+pub(crate) fn content_length(fields: &[Field]) -> OneLength<'_>
     ensures { length_held result ≡ length_in fields.now }
 {
-    let elements = elements_named(fields, b"content-length");
+    let elements = elements_named(fields, RuledName::ContentLength);
     let mut others = elements;
     let Some(first) = others.next() else {
         return OneLength::Absent;

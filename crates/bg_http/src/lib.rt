@@ -8,10 +8,12 @@
 mod bytes;
 mod codings;
 mod elements;
+mod field;
 mod fields;
 pub mod laws;
 mod lengths;
 mod memory;
+mod names;
 mod removed;
 mod request;
 mod request_fault;
@@ -23,6 +25,7 @@ mod stream;
 mod writers;
 
 pub use bytes::Bytes;
+pub use field::Field;
 pub use fields::Fields;
 pub use memory::Memory;
 pub use request::{Request, RequestHead};
@@ -31,5 +34,5 @@ pub use request_rules::{Framing, MOST_REQUEST_BODY, judge_request, owes_continue
 pub use response::{Response, ResponseHead};
 pub use response_fault::ResponseFault;
 pub use response_rules::{MOST_RESPONSE_BODY, ResponseFraming, judge_response, length_told};
-pub use stream::Duplex;
+pub use stream::{Duplex, MOST_TURNS};
 pub use writers::{write_refusal, write_request, write_response};

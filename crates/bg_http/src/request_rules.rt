@@ -2,12 +2,14 @@
 ghost use Rattle.std.specs.Prelude.{◌≡◌, ◌&&◌, count_by};
 ghost use Rattle.std.specs.List.{list_any};
 ghost use Rattle.bg_http.specs.Elements.{is_named};
+ghost use Rattle.bg_http.specs.Names.{spelled};
 ghost use Rattle.bg_http.specs.RequestRules as spec;
 
-use crate::bytes::Bytes;
 use crate::codings::named_codings;
 use crate::elements::{has_field, is_same_name};
+use crate::field::Field;
 use crate::lengths::{OneLength, content_length, value_within};
+use crate::names::RuledName;
 use crate::request::RequestHead;
 use crate::request_fault::RequestFault;
 
@@ -54,17 +56,17 @@ pub fn owes_continue(head: &RequestHead, framing: Framing) -> bool
 }
 
 /// Whether there is an Expect that is `100-continue`.
-fn has_expectation(fields: &[(Bytes, Bytes)]) -> bool
+fn has_expectation(fields: &[Field]) -> bool
     ensures { result ≡ list_any spec.expects_continue fields.now }
 {
     fields.iter().any(|field| expects_continue(field))
 }
 
 /// Whether the field is an Expect that is `100-continue`.
-pub(crate) fn expects_continue(field: &(Bytes, Bytes)) -> bool
+pub(crate) fn expects_continue(field: &Field) -> bool
     ensures { result ≡ spec.expects_continue field.now }
 {
-    is_same_name(field.0.get(), b"expect") && is_same_name(field.1.get(), b"100-continue")
+    field.is(RuledName::Expect) && is_same_name(field.value(), b"100-continue")
 }
 
 fn has_body(framing: Framing) -> bool
@@ -81,7 +83,7 @@ fn has_body(framing: Framing) -> bool
 fn framing_of(head: &RequestHead) -> Framing
     ensures { result ≡ spec.framing_of head.now }
 {
-    if has_field(head.fields.get(), b"transfer-encoding") {
+    if has_field(head.fields.get(), RuledName::TransferEncoding) {
         return Framing::Chunks;
     }
     match body_length(head) {
@@ -113,7 +115,7 @@ fn connect_fault(head: &RequestHead) -> Option<RequestFault>
 fn host_fault(head: &RequestHead) -> Option<RequestFault>
     ensures { result ≡ spec.host_fault head.now }
 {
-    let hosts = count_named(head.fields.get(), b"host");
+    let hosts = count_named(head.fields.get(), RuledName::Host);
     if hosts > 1 || (hosts == 0 && head.minor != 0) {
         return Some(RequestFault::Bad);
     }
@@ -121,21 +123,18 @@ fn host_fault(head: &RequestHead) -> Option<RequestFault>
 }
 
 /// How many fields have the name.
-fn count_named(fields: &[(Bytes, Bytes)], name: &[u8]) -> usize
-    ensures { result ≡ count_by (is_named name.now) fields.now }
+fn count_named(fields: &[Field], name: RuledName) -> usize
+    ensures { result ≡ count_by (is_named (spelled name)) fields.now }
 {
-    fields
-        .iter()
-        .filter(|field| is_same_name(field.0.get(), name))
-        .count()
+    fields.iter().filter(|field| field.is(name)).count()
 }
 
 fn framing_fault(head: &RequestHead) -> Option<RequestFault>
     ensures { result ≡ spec.framing_fault head.now }
 {
     let fields = head.fields.get();
-    if has_field(fields, b"transfer-encoding")
-        && (has_field(fields, b"content-length") || head.minor == 0)
+    if has_field(fields, RuledName::TransferEncoding)
+        && (has_field(fields, RuledName::ContentLength) || head.minor == 0)
     {
         return Some(RequestFault::Bad);
     }
@@ -146,7 +145,7 @@ fn coding_fault(head: &RequestHead) -> Option<RequestFault>
     ensures { result ≡ spec.coding_fault head.now }
 {
     let fields = head.fields.get();
-    if !has_field(fields, b"transfer-encoding") {
+    if !has_field(fields, RuledName::TransferEncoding) {
         return None;
     }
     let found = named_codings(fields);

@@ -6,6 +6,7 @@ ghost use Rattle.bg_http.specs.ResponseRules as spec;
 use crate::codings::named_codings;
 use crate::elements::has_field;
 use crate::lengths::{OneLength, content_length, value_within};
+use crate::names::RuledName;
 use crate::request::Request;
 use crate::response::ResponseHead;
 use crate::response_fault::ResponseFault;
@@ -53,7 +54,7 @@ pub fn judge_response(
     if has_no_body(request, head.code) {
         return Ok(ResponseFraming::NoBody);
     }
-    if has_field(head.fields.get(), b"transfer-encoding") {
+    if has_field(head.fields.get(), RuledName::TransferEncoding) {
         return framing_by_codings(head);
     }
     framing_by_length(head)
@@ -67,7 +68,7 @@ pub fn length_told(head: &ResponseHead) -> Option<&[u8]>
     ensures { option_copied result ≡ spec.length_told head.now }
 {
     let fields = head.fields.get();
-    if head.code == 204 || has_field(fields, b"transfer-encoding") {
+    if head.code == 204 || has_field(fields, RuledName::TransferEncoding) {
         return None;
     }
     match content_length(fields) {

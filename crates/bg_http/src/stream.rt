@@ -5,6 +5,9 @@ ghost use Rattle.std.specs.Io.KnownBytes.{Appends, Keeps, ReadConsumes};
 use std::io;
 use std::io::{Read, Write};
 
+/// After so many turns a loop over a stream gives up.
+pub const MOST_TURNS: u32 = 1 << 24;
+
 /// A stream of which reading leaves alone what was written to it, and writing what is still to be
 /// read. Neither `Read` nor `Write` promises that of the other side, so a caller who does both
 /// could know the whole of neither.

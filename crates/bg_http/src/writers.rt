@@ -10,7 +10,9 @@ ghost use Rattle.bg_http.specs.Texts as spec;
 
 use crate::bytes::Bytes;
 use crate::elements::has_field;
+use crate::field::Field;
 use crate::fields::Fields;
+use crate::names::RuledName;
 use crate::removed::{is_removed, is_removed_from_request};
 use crate::request::Request;
 use crate::response::Response;
@@ -54,7 +56,7 @@ fn write_host<W: Write>(request: &Request, port: u16, writer: &mut W) -> io::Res
     ensures { OnOk result (Appends (W.contents writer.old) (W.contents writer.new)
         (spec.host_line request.now port)) }
 {
-    if request.minor == 0 && !has_field(request.fields.get(), b"host") {
+    if request.minor == 0 && !has_field(request.fields.get(), RuledName::Host) {
         write!(writer, "Host: 127.0.0.1:{port}\r\n")?;
     }
     Ok(())
@@ -71,13 +73,13 @@ fn write_via<W: Write>(request: &Request, writer: &mut W) -> io::Result<()>
     }
 }
 
-fn write_field<W: Write>(field: &(Bytes, Bytes), writer: &mut W) -> io::Result<()>
+fn write_field<W: Write>(field: &Field, writer: &mut W) -> io::Result<()>
     ensures { OnOk result (Appends (W.contents writer.old) (W.contents writer.new)
         (spec.field_line field.now)) }
 {
-    writer.write_all(field.0.get())?;
+    writer.write_all(field.name())?;
     writer.write_all(b": ")?;
-    writer.write_all(field.1.get())?;
+    writer.write_all(field.value())?;
     writer.write_all(b"\r\n")
 }
 

@@ -10,6 +10,7 @@ pub mod HeadLengths
 pub mod HeadsOver
 pub mod InterimOrder
 pub mod InterimTaken
+pub mod LineEnds
 pub mod LineSteps
 pub mod OneFailure
 pub mod OneFault

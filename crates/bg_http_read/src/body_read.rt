@@ -6,8 +6,8 @@ ghost use Rattle.bg_http_read.specs.BodiesRead.{BodyFails, Leaves};
 ghost use Rattle.bg_http_read.specs.Streams.{to_come};
 
 use crate::body::Body;
-use crate::intake::{Intake, MOST_TURNS, PIECE, read_piece};
-use bg_http::{Duplex, ResponseFault};
+use crate::intake::{Intake, PIECE, read_piece};
+use bg_http::{Duplex, MOST_TURNS, ResponseFault};
 
 /// Reads a body to its end.
 pub(crate) fn read_body<S: Duplex>(

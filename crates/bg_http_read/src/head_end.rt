@@ -1,7 +1,21 @@
 //! Where a head may end, told byte by byte.
-ghost use Rattle.std.specs.Prelude.{◌≡◌};
+ghost use Rattle.std.specs.Prelude.{◌≡◌, ◌≤◌, length};
 ghost use Rattle.bg_http_read.specs.HeadEnds.{after_byte, after_bytes, is_over};
 ghost use Rattle.bg_http_read.specs.declared.head_end.HeadEnd.TheVariants as end;
+
+use crate::intake::behind;
+use memchr::memchr;
+
+/// The bytes from the first end of a line on.
+fn from_line_end(bytes: &[u8]) -> &[u8]
+    ensures same { after_bytes end.Inside result.now ≡ after_bytes end.Inside bytes.now }
+    ensures fewer { length result.now ≤ length bytes.now }
+{
+    match memchr(b'\n', bytes) {
+        Some(place) => behind(bytes, place),
+        None => &[],
+    }
+}
 
 /// How far the bytes of a head go. A head ends at the first empty line after a line that has a
 /// byte, so before that it needn't be looked for.
@@ -32,10 +46,24 @@ impl HeadEnd {
         ensures { result ≡ after_bytes self bytes.now }
     {
         let mut end = self;
-        for byte in bytes {
+        let mut rest = end.told_by(bytes);
+        while let [byte, more @ ..] = rest {
             end = end.after(*byte);
+            rest = end.told_by(more);
         }
         end
+    }
+
+    /// The bytes without those at the front that change nothing.
+    fn told_by(self, bytes: &[u8]) -> &[u8]
+        ensures same { after_bytes self result.now ≡ after_bytes self bytes.now }
+        ensures fewer { length result.now ≤ length bytes.now }
+    {
+        match self {
+            HeadEnd::Inside => from_line_end(bytes),
+            HeadEnd::Over => &[],
+            HeadEnd::Blank | HeadEnd::LineStart | HeadEnd::AfterCr => bytes,
+        }
     }
 
     fn after(self, byte: u8) -> HeadEnd

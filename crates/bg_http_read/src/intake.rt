@@ -4,12 +4,9 @@ ghost use Rattle.std.specs.Prelude.{drop, length, take};
 ghost use Rattle.std.specs.Io.KnownBytes.{Consumes, IsAtEnd, Keeps};
 ghost use Rattle.bg_http_read.specs.Streams.{to_come, waiting};
 
-use bg_http::{Duplex, ResponseFault};
+use bg_http::{Duplex, MOST_TURNS, ResponseFault};
 use std::alloc::{AllocError, Global};
 use std::io::{ErrorKind, Read};
-
-/// After so many turns a loop over a stream gives up.
-pub(crate) const MOST_TURNS: u32 = 1 << 24;
 
 /// How many bytes are asked for at once.
 pub(crate) const PIECE: usize = 8192;

@@ -8,9 +8,9 @@ ghost use Rattle.bg_http_read.specs.Streams.{to_come};
 
 use crate::head_end::HeadEnd;
 use crate::head_limits::MOST_HEAD;
-use crate::intake::{Intake, MOST_TURNS, PIECE};
+use crate::intake::{Intake, PIECE};
 use crate::request_head::find_request_head;
-use bg_http::{Duplex, RequestHead, ResponseFault};
+use bg_http::{Duplex, MOST_TURNS, RequestHead, ResponseFault};
 use std::alloc::Global;
 
 /// Whether a head is looked for: where it may be whole, at the most bytes that it may have, and

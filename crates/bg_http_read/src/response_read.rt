@@ -2,10 +2,10 @@
 ghost use Rattle.std.specs.Prelude.{IfErr, IfOk, IfSome};
 ghost use Rattle.bg_http_read.specs.Responses.{ReadsResponse, ResponseFails};
 
-use crate::intake::{MOST_TURNS, PIECE, read_piece};
+use crate::intake::{PIECE, read_piece};
 use crate::one_way::OneWay;
 use crate::response_parser::ResponseParser;
-use bg_http::{Duplex, Request, Response, ResponseFault};
+use bg_http::{Duplex, MOST_TURNS, Request, Response, ResponseFault};
 use std::alloc::Global;
 use std::io::Read;
 

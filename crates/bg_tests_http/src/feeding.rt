@@ -1,4 +1,4 @@
-//! Responses that are fed to a parser in two pieces, cut at each place.
+//! Responses that are fed to a parser in two pieces, cut at each place, and a byte at a time.
 use crate::passing::{Message, Outcome, Row, as_request, asked, is_outcome};
 use bg_http::{Request, RequestFault, Response, ResponseFault};
 use bg_http_read::ResponseParser;
@@ -19,6 +19,28 @@ fn feed_both(
         return Ok(response);
     }
     parser.end()
+}
+
+/// What a parser gives that is fed a byte at a time, and ended behind the last where it wants more.
+fn feed_bytes(alloc: Global, request: &Request, input: &[u8]) -> Result<Response, ResponseFault> {
+    let mut parser = ResponseParser::new(alloc, request);
+    for byte in input {
+        if let Some(response) = parser.feed(&[*byte])? {
+            return Ok(response);
+        }
+    }
+    parser.end()
+}
+
+/// The response to a request of this method, a byte at a time.
+fn feed_by_byte(alloc: Global, method: &[u8], input: &[u8]) -> Result<Message, RequestFault> {
+    let Ok(request) = asked(alloc, method) else {
+        return Err(RequestFault::OutOfMemory);
+    };
+    match feed_bytes(alloc, &request, input) {
+        Ok(response) => Ok(Message::Response(request, response)),
+        Err(fault) => Err(as_request(fault)),
+    }
 }
 
 /// The response to a request of this method, in two pieces.
@@ -45,7 +67,7 @@ fn comes_of(alloc: Global, method: &[u8], input: &[u8], outcome: Outcome<'_>) ->
             return false;
         }
     }
-    true
+    is_outcome(alloc, &feed_by_byte(alloc, method, input), outcome)
 }
 
 /// The name of the first response of which something else comes.

@@ -53,6 +53,24 @@ fn first_wrong(alloc: Global, kind: Kind<'_>, start: &[u8], rows: &[Row<'_>]) ->
     None
 }
 
+/// The same where the message comes a byte at a time.
+fn first_wrong_by_byte(
+    alloc: Global,
+    kind: Kind<'_>,
+    start: &[u8],
+    rows: &[Row<'_>],
+) -> Option<usize> {
+    for (place, row) in rows.iter().enumerate() {
+        let Ok(input) = text(alloc, start, row.0) else {
+            return Some(place);
+        };
+        if size(alloc, kind, &input, 1) != row.1 {
+            return Some(place);
+        }
+    }
+    None
+}
+
 /// The begin of a head, of 25 bytes and one field.
 const REQUEST: &[u8] = b"PUT / HTTP/1.1\r\nHost: x\r\n";
 
@@ -274,6 +292,20 @@ fn responses_at_their_limits(rt: HostRuntime) {
     );
     assert_eq!(rt;
         first_wrong(alloc, kind, RESPONSE_IN_CHUNKS, &TRAILERS),
+        None
+    );
+}
+
+#[test]
+fn trailers_that_drip(rt: HostRuntime) {
+    let alloc = rt.alloc();
+    let response = Kind::ResponseTo(b"GET");
+    assert_eq!(rt;
+        first_wrong_by_byte(alloc, Kind::Request, REQUEST_IN_CHUNKS, &TRAILERS),
+        None
+    );
+    assert_eq!(rt;
+        first_wrong_by_byte(alloc, response, RESPONSE_IN_CHUNKS, &TRAILERS),
         None
     );
 }

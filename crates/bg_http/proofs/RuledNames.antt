@@ -1,0 +1,30 @@
+-- A name that is not standard is none that a rule speaks of.
+use Rattle.std.proofs.Common.{◌≡◌, ℕ, Bool, true, false, List, refl, sym, ◌∙◌}
+use Rattle.std.specs.Str.{bytes_eq, str_eq_ignore_ascii_case, str_to_ascii_lowercase}
+use Rattle.std.proofs.lemmas.Slice.Eq.{bytes_eq-Decides}
+use Rattle.http_header.specs.StandardHeader.{IsStandardName}
+use Rattle.http_header.specs.declared.name.standard.StandardHeader.TheVariants as standard
+use Rattle.bg_http.specs.Names.{spelled}
+use Rattle.bg_http.specs.declared.names.RuledName.{RuledName}
+use Rattle.bg_http.specs.declared.names.RuledName.TheVariants as ruled
+
+-- each of the names is standard
+is_standard : (name : RuledName) → IsStandardName (str_to_ascii_lowercase (spelled name))
+is_standard ruled.Connection = (standard.Connection, refl)
+is_standard ruled.ContentLength = (standard.ContentLength, refl)
+is_standard ruled.Expect = (standard.Expect, refl)
+is_standard ruled.Host = (standard.Host, refl)
+is_standard ruled.Te = (standard.Te, refl)
+is_standard ruled.Trailer = (standard.Trailer, refl)
+is_standard ruled.TransferEncoding = (standard.TransferEncoding, refl)
+is_standard ruled.Upgrade = (standard.Upgrade, refl)
+
+pub not_ruled : (text : List ℕ) → (IsStandardName (str_to_ascii_lowercase text) → false ≡ true)
+    → (name : RuledName) → str_eq_ignore_ascii_case text (spelled name) ≡ false
+not_ruled text h name = by_test (str_eq_ignore_ascii_case text (spelled name)) refl
+  where
+    by_test : (t : Bool) → str_eq_ignore_ascii_case text (spelled name) ≡ t → t ≡ false
+    by_test true e =
+        let same = (bytes_eq-Decides (str_to_ascii_lowercase text) (str_to_ascii_lowercase (spelled name))).0 e in
+        let found = is_standard name in sym (h (found.0, found.1 ∙ sym same))
+    by_test false e = refl

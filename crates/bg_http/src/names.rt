@@ -1,0 +1,35 @@
+//! The names of fields that the rules speak of.
+ghost use Rattle.bg_http.specs.Names.{IsRuledAs};
+
+use http_header::HeaderName;
+
+/// A name of fields that a rule speaks of, of those that are standard.
+#[derive(Clone, Copy, PartialEq, Eq, Debug, Drop)]
+pub(crate) enum RuledName {
+    Connection,
+    ContentLength,
+    Expect,
+    Host,
+    Te,
+    Trailer,
+    TransferEncoding,
+    Upgrade,
+}
+
+/// The name that the bytes spell in any case, if a rule speaks of it. It takes no memory.
+pub(crate) fn ruled_name(name: &[u8]) -> Option<RuledName>
+    ensures { IsRuledAs name.now result }
+{
+    let found = HeaderName::standard(name)?;
+    match found.as_str() {
+        "connection" => Some(RuledName::Connection),
+        "content-length" => Some(RuledName::ContentLength),
+        "expect" => Some(RuledName::Expect),
+        "host" => Some(RuledName::Host),
+        "te" => Some(RuledName::Te),
+        "trailer" => Some(RuledName::Trailer),
+        "transfer-encoding" => Some(RuledName::TransferEncoding),
+        "upgrade" => Some(RuledName::Upgrade),
+        _ => None,
+    }
+}
