@@ -1,5 +1,6 @@
 //! The routing book.
 
+mod compaction;
 mod limits;
 mod runs;
 pub(crate) mod samples;

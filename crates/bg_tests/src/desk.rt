@@ -2,6 +2,6 @@
 
 mod calls;
 mod gathering;
-mod rows;
-mod scripts;
+pub(crate) mod rows;
+pub(crate) mod scripts;
 mod threads;

@@ -1,4 +1,9 @@
 //! The list of entries.
 
+mod audit;
+pub(crate) mod audited;
+mod changed;
+mod changes;
 mod entries;
 mod sizes;
+mod texts;

@@ -3,6 +3,7 @@ ghost use Rattle.std.specs.Prelude.{◌≡◌, ◌≤◌};
 ghost use Rattle.bg_ledger.specs.Blanks.{AreAllFor};
 
 use super::samples::strategy;
+use crate::history::audited::audited;
 use bg_book::laws::lent;
 use bg_book::{Book, Call, Control, ControlFault, EnterFault, Limits, OpenFault, Reply};
 use bg_ledger::{Blanks, Names};
@@ -40,7 +41,8 @@ fn answers<N: Names>(plan: &Plan, blanks: Blanks) -> Result<Result<Vec<Reply>, O
     match opened {
         Ok((mut book, mut seats)) => {
             let replies = book.run(seats.as_mut_slice(), plan.calls);
-            let _history = book.close(seats);
+            let history = book.close(seats);
+            audited(plan.alloc, &history, plan.strategy)?;
             Ok(Ok(replies?))
         }
         Err(fault) => Ok(Err(fault)),

@@ -4,6 +4,7 @@ ghost use Rattle.bg_history.specs.Requests.{open_requests};
 ghost use Rattle.bg_ledger.specs.Blanks.{AreAllFor};
 
 use super::samples::strategy;
+use crate::history::audited::audited;
 use bg_book::laws::lent;
 use bg_book::{Book, Call, Control, Left, Limits, Reply, Ticket};
 use bg_history::History;
@@ -43,6 +44,7 @@ fn run_calls<N: Names>(
     lent();
     let answered = book.run(seats.as_mut_slice(), calls);
     let history = book.close(seats);
+    audited(alloc, &history, &strategy)?;
     Ok((answered?, history))
 }
 

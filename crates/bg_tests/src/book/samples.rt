@@ -1,6 +1,8 @@
-//! The strategy of the books.
+//! The strategies of the books.
 use bg_strategy::{Strategy, StrategyFault, read};
 use std::alloc::Global;
+use std::io::Write;
+use std::test::Fail;
 
 /// Two replicas, and no preview service.
 pub(crate) fn strategy(alloc: Global) -> Result<Strategy, StrategyFault> {
@@ -8,4 +10,14 @@ pub(crate) fn strategy(alloc: Global) -> Result<Strategy, StrategyFault> {
         alloc,
         br#"{"spec": {"replicas": 2, "strategy": {"blueGreen": {"activeService": "web"}}}}"#,
     )
+}
+
+/// Two replicas, and these settings beside the active service.
+pub(crate) fn strategy_with(alloc: Global, settings: &str) -> Result<Strategy, Fail> {
+    let mut text = Vec::new(alloc);
+    write!(
+        text,
+        r#"{{"spec": {{"replicas": 2, "strategy": {{"blueGreen": {{"activeService": "web"{settings}}}}}}}}}"#
+    )?;
+    Ok(read(alloc, &text)?)
 }

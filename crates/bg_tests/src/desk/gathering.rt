@@ -3,6 +3,7 @@ ghost use Rattle.std.specs.Prelude.{◌≡◌};
 ghost use Rattle.bg_ledger.specs.Blanks.{AreAllFor};
 
 use crate::book::samples::strategy;
+use crate::history::audited::audited;
 use bg_book::{Book, Control, GatherFault, Limits};
 use bg_ledger::{Blanks, Names, Seat};
 use bg_revisions::Service;
@@ -100,11 +101,14 @@ fn gather_often<N: Names, R: Abort>(rt: &R, alloc: Global, blanks: Blanks) -> Re
     let (mut book, mut seats, busy) = refused(rt, book, seats);
     leave_first(rt, &mut book, &mut seats);
     match book.gather(seats) {
-        Ok(history) => Ok(Told {
-            short,
-            busy,
-            entries: history.len(),
-        }),
+        Ok(history) => {
+            audited(alloc, &history, &strategy)?;
+            Ok(Told {
+                short,
+                busy,
+                entries: history.len(),
+            })
+        }
         Err(_handed_back) => rt.abort(),
     }
 }

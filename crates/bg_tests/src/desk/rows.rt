@@ -5,13 +5,15 @@ ghost use Rattle.bg_ledger.specs.Blanks.{AreAllFor};
 
 use super::calls::make;
 use super::scripts::ROWS;
+use crate::book::samples::strategy_with;
+use crate::history::audited::audited;
 use bg_book::laws::lent;
-use bg_book::{Book, Call, Desk, Limits, Question, Reply};
+use bg_book::{Book, Call, Desk, Limits, OpenBook, Question, Reply};
 use bg_history::History;
 use bg_ledger::{Blanks, Names, Seat};
 use bg_operator::{Command, LineFault, parse_line};
 use bg_report::{reply, report};
-use bg_strategy::{Strategy, read};
+use bg_strategy::Strategy;
 use std::alloc::Global;
 use std::io;
 use std::io::Write;
@@ -29,9 +31,9 @@ struct Script<'a> {
 
 /// What was answered, and the entries of the history once all seats have left.
 #[derive(Drop)]
-struct Played {
+pub(crate) struct Played {
     answers: Vec<u8>,
-    entries: Vec<u8>,
+    pub(crate) entries: Vec<u8>,
 }
 
 /// Where the lines of a script are carried out.
@@ -43,25 +45,17 @@ trait Player {
     fn report(&self, text: &mut Vec<u8>) -> io::Result<()>;
 }
 
-/// A book and its seats.
-struct AtBook<N: Names> {
-    book: Book<N>,
-    seats: Vec<Seat<N>>,
-    ghost all: { are_all 4 seats.items ≡ true },
-}
-
-impl<N: Names> Player for AtBook<N> {
+impl<N: Names> Player for OpenBook<N> {
     fn call(&mut self, call: &Call) -> Reply {
-        lent();
-        self.book.call(self.seats.as_mut_slice(), call)
+        OpenBook::call(self, call)
     }
 
     fn compact(&mut self) -> u64 {
-        self.book.compact()
+        OpenBook::compact(self)
     }
 
     fn report(&self, text: &mut Vec<u8>) -> io::Result<()> {
-        report(&self.book, text)
+        report(self.book(), text)
     }
 }
 
@@ -120,7 +114,7 @@ fn play<P: Player>(script: &Script, player: &mut P, answers: &mut Vec<u8>) -> Re
 }
 
 /// Writes the entries of a history, oldest first.
-fn write_entries(history: &History, text: &mut Vec<u8>) -> io::Result<()> {
+pub(crate) fn write_entries(history: &History, text: &mut Vec<u8>) -> io::Result<()> {
     for place in 0..history.len() {
         if let Some(entry) = history.get(place) {
             writeln!(text, "{entry:?}")?;
@@ -130,11 +124,11 @@ fn write_entries(history: &History, text: &mut Vec<u8>) -> io::Result<()> {
 }
 
 /// Opens a book of four seats.
-fn open<N: Names>(script: &Script, blanks: Blanks) -> Result<AtBook<N>, Fail>
+fn open<N: Names>(script: &Script, blanks: Blanks) -> Result<OpenBook<N>, Fail>
     requires blanks { AreAllFor N.Names blanks }
     requires seats { N.seats ≡ 4 }
 {
-    let (book, seats) = Book::open(
+    let opened = OpenBook::open(
         script.alloc,
         script.strategy,
         "v1",
@@ -143,7 +137,7 @@ fn open<N: Names>(script: &Script, blanks: Blanks) -> Result<AtBook<N>, Fail>
         Limits::usual(),
         blanks,
     )?;
-    Ok(AtBook { book, seats })
+    Ok(opened)
 }
 
 fn play_at_book<N: Names>(script: &Script, blanks: Blanks) -> Result<Played, Fail>
@@ -154,9 +148,9 @@ fn play_at_book<N: Names>(script: &Script, blanks: Blanks) -> Result<Played, Fai
     let mut answers = Vec::new(script.alloc);
     let mut entries = Vec::new(script.alloc);
     let played = play(script, &mut player, &mut answers);
-    let AtBook { book, seats } = player;
-    let history = book.close(seats);
+    let history = player.close();
     played?;
+    audited(script.alloc, &history, script.strategy)?;
     write_entries(&history, &mut entries)?;
     Ok(Played { answers, entries })
 }
@@ -165,7 +159,7 @@ fn play_at_desk<N: Names, R: Wait>(rt: &R, script: &Script, blanks: Blanks) -> R
     requires blanks { AreAllFor N.Names blanks }
     requires seats { N.seats ≡ 4 }
 {
-    let AtBook { book, seats } = open::<N>(script, blanks)?;
+    let (book, seats) = open::<N>(script, blanks)?.into_parts();
     let mut answers = Vec::new(script.alloc);
     let mut entries = Vec::new(script.alloc);
     let desk = Desk::new(book);
@@ -174,22 +168,13 @@ fn play_at_desk<N: Names, R: Wait>(rt: &R, script: &Script, blanks: Blanks) -> R
     let AtDesk { rt: _, desk, seats } = player;
     let history = desk.into_book().close(seats);
     played?;
+    audited(script.alloc, &history, script.strategy)?;
     write_entries(&history, &mut entries)?;
     Ok(Played { answers, entries })
 }
 
-/// The strategy with these settings.
-fn strategy_with(alloc: Global, settings: &str) -> Result<Strategy, Fail> {
-    let mut text = Vec::new(alloc);
-    write!(
-        text,
-        r#"{{"spec": {{"replicas": 2, "strategy": {{"blueGreen": {{"activeService": "web"{settings}}}}}}}}}"#
-    )?;
-    Ok(read(alloc, &text)?)
-}
-
 /// What the script is answered by a book, and by a desk.
-fn play_both<R: Wait>(
+pub(crate) fn play_both<R: Wait>(
     rt: &R,
     alloc: Global,
     settings: &str,

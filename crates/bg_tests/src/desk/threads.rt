@@ -5,6 +5,7 @@ ghost use Rattle.bg_book.specs.Runs.{AreOut};
 ghost use Rattle.bg_ledger.specs.Blanks.{AreAllFor};
 
 use crate::book::samples::strategy;
+use crate::history::audited::audited;
 use bg_book::laws::{lent, same_order};
 use bg_book::{Book, Control, Desk, Limits};
 use bg_history::History;
@@ -132,6 +133,7 @@ fn open_and_work<N: Names + Send + Sync, R: Threads + Wait + Sync>(
     let calls = calls_of_both(&seats);
     let history = desk.into_book().close(seats);
     let _outcomes = told?;
+    audited(alloc, &history, &strategy)?;
     Ok(Worked { calls, history })
 }
 

@@ -3,6 +3,8 @@ ghost use Rattle.std.specs.Prelude.{◌≡◌};
 ghost use Rattle.bg_ledger.specs.Blanks.{AreAllFor};
 
 use crate::book::samples::strategy;
+use crate::history::audited::audited;
+use crate::script::streams::Unflushed;
 use bg_book::{Book, Desk, Limits};
 use bg_ledger::{Blanks, Names};
 use bg_operator::OperatorLines;
@@ -40,9 +42,9 @@ fn leaves_an_open_to_the_caller(rt: HostRuntime) -> Result<(), Fail> {
     let mut answers = Vec::new(rt.alloc());
     let mut lines = OperatorLines::new(rt.alloc());
     match answer_before_open(&mut lines, &mut reader, &mut answers) {
-        Ok(BeforeOpen::Open { name, ports }) => {
-            assert_eq!(rt; name.get(), "v1");
-            assert_eq!(rt; ports.get(), [9001u16, 9002].as_slice());
+        Ok(BeforeOpen::Open(first)) => {
+            assert_eq!(rt; first.name.get(), "v1");
+            assert_eq!(rt; first.ports.get(), [9001u16, 9002].as_slice());
         }
         _ => panic!(rt; "no book is asked for"),
     }
@@ -81,7 +83,8 @@ fn answer<N: Names, R: Wait>(
     )?;
     let desk = Desk::new(book);
     let end = answer_at_desk(rt, alloc, &desk, &mut taken, lines, &mut answers);
-    let _history = desk.into_book().close(seats);
+    let history = desk.into_book().close(seats);
+    audited(alloc, &history, &strategy)?;
     Ok(Answered { end, answers })
 }
 
@@ -109,4 +112,11 @@ fn a_control_connection_may_end_in_a_line(rt: HostRuntime) -> Result<(), Fail> {
         b"ok 0\nfault WrongCount\n".as_slice()
     );
     Ok(())
+}
+
+#[test]
+fn fails_with_a_flush(rt: HostRuntime) {
+    let mut lines = OperatorLines::new(rt.alloc());
+    let end = answer_before_open(&mut lines, &mut BEFORE.as_bytes(), &mut Unflushed);
+    assert!(rt; matches!(end, Err(RunEnd::WriteFailed)));
 }

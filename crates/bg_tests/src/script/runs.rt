@@ -14,8 +14,8 @@ enum Command {
     Replay,
 }
 
-/// A strategy, a fault, a script, and a script with a fault.
-const RUNS: [(Command, &str); 4] = [
+/// A strategy, a fault, a script, a script with a fault, and a script through a switch.
+const RUNS: [(Command, &str); 5] = [
     (
         Command::Check,
         "{\"spec\": {\"strategy\": {\"blueGreen\": {\"activeService\": \"web\"}}}}",
@@ -29,7 +29,12 @@ const RUNS: [(Command, &str); 4] = [
         Command::Replay,
         "{\"spec\":{\"strategy\":{\"blueGreen\":{\"activeService\":\"web\"}}}}\n---\nopen\nopen v1 9001\nquit\nreport\n",
     ),
+    (Command::Replay, DRAINING),
 ];
+
+/// A revision drains before it is scaled down.
+const DRAINING: &str =
+    "{\"spec\": {\"replicas\": 2, \"strategy\": {\"blueGreen\": {\"activeService\": \"web\"}}}}\n---\nopen v1 9001 9002\navailable 1 2\nenter 0 active\ndeploy v2 9101 9102\navailable 2 2\ntick 30\nreport\nleave 0\nreport\n";
 
 /// Runs a command.
 fn run<R: Read, W: Write>(
@@ -122,4 +127,14 @@ fn reads_nothing_after_a_fault_of_the_strategy(rt: HostRuntime) {
     let status = replay(rt.alloc(), 1, &mut reader, &mut Page::new());
     assert_eq!(rt; status, Ok(1));
     assert_eq!(rt; reader.unread(), b"open v1 9001\n".as_slice());
+}
+
+#[test]
+fn cut_lines(rt: HostRuntime) {
+    let input = DRAINING.as_bytes();
+    for length in 0..input.len() {
+        let (mut reader, _cut_off) = input.split_at(length);
+        let status = replay(rt.alloc(), 1, &mut reader, &mut Vec::new(rt.alloc()));
+        assert!(rt; status.is_ok(), "{length} bytes");
+    }
 }

@@ -1,4 +1,4 @@
-use Rattle.bg_tests.proofs.forward.workers.work.Goals as goal
+use Rattle.bg_tests_forward.proofs.workers.work.Goals as goal
 
 pub returns : goal.returns
 returns g c =

@@ -4,9 +4,9 @@ ghost use Rattle.bg_rollout.specs.Gathering.{indices};
 ghost use Rattle.bg_forward.specs.Seats.{AllOut, AllWorked};
 ghost use Rattle.bg_ledger.specs.Blanks.{AreAllFor};
 
-use super::fakes::{Line, MANY};
-use super::messages::{CHUNKS, CHUNKS_ON, GET};
-use crate::book::samples::strategy;
+use crate::fakes::{Line, Pace};
+use crate::messages::{CHUNKS, CHUNKS_ON, GET};
+use crate::samples::strategy;
 use bg_book::laws::{lent, same_order};
 use bg_book::{Book, Control, Desk, EnterFault, Left, Limits, Ticket};
 use bg_forward::{Accept, Dial, Door, Gate, run_workers};
@@ -110,7 +110,7 @@ impl<'a> Accept for Clients<'a> {
 
     fn accept(&self, _service: Service) -> io::Result<Client<'a>> {
         Ok(Client {
-            line: Line::new(self.alloc, GET.as_bytes(), MANY, MANY),
+            line: Line::new(self.alloc, GET.as_bytes(), Pace::steady()),
             course: self.course,
         })
     }
@@ -174,7 +174,7 @@ impl<'a> Dial for Endpoint<'a> {
     fn dial(&self, _port: u16) -> io::Result<Upstream<'a>> {
         let before = self.course.dialled.fetch_add(1, Ordering::SeqCst);
         Ok(Upstream {
-            line: Line::new(self.alloc, CHUNKS.as_bytes(), MANY, MANY),
+            line: Line::new(self.alloc, CHUNKS.as_bytes(), Pace::steady()),
             waits: before == 0,
             course: self.course,
         })

@@ -1,8 +1,8 @@
 //! What is forwarded and answered, byte for byte.
 
-use super::connections::{Outcome, Setting, serve};
+use crate::connections::{Outcome, Setting, serve};
+use crate::fakes::Pace;
 use bg_forward::End;
-use bg_revisions::Service;
 use std::alloc::Global;
 use std::io::Write;
 use std::process::Abort;
@@ -26,6 +26,9 @@ pub const EXPECTS: &str =
 /// It, as it goes on.
 pub const EXPECTS_ON: &str =
     "POST /p HTTP/1.1\r\nHost: x\r\nVia: 1.1 bg-switch\r\nContent-Length: 2\r\nConnection: close\r\n\r\nhi";
+/// What its client is written where the response is that in chunks.
+pub const EXPECTS_ANSWERED: &str =
+    "HTTP/1.1 100 Continue\r\n\r\nHTTP/1.1 200 OK\r\nContent-Length: 3\r\nConnection: close\r\n\r\nabc";
 
 const HEAD: &str = "HEAD /a HTTP/1.1\r\nHost: x\r\n\r\n";
 
@@ -49,13 +52,7 @@ const ANSWERED: [(u16, &str, &str, &str, &str); 7] = [
         "HTTP/1.1 200 OK\r\nContent-Length: 10\r\n\r\n",
         "HTTP/1.1 200 OK\r\nContent-Length: 10\r\nConnection: close\r\n\r\n",
     ),
-    (
-        200,
-        EXPECTS,
-        EXPECTS_ON,
-        CHUNKS,
-        "HTTP/1.1 100 Continue\r\n\r\nHTTP/1.1 200 OK\r\nContent-Length: 3\r\nConnection: close\r\n\r\nabc",
-    ),
+    (200, EXPECTS, EXPECTS_ON, CHUNKS, EXPECTS_ANSWERED),
     (
         204,
         GET,
@@ -114,7 +111,25 @@ pub fn refusal(status: u16) -> &'static str {
     }
 }
 
-/// What came of a connection: how it ended, what the client was written, and the calls of its seat.
+/// What came of a connection that ends so. Its seat was answered two calls where it entered, and is out, and the history
+/// is legal.
+pub fn ends<R: Abort + Wait>(
+    rt: &R,
+    alloc: Global,
+    setting: &Setting,
+    end: End,
+) -> Result<Outcome, Fail> {
+    let Some(outcome) = serve(rt, alloc, setting)? else {
+        panic!(rt; "no seat");
+    };
+    assert_eq!(rt; outcome.end, end);
+    assert_eq!(rt; outcome.calls, if outcome.entered { 2 } else { 0 });
+    assert!(rt; outcome.is_out);
+    assert!(rt; outcome.is_legal);
+    Ok(outcome)
+}
+
+/// What came of a connection that ends so, whose client was written this and whose seat was answered so many calls.
 pub fn expect<R: Abort + Wait>(
     rt: &R,
     alloc: Global,
@@ -123,13 +138,9 @@ pub fn expect<R: Abort + Wait>(
     written: &str,
     calls: u64,
 ) -> Result<Outcome, Fail> {
-    let Some(outcome) = serve(rt, alloc, setting)? else {
-        panic!(rt; "no seat");
-    };
-    assert_eq!(rt; outcome.end, end);
+    let outcome = ends(rt, alloc, setting, end)?;
     assert_eq!(rt; outcome.written.as_slice(), written.as_bytes());
     assert_eq!(rt; outcome.calls, calls);
-    assert_eq!(rt; outcome.entered, calls == 2);
     Ok(outcome)
 }
 
@@ -147,9 +158,15 @@ fn forwards_and_answers(rt: HostRuntime) -> Result<(), Fail> {
 
 #[test]
 fn answers_in_one_write(rt: HostRuntime) -> Result<(), Fail> {
-    let setting = Setting::new(GET, GET_ON, CHUNKS);
+    let setting = Setting {
+        client: Pace {
+            most: 4096,
+            ..Pace::steady()
+        },
+        ..Setting::new(GET, GET_ON, CHUNKS)
+    };
     let outcome = expect(&rt, rt.alloc(), &setting, End::Answered(200), CHUNKS_ON, 2)?;
-    assert_eq!(rt; outcome.writes, 1);
+    assert_eq!(rt; outcome.client.writes, 1);
     Ok(())
 }
 
@@ -188,19 +205,6 @@ fn refuses_too_many_fields(rt: HostRuntime) -> Result<(), Fail> {
 }
 
 #[test]
-fn answers_nothing_to_a_client_that_closes(rt: HostRuntime) -> Result<(), Fail> {
-    for size in 0..GET.len() - 1 {
-        let setting = Setting {
-            request: &GET.as_bytes()[..size],
-            ..Setting::new(GET, "", CHUNKS)
-        };
-        let outcome = expect(&rt, rt.alloc(), &setting, End::Closed, "", 0)?;
-        assert_eq!(rt; outcome.dialled, 0);
-    }
-    Ok(())
-}
-
-#[test]
 fn takes_sixteen_interim_responses(rt: HostRuntime) -> Result<(), Fail> {
     let mut response = Vec::new(rt.alloc());
     for _ in 0..16 {
@@ -228,23 +232,5 @@ fn takes_sixteen_interim_responses(rt: HostRuntime) -> Result<(), Fail> {
         refusal(502),
         2,
     )?;
-    Ok(())
-}
-
-#[test]
-fn answers_without_preview_service(rt: HostRuntime) -> Result<(), Fail> {
-    let setting = Setting {
-        service: Service::Preview,
-        ..Setting::new(GET, GET_ON, CHUNKS)
-    };
-    let outcome = expect(
-        &rt,
-        rt.alloc(),
-        &setting,
-        End::Refused(503),
-        refusal(503),
-        0,
-    )?;
-    assert_eq!(rt; outcome.dialled, 0);
     Ok(())
 }

@@ -1,5 +1,5 @@
 use Rattle.bg_ledger.specs.Picks.{names_of}
-use Rattle.bg_tests.proofs.forward.workers.with_new_names.Given as goal
+use Rattle.bg_tests_forward.proofs.workers.with_new_names.Given as goal
 
 abbrev pub ghosts-open_and_work : goal.ghosts-open_and_work
 ghosts-open_and_work g a = names_of 2 a.blanks

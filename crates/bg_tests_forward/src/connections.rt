@@ -4,8 +4,9 @@ ghost use Rattle.bg_forward.specs.Buffers.{held};
 ghost use Rattle.bg_rollout.specs.Gathering.{indices};
 ghost use Rattle.bg_ledger.specs.Blanks.{AreAllFor};
 
-use super::fakes::{Endpoint, Line, MANY, Seen, Shut};
-use crate::book::samples::strategy;
+use crate::fakes::{Endpoint, Line, Pace, Seen, Shut, Uses};
+use crate::samples::strategy;
+use bg_audit::audit;
 use bg_book::laws::{lent, same_order};
 use bg_book::{Book, Control, Desk, Limits};
 use bg_forward::{Buffered, Dial, Door, End, Gate, Served, serve_one};
@@ -25,9 +26,9 @@ pub const FIRST_PORT: u16 = 9002;
 pub struct Setting<'a> {
     /// What the client sends.
     pub request: &'a [u8],
-    /// How many reads and writes of the client succeed.
-    pub reads: usize,
-    pub writes: usize,
+    /// What it sends besides, once it was written `100 Continue`.
+    pub rest: &'a [u8],
+    pub client: Pace,
     pub service: Service,
     /// Whether the gate lets no request in.
     pub shut: bool,
@@ -37,9 +38,7 @@ pub struct Setting<'a> {
     pub port: u16,
     /// What the endpoint answers.
     pub response: &'a [u8],
-    /// How many reads and writes of the endpoint's connection succeed.
-    pub endpoint_reads: usize,
-    pub endpoint_writes: usize,
+    pub endpoint: Pace,
     /// What the endpoint should be written.
     pub forwarded: &'a [u8],
 }
@@ -49,15 +48,14 @@ impl<'a> Setting<'a> {
     pub fn new(request: &'a str, forwarded: &'a str, response: &'a str) -> Setting<'a> {
         Setting {
             request: request.as_bytes(),
-            reads: MANY,
-            writes: MANY,
+            rest: &[],
+            client: Pace::steady(),
             service: Service::Active,
             shut: false,
             available: 2,
             port: FIRST_PORT,
             response: response.as_bytes(),
-            endpoint_reads: MANY,
-            endpoint_writes: MANY,
+            endpoint: Pace::steady(),
             forwarded: forwarded.as_bytes(),
         }
     }
@@ -68,11 +66,16 @@ impl<'a> Setting<'a> {
 pub struct Outcome {
     pub entered: bool,
     pub end: End,
-    /// What the client was written, and by how many writes.
+    /// What the client was written.
     pub written: Vec<u8>,
-    pub writes: usize,
-    /// How many calls the seat was answered.
+    /// How often the client was read and written, and the endpoint.
+    pub client: Uses,
+    pub endpoint: Uses,
+    /// How many calls the seat was answered, and whether it is out.
     pub calls: u64,
+    pub is_out: bool,
+    /// Whether the history is legal, with nothing left undone.
+    pub is_legal: bool,
     /// How many connections to endpoints were opened, and how many of them were written what they should.
     pub dialled: u64,
     pub forwarded: u64,
@@ -121,11 +124,11 @@ fn serve_at<N: Names, R: Wait, D: Dial>(
     serve_first(alloc, &door, seats, setting, client, dial)
 }
 
-/// How many calls the first seat was answered.
-fn calls_of_first<N: Names>(seats: &[Seat<N>]) -> u64 {
+/// How many calls the first seat was answered, and whether it is out.
+fn state_of_first<N: Names>(seats: &[Seat<N>]) -> (u64, bool) {
     match seats.first() {
-        Some(seat) => seat.calls(),
-        None => 0,
+        Some(seat) => (seat.calls(), !seat.is_in()),
+        None => (0, false),
     }
 }
 
@@ -150,11 +153,10 @@ fn serve_over<N: Names, R: Wait>(
         port: setting.port,
         answer: setting.response,
         wanted: setting.forwarded,
-        reads_left: setting.endpoint_reads,
-        writes_left: setting.endpoint_writes,
+        pace: setting.endpoint,
         seen: &seen,
     };
-    let line = Line::new(alloc, setting.request, setting.reads, setting.writes);
+    let line = Line::waiting(alloc, setting.request, setting.rest, setting.client);
     let mut client = Buffered::new(alloc, line);
     let mut written = Vec::new(alloc);
     let (book, mut seats) = Book::<N>::open(
@@ -177,8 +179,9 @@ fn serve_over<N: Names, R: Wait>(
         &mut client,
         &endpoint,
     );
-    let calls = calls_of_first(&seats);
-    let _history = desk.into_book().close(seats);
+    let (calls, is_out) = state_of_first(&seats);
+    let history = desk.into_book().close(seats);
+    let is_legal = audit(alloc, &history, &strategy)?;
     let _outcomes = told?;
     let Some(served) = served else {
         return Ok(None);
@@ -188,8 +191,14 @@ fn serve_over<N: Names, R: Wait>(
         entered: served.entered.is_some(),
         end: served.end,
         written,
-        writes: client.get_ref().writes(),
+        client: client.get_ref().uses(),
+        endpoint: Uses {
+            reads: seen.reads.load(Ordering::SeqCst),
+            writes: seen.writes.load(Ordering::SeqCst),
+        },
         calls,
+        is_out,
+        is_legal,
         dialled: seen.dialled.load(Ordering::SeqCst),
         forwarded: seen.forwarded.load(Ordering::SeqCst),
     }))

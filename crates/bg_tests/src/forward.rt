@@ -1,7 +1,0 @@
-//! Connections that are forwarded.
-
-mod connections;
-mod failures;
-mod fakes;
-mod messages;
-mod workers;

@@ -1,0 +1,15 @@
+//! What each gathered history has to be.
+use bg_audit::audit;
+use bg_history::History;
+use bg_strategy::Strategy;
+use std::alloc::Global;
+use std::test::Fail;
+
+/// Fails where the history isn't legal, or leaves something undone.
+pub(crate) fn audited(alloc: Global, history: &History, strategy: &Strategy) -> Result<(), Fail> {
+    if audit(alloc, history, strategy)? {
+        Ok(())
+    } else {
+        Err(Fail::new("the audit refuses the gathered history"))
+    }
+}

@@ -1,0 +1,129 @@
+//! A door before a book of few entries: its history is compacted where it is full.
+ghost use Rattle.std.specs.Prelude.{◌≡◌};
+ghost use Rattle.bg_rollout.specs.Gathering.{indices};
+ghost use Rattle.bg_ledger.specs.Blanks.{AreAllFor};
+
+use crate::samples::strategy;
+use bg_audit::audit;
+use bg_book::laws::{lent, same_order};
+use bg_book::{Book, Control, Desk, Limits};
+use bg_forward::{Door, Gate};
+use bg_ledger::{Blanks, Names, Seat};
+use bg_revisions::Service;
+use std::alloc::Global;
+use std::marker::Brand;
+use std::sync::Wait;
+use std::test::Fail;
+
+/// Far more requests than the history has entries.
+const REQUESTS: u64 = 1000;
+
+/// The most entries of the history.
+const ENTRIES: u64 = 150;
+
+/// Lets a request enter and leave, and says whether it entered.
+fn pass_once<N: Names, R: Wait>(door: &Door<N, R>, seat: &mut Seat<N>) -> bool
+    ensures { seat.new.index ≡ seat.old.index }
+{
+    if seat.is_in() {
+        return false;
+    }
+    let Ok(_ticket) = door.enter(seat, Service::Active) else {
+        return false;
+    };
+    let _left = door.leave(seat);
+    true
+}
+
+/// Lets requests enter and leave, one after the other. Gives how many entered.
+fn pass_often<N: Names, R: Wait>(door: &Door<N, R>, seat: &mut Seat<N>) -> u64
+    ensures { seat.new.index ≡ seat.old.index }
+{
+    let mut entered: u64 = 0;
+    for _ in 0..REQUESTS {
+        if pass_once(door, seat) {
+            entered = entered.saturating_add(1);
+        }
+    }
+    entered
+}
+
+/// Lets them pass the door of a desk at the first of the seats.
+fn pass_first<N: Names, R: Wait>(rt: &R, desk: &Desk<N>, seats: &mut [Seat<N>]) -> u64
+    ensures { indices seats.new ≡ indices seats.old }
+{
+    same_order();
+    if seats.is_empty() {
+        return 0;
+    }
+    let door = Door::new(rt, desk);
+    pass_often(&door, &mut seats[0])
+}
+
+/// What became of the requests.
+#[derive(Clone, Copy, Drop)]
+struct Passed {
+    entered: u64,
+    /// How many of them the history has closed, and how many entries it holds.
+    closed: u64,
+    entries: u64,
+    /// Whether it is legal, with nothing left undone.
+    is_legal: bool,
+}
+
+/// Lets requests pass the door of a book of one seat and few entries.
+fn pass<N: Names, R: Wait>(rt: &R, alloc: Global, blanks: Blanks) -> Result<Passed, Fail>
+    requires blanks { AreAllFor N.Names blanks }
+    requires seats { N.seats ≡ 1 }
+{
+    lent();
+    let strategy = strategy(alloc)?;
+    let available = Control::Available {
+        revision: 1,
+        size: 2,
+    };
+    let limits = Limits {
+        entries: ENTRIES,
+        numbers: 1 << 53,
+    };
+    let (book, mut seats) = Book::<N>::open(
+        alloc,
+        &strategy,
+        "v1",
+        &[9001, 9002],
+        1,
+        limits,
+        blanks,
+    )?;
+    let desk = Desk::new(book);
+    let told = desk.control(rt, &available);
+    let entered = pass_first(rt, &desk, seats.as_mut_slice());
+    let history = desk.into_book().close(seats);
+    let is_legal = audit(alloc, &history, &strategy)?;
+    let _outcomes = told?;
+    Ok(Passed {
+        entered,
+        closed: history.closed(0),
+        entries: history.len(),
+        is_legal,
+    })
+}
+
+fn with_new_names<R: Wait>(rt: &R, alloc: Global) -> Result<Passed, Fail> {
+    pass::<Brand, R>(rt, alloc, Blanks::new())
+}
+
+#[test]
+fn a_door_makes_room(rt: HostRuntime) -> Result<(), Fail> {
+    let passed = with_new_names(&rt, rt.alloc())?;
+    assert_eq!(rt; passed.entered, REQUESTS);
+    // the report of availability, and two entries for each request, dropped or held
+    let told = passed
+        .closed
+        .saturating_mul(2)
+        .saturating_add(passed.entries);
+    assert_eq!(rt; told, 2 * REQUESTS + 1);
+    assert!(rt; passed.entries <= ENTRIES);
+    assert!(rt; passed.is_legal);
+    Ok(())
+}

@@ -1,0 +1,27 @@
+//! The tests of bg_forward, over its public calls: connections over memory, whole, cut, failing and hostile.
+#![tactic(auto)]
+
+#[cfg(test)]
+mod connections;
+#[cfg(test)]
+mod cuts;
+#[cfg(test)]
+mod doors;
+#[cfg(test)]
+mod expectations;
+#[cfg(test)]
+mod fakes;
+#[cfg(test)]
+mod gates;
+#[cfg(test)]
+mod hostile;
+#[cfg(test)]
+mod interruptions;
+#[cfg(test)]
+mod messages;
+#[cfg(test)]
+mod one_fault;
+#[cfg(test)]
+mod samples;
+#[cfg(test)]
+mod workers;

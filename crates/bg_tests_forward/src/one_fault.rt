@@ -1,0 +1,179 @@
+//! Each read, write and flush of a connection failing in turn, and the dial. What fails does so once: whoever tried it
+//! again would succeed.
+
+use crate::connections::Setting;
+use crate::fakes::{CONTINUE, Pace};
+use crate::messages::{
+    CHUNKS, CHUNKS_ON, EXPECTS, EXPECTS_ANSWERED, EXPECTS_ON, GET, GET_ON, ends, expect, refusal,
+};
+use bg_forward::End;
+use std::test::Fail;
+
+/// What a client is written that waits for `100 Continue` before a bad gateway.
+const EXPECTS_REFUSED: &str =
+    "HTTP/1.1 100 Continue\r\n\r\nHTTP/1.1 502 Bad Gateway\r\nContent-Length: 0\r\nConnection: close\r\n\r\n";
+
+/// An exchange, and what its client is written where nothing fails, and where the endpoint does.
+#[derive(Clone, Copy, Drop)]
+struct Exchange {
+    setting: Setting<'static>,
+    answered: &'static str,
+    refused: &'static str,
+    /// How many bytes the client is written before its request enters.
+    before: usize,
+}
+
+fn exchanges() -> [Exchange; 2] {
+    let plain = Exchange {
+        setting: Setting::new(GET, GET_ON, CHUNKS),
+        answered: CHUNKS_ON,
+        refused: refusal(502),
+        before: 0,
+    };
+    let waiting = Exchange {
+        setting: Setting::new(EXPECTS, EXPECTS_ON, CHUNKS),
+        answered: EXPECTS_ANSWERED,
+        refused: EXPECTS_REFUSED,
+        before: CONTINUE.len(),
+    };
+    [plain, waiting]
+}
+
+#[test]
+fn each_read_of_the_client(rt: HostRuntime) -> Result<(), Fail> {
+    for exchange in exchanges() {
+        let sound = ends(&rt, rt.alloc(), &exchange.setting, End::Answered(200))?;
+        assert!(rt; sound.client.reads > 2);
+        for place in 0..sound.client.reads {
+            let client = Pace {
+                failing_read: Some(place),
+                ..Pace::steady()
+            };
+            let setting = Setting {
+                client,
+                ..exchange.setting
+            };
+            let outcome = ends(&rt, rt.alloc(), &setting, End::ReadFailed)?;
+            assert_eq!(rt; outcome.client.reads, place.saturating_add(1));
+            assert!(rt; outcome.written.is_empty() || outcome.written.len() == exchange.before);
+            assert!(rt; !outcome.entered);
+            assert_eq!(rt; outcome.dialled, 0);
+        }
+    }
+    Ok(())
+}
+
+#[test]
+fn each_write_to_the_client(rt: HostRuntime) -> Result<(), Fail> {
+    for exchange in exchanges() {
+        let sound = ends(&rt, rt.alloc(), &exchange.setting, End::Answered(200))?;
+        assert!(rt; sound.client.writes > 2);
+        for place in 0..sound.client.writes {
+            let client = Pace {
+                failing_write: Some(place),
+                ..Pace::steady()
+            };
+            let setting = Setting {
+                client,
+                ..exchange.setting
+            };
+            let outcome = ends(&rt, rt.alloc(), &setting, End::WriteFailed)?;
+            let written = outcome.written.as_slice();
+            assert_eq!(rt; outcome.client.writes, place.saturating_add(1));
+            assert!(rt; exchange.answered.as_bytes().starts_with(written));
+            assert!(rt; written.len() < exchange.answered.len());
+            assert_eq!(rt; outcome.entered, written.len() >= exchange.before);
+        }
+    }
+    Ok(())
+}
+
+#[test]
+fn each_read_of_the_endpoint(rt: HostRuntime) -> Result<(), Fail> {
+    for exchange in exchanges() {
+        let sound = ends(&rt, rt.alloc(), &exchange.setting, End::Answered(200))?;
+        assert!(rt; sound.endpoint.reads > 2);
+        for place in 0..sound.endpoint.reads {
+            let endpoint = Pace {
+                failing_read: Some(place),
+                ..Pace::steady()
+            };
+            let setting = Setting {
+                endpoint,
+                ..exchange.setting
+            };
+            let end = End::Refused(502);
+            let outcome = expect(&rt, rt.alloc(), &setting, end, exchange.refused, 2)?;
+            assert_eq!(rt; outcome.endpoint.reads, place.saturating_add(1));
+            assert_eq!(rt; outcome.forwarded, 1);
+        }
+    }
+    Ok(())
+}
+
+#[test]
+fn each_write_to_the_endpoint(rt: HostRuntime) -> Result<(), Fail> {
+    for exchange in exchanges() {
+        let sound = ends(&rt, rt.alloc(), &exchange.setting, End::Answered(200))?;
+        assert!(rt; sound.endpoint.writes > 2);
+        for place in 0..sound.endpoint.writes {
+            let endpoint = Pace {
+                failing_write: Some(place),
+                ..Pace::steady()
+            };
+            let setting = Setting {
+                endpoint,
+                ..exchange.setting
+            };
+            let end = End::Refused(502);
+            let outcome = expect(&rt, rt.alloc(), &setting, end, exchange.refused, 2)?;
+            assert_eq!(rt; outcome.endpoint.writes, place.saturating_add(1));
+            assert_eq!(rt; outcome.endpoint.reads, 0);
+        }
+    }
+    Ok(())
+}
+
+#[test]
+fn each_flush(rt: HostRuntime) -> Result<(), Fail> {
+    let failing = Pace {
+        flush_fails: true,
+        ..Pace::steady()
+    };
+    for exchange in exchanges() {
+        let client = Setting {
+            client: failing,
+            ..exchange.setting
+        };
+        let _outcome = expect(
+            &rt,
+            rt.alloc(),
+            &client,
+            End::WriteFailed,
+            exchange.answered,
+            2,
+        )?;
+        let endpoint = Setting {
+            endpoint: failing,
+            ..exchange.setting
+        };
+        let end = End::Refused(502);
+        let outcome = expect(&rt, rt.alloc(), &endpoint, end, exchange.refused, 2)?;
+        assert_eq!(rt; outcome.endpoint.reads, 0);
+    }
+    Ok(())
+}
+
+#[test]
+fn the_dial(rt: HostRuntime) -> Result<(), Fail> {
+    for exchange in exchanges() {
+        let setting = Setting {
+            port: 9001,
+            ..exchange.setting
+        };
+        let end = End::Refused(502);
+        let outcome = expect(&rt, rt.alloc(), &setting, end, exchange.refused, 2)?;
+        assert_eq!(rt; outcome.dialled, 1);
+    }
+    Ok(())
+}
