@@ -2,6 +2,7 @@
 
 Each worker takes exactly K connections, so the script takes all of them: what its checks leave over it opens and closes.
 """
+import atexit
 import collections
 import concurrent.futures
 import http.client
@@ -23,6 +24,8 @@ ROLLOUT = """{"spec": {"replicas": 1, "strategy": {"blueGreen": {"activeService"
 NO_PREVIEW = '{"spec": {"strategy": {"blueGreen": {"activeService": "web"}}}}'
 # The C library gives each thread a stack of the limit, and of this size there is none.
 NO_STACK = 1 << 48
+# No program that these scripts start runs for longer, in seconds.
+LONGEST_RUN = 120
 passed = failed = 0
 
 
@@ -33,6 +36,14 @@ def check(name, got, wanted):
     else:
         failed += 1
         print(f"FAILED: {name}: {got!r}, not {wanted!r}")
+
+
+def limit(process):
+    """Ends a process after a while, and with this script, so that whoever waits for it fails and doesn't hang."""
+    atexit.register(process.kill)
+    timer = threading.Timer(LONGEST_RUN, process.kill)
+    timer.daemon = True
+    timer.start()
 
 
 class Backend(http.server.BaseHTTPRequestHandler):
@@ -119,6 +130,7 @@ class Switch:
         if preview:
             words += ["--preview", str(self.preview)]
         self.process = subprocess.Popen(words, stdin=subprocess.PIPE, stdout=subprocess.PIPE, text=True, preexec_fn=before)
+        limit(self.process)
         self.process.stdin.write(rollout)
         self.process.stdin.close()
         self.first = self.process.stdout.readline()
@@ -163,7 +175,7 @@ class Switch:
         """Takes the connections that are left, and gives what was printed and the status."""
         for port, count in self.left.items():
             for _ in range(count):
-                socket.create_connection(("127.0.0.1", port)).close()
+                socket.create_connection(("127.0.0.1", port), timeout=20).close()
         printed = self.process.stdout.read()
         return printed, self.process.wait(timeout=60)
 

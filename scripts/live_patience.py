@@ -86,6 +86,7 @@ class Switch:
             [SWITCH, "serve", "--active", str(self.active), "--preview", str(self.preview), "--control", str(self.control),
              "--workers", str(workers), "--count", str(count)],
             stdin=subprocess.PIPE, stdout=subprocess.PIPE, text=True, env=environment)
+        live.limit(self.process)
         self.process.stdin.write(ROLLOUT)
         self.process.stdin.close()
         # `communicate` is to leave it alone
@@ -160,7 +161,7 @@ def slow_requests():
     switch = Switch(start_endpoint([ANSWER]), workers=2, count=2, patience=PATIENCE)
     pieces = [REQUEST[start:start + 4] for start in range(0, len(REQUEST), 4)]
     answer, seconds = switch.get(pieces, (PATIENCE - 1.5) / len(pieces))
-    check("a request in pieces", (answer.endswith(b"\r\n\r\nok"), seconds < PATIENCE), (True, True))
+    check("a request in pieces", (answer.endswith(b"\r\n\r\nok"), seconds <= PATIENCE + SLACK), (True, True))
     answer, seconds = switch.get([])
     check("a client that says nothing", (answer, ends_in_time(seconds)), (b"", True))
     check("the end after slow requests", switch.end(), (["calls 2"], 0))

@@ -46,7 +46,8 @@ fn make<R: Print + Eprint, S: Subject>(
     }
 }
 
-fn compare<R: Print>(rt: &R, name: &str, before: &Page, after: &Page) -> Result<(), Stop> {
+/// Says so on standard output where a refused call has changed what is displayed.
+pub fn compare<R: Print>(rt: &R, name: &str, before: &Page, after: &Page) -> Result<(), Stop> {
     if before.as_slice() != after.as_slice() {
         println!(rt; "changed: {name}, which was refused")?;
     }
@@ -98,5 +99,17 @@ pub fn say_refused<R: Eprint>(rt: &R, name: &str) -> Result<(), Stop> {
 /// Writes what a value is displayed as on standard output.
 pub fn show<R: Print, S: Display>(rt: &R, value: &S) -> Result<(), Stop> {
     print!(rt; "{value}")?;
+    Ok(())
+}
+
+/// From here on all memory is refused, where `scripts/refuse_memory.c` is loaded.
+pub fn refuse_all<R: Eprint>(rt: &R) -> Result<(), Stop> {
+    eprintln!(rt; "memory: none")?;
+    Ok(())
+}
+
+/// From here on memory is ample again.
+pub fn refuse_none<R: Eprint>(rt: &R) -> Result<(), Stop> {
+    eprintln!(rt; "memory: ample")?;
     Ok(())
 }

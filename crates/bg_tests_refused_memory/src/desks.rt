@@ -1,16 +1,14 @@
 //! The calls of `bg_book` that are made at a seat, and events. A book takes memory rarely, so each call is made often
 //! enough to meet a growth.
-ghost use Rattle.std.specs.Prelude.{◌≡◌, true};
-ghost use Rattle.bg_rollout.specs.Gathering.{are_all};
+ghost use Rattle.std.specs.Prelude.{◌≡◌};
 ghost use Rattle.bg_ledger.specs.Blanks.{AreAllFor};
 
 use crate::asking::{Subject, change, made, made_again, say_made, say_refused, show};
 use crate::state::State;
 use crate::stop::Stop;
 use crate::strategies::base_strategy;
-use bg_book::laws::lent;
-use bg_book::{Book, Call, Control, Limits};
-use bg_ledger::{Blanks, Names, Seat};
+use bg_book::{Call, Control, Limits, OpenBook};
+use bg_ledger::{Blanks, Names};
 use bg_revisions::{Name, Ports, Service};
 use bg_strategy::Strategy;
 use std::alloc::Global;
@@ -27,9 +25,7 @@ pub fn available() -> Control {
 
 /// A book and its eight seats. It can't be dropped: it ends in [`Desk::close`].
 pub struct Desk<N: Names> {
-    book: Book<N>,
-    seats: Vec<Seat<N>>,
-    ghost all: { are_all 8 seats.items ≡ true },
+    opened: OpenBook<N>,
 }
 
 impl<N: Names> Desk<N> {
@@ -40,16 +36,14 @@ impl<N: Names> Desk<N> {
     {
         let ports = [9001, 9002];
         let usual = Limits::usual();
-        let (book, seats) = Book::open(alloc, strategy, "v1", &ports, 8, usual, blanks)?;
-        Ok(Desk { book, seats })
+        let opened = OpenBook::open(alloc, strategy, "v1", &ports, 8, usual, blanks)?;
+        Ok(Desk { opened })
     }
 
     /// Lets each seat leave that is in, and ends the book.
-    pub fn close(self)
-        requires { N.seats ≡ 8 }
-    {
-        let Desk { book, seats } = self;
-        let _history = book.close(seats);
+    pub fn close(self) {
+        let Desk { opened } = self;
+        let _history = opened.close();
     }
 
     /// Lets a request enter at the seat of this place, which holds none.
@@ -67,8 +61,7 @@ impl<N: Names> Desk<N> {
 
     /// Makes a call.
     fn call(&mut self, call: &Call) -> Result<(), Stop> {
-        lent();
-        Stop::unless_done(&self.book.call(self.seats.as_mut_slice(), call))
+        Stop::unless_done(&self.opened.call(call))
     }
 
     /// Lets a request enter at the seat of this place, and leave again.
@@ -76,19 +69,13 @@ impl<N: Names> Desk<N> {
         self.enter(place)?;
         self.leave(place)
     }
-
-    /// Records an event.
-    pub fn control(&mut self, control: &Control) -> Result<(), Stop> {
-        let _outcomes = self.book.control(control)?;
-        Ok(())
-    }
 }
 
 impl<N: Names> fmt::Display for Desk<N> {
     fn fmt<W: fmt::Write>(&self, f: &mut fmt::Formatter<W>) -> fmt::Result {
         let state = State {
-            book: &self.book,
-            seats: &self.seats,
+            book: self.opened.book(),
+            seats: self.opened.seats(),
         };
         write!(f, "{state}")
     }
@@ -116,10 +103,10 @@ impl<N: Names> fmt::Display for Events<'_, N> {
 }
 
 impl<N: Names> Subject for Events<'_, N> {
-    type Call = Control;
+    type Call = Call;
 
-    fn make(&mut self, event: &Control) -> Result<(), Stop> {
-        self.desk.control(event)
+    fn make(&mut self, event: &Call) -> Result<(), Stop> {
+        self.desk.call(event)
     }
 }
 
@@ -166,7 +153,11 @@ fn make_calls_at<N: Names, R: AllocGlobal + Print + Eprint>(
 
 /// An event takes the room that its outcomes may need.
 fn record_events<N: Names, R: Print + Eprint>(rt: &R, desk: &mut Desk<N>) -> Result<(), Stop> {
-    let events = [available(), Control::Tick(1), Control::Tick(2)];
+    let events = [
+        Call::Control(available()),
+        Call::Control(Control::Tick(1)),
+        Call::Control(Control::Tick(2)),
+    ];
     change(rt, "Book::control", &mut Events { desk }, &events)
 }
 
@@ -176,9 +167,9 @@ fn deploy_revisions<N: Names, R: AllocGlobal + Print + Eprint>(
     desk: &mut Desk<N>,
 ) -> Result<(), Stop> {
     let deploys = [
-        make_deploy(rt, "v2")?,
-        make_deploy(rt, "v3")?,
-        make_deploy(rt, "v2")?,
+        Call::Control(make_deploy(rt, "v2", &[9101, 9102])?),
+        Call::Control(make_deploy(rt, "v3", &[9101, 9102])?),
+        Call::Control(make_deploy(rt, "v2", &[9101, 9102])?),
     ];
     change(
         rt,
@@ -188,18 +179,23 @@ fn deploy_revisions<N: Names, R: AllocGlobal + Print + Eprint>(
     )
 }
 
-fn make_deploy<R: AllocGlobal + Print + Eprint>(rt: &R, name: &str) -> Result<Control, Stop> {
+/// A deploy of this name and these ports.
+pub fn make_deploy<R: AllocGlobal + Print + Eprint>(
+    rt: &R,
+    name: &str,
+    ports: &[u16],
+) -> Result<Control, Stop> {
     let alloc = rt.alloc();
-    match made(rt, "Name::new, Ports::new", new_deploy(alloc, name))? {
+    match made(rt, "Name::new, Ports::new", new_deploy(alloc, name, ports))? {
         Some(event) => Ok(event),
-        None => made_again(rt, "Name::new, Ports::new", new_deploy(alloc, name)),
+        None => made_again(rt, "Name::new, Ports::new", new_deploy(alloc, name, ports)),
     }
 }
 
-fn new_deploy(alloc: Global, name: &str) -> Result<Control, Stop> {
+fn new_deploy(alloc: Global, name: &str, ports: &[u16]) -> Result<Control, Stop> {
     Ok(Control::Deploy {
         name: Name::new(alloc, name)?,
-        ports: Ports::new(alloc, &[9101, 9102])?,
+        ports: Ports::new(alloc, ports)?,
     })
 }
 

@@ -1,5 +1,5 @@
-//! Makes the calls up to `bg_book`, of `bg_http` and of `bg_http_read` that take memory. Where it is refused, it looks
-//! at what the refused call has left, and asks again.
+//! Makes the calls up to `bg_book`, of `bg_audit`, `bg_http` and `bg_http_read` that take memory. Where it is refused, it
+//! looks at what the refused call has left, and asks again. Where a request leaves or seats are gathered it has all refused.
 //!
 //! Standard output names each call that was made, with what came of it, and is the same whichever request for memory
 //! is refused, unless a refused call has changed something. Standard error names each call that was refused.
@@ -7,7 +7,9 @@
 #![tactic(auto)]
 
 mod asking;
+mod audits;
 mod desks;
+mod each_growth;
 mod histories;
 mod messages;
 mod open_lists;
@@ -24,8 +26,10 @@ fn main(rt: HostRuntime) -> Result<(), Stop> {
     strategies::make_calls(&rt)?;
     rosters::make_calls(&rt)?;
     histories::make_calls(&rt)?;
+    audits::make_calls(&rt)?;
     open_lists::make_calls(&rt)?;
     desks::make_calls(&rt)?;
     rooms::make_calls(&rt)?;
+    each_growth::make_calls(&rt)?;
     messages::make_calls(&rt)
 }

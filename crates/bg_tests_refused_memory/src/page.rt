@@ -1,8 +1,8 @@
 //! A text that takes no memory to be written.
 ghost use Rattle.std.specs.Prelude.{◌≤◌};
 
-use std::fmt;
 use std::fmt::{Display, Write};
+use std::{fmt, str};
 
 /// The most bytes of a text.
 const ROOM: usize = 4096;
@@ -29,6 +29,15 @@ impl Page {
     /// The text's bytes.
     pub fn as_slice(&self) -> &[u8] {
         &self.bytes[..self.length]
+    }
+}
+
+impl Display for Page {
+    fn fmt<W: Write>(&self, f: &mut fmt::Formatter<W>) -> fmt::Result {
+        match str::from_utf8(self.as_slice()) {
+            Ok(text) => f.write_str(text),
+            Err(_) => Err(fmt::Error),
+        }
     }
 }
 

@@ -1,6 +1,5 @@
 //! The calls of `bg_book` that name their seats.
-ghost use Rattle.std.specs.Prelude.{◌≡◌, true};
-ghost use Rattle.bg_rollout.specs.Gathering.{are_all};
+ghost use Rattle.std.specs.Prelude.{◌≡◌};
 ghost use Rattle.bg_ledger.specs.Blanks.{AreAllFor};
 
 use crate::asking::{Subject, change, say_made, say_refused, show};
@@ -8,26 +7,22 @@ use crate::desks::available;
 use crate::state::State;
 use crate::stop::Stop;
 use crate::strategies::base_strategy;
-use bg_book::laws::lent;
-use bg_book::{Book, Call, Limits};
-use bg_ledger::{Blanks, Names, Seat};
+use bg_book::{Call, Limits, OpenBook, Reply};
+use bg_ledger::{Blanks, Names};
 use bg_revisions::Service;
 use bg_strategy::Strategy;
 use std::alloc::Global;
 use std::fmt;
 use std::marker::Brand;
 
-/// A request enters at seat 0.
-fn enter() -> Call {
-    Call::Enter {
-        seat: 0,
-        service: Service::Active,
-    }
+/// A request for a service enters at a seat.
+pub fn enter(seat: u32, service: Service) -> Call {
+    Call::Enter { seat, service }
 }
 
-/// The request of seat 0 leaves.
-fn leave() -> Call {
-    Call::Leave { seat: 0 }
+/// The request of a seat leaves.
+pub fn leave(seat: u32) -> Call {
+    Call::Leave { seat }
 }
 
 /// A call that is made in a room.
@@ -41,9 +36,7 @@ pub enum RoomCall {
 
 /// A book and its two seats. It can't be dropped: it ends in [`Room::close`].
 pub struct Room<N: Names> {
-    book: Book<N>,
-    seats: Vec<Seat<N>>,
-    ghost all: { are_all 2 seats.items ≡ true },
+    opened: OpenBook<N>,
 }
 
 impl<N: Names> Room<N> {
@@ -54,37 +47,52 @@ impl<N: Names> Room<N> {
     {
         let ports = [9001, 9002];
         let usual = Limits::usual();
-        let (book, seats) = Book::open(alloc, strategy, "v1", &ports, 2, usual, blanks)?;
-        Ok(Room { book, seats })
+        let opened = OpenBook::open(alloc, strategy, "v1", &ports, 2, usual, blanks)?;
+        Ok(Room { opened })
     }
 
     /// Lets each seat leave that is in, and ends the book.
-    pub fn close(self)
-        requires { N.seats ≡ 2 }
-    {
-        let Room { book, seats } = self;
-        let _history = book.close(seats);
+    pub fn close(self) {
+        let Room { opened } = self;
+        let _history = opened.close();
+    }
+
+    /// Ends the book where no request is in. Else it lets each leave, and answers false.
+    pub fn gather(self) -> bool {
+        let Room { opened } = self;
+        let (book, seats) = opened.into_parts();
+        match book.gather(seats) {
+            Ok(_history) => true,
+            Err((book, seats, _fault)) => {
+                let _history = book.close(seats);
+                false
+            }
+        }
+    }
+
+    /// Makes a call that is done.
+    pub fn call(&mut self, call: &Call) -> Result<(), Stop> {
+        Stop::unless_done(&self.reply(call))
     }
 
     /// Makes a call.
-    pub fn call(&mut self, call: &Call) -> Result<(), Stop> {
-        lent();
-        Stop::unless_done(&self.book.call(self.seats.as_mut_slice(), call))
+    pub fn reply(&mut self, call: &Call) -> Reply {
+        self.opened.call(call)
     }
 
     /// Makes calls.
-    pub fn run(&mut self, calls: &[Call]) -> Result<(), Stop> {
-        lent();
-        let _replies = self.book.run(self.seats.as_mut_slice(), calls)?;
-        Ok(())
+    pub fn run(&mut self, calls: &[Call]) -> Result<Vec<Reply>, Stop> {
+        Ok(self.opened.run(calls)?)
     }
 }
 
 impl<N: Names> fmt::Display for Room<N> {
     fn fmt<W: fmt::Write>(&self, f: &mut fmt::Formatter<W>) -> fmt::Result {
-        let book = &self.book;
-        let seats = self.seats.as_slice();
-        write!(f, "{}", State { book, seats })
+        let state = State {
+            book: self.opened.book(),
+            seats: self.opened.seats(),
+        };
+        write!(f, "{state}")
     }
 }
 
@@ -94,7 +102,10 @@ impl<N: Names> Subject for Room<N> {
     fn make(&mut self, call: &RoomCall) -> Result<(), Stop> {
         match call {
             RoomCall::Alone(call) => self.call(call),
-            RoomCall::Run(calls) => self.run(calls),
+            RoomCall::Run(calls) => {
+                let _replies = self.run(calls)?;
+                Ok(())
+            }
         }
     }
 }
@@ -130,9 +141,9 @@ fn work<N: Names, R: AllocGlobal + Print + Eprint>(
 fn make_calls_in<N: Names, R: Print + Eprint>(rt: &R, room: &mut Room<N>) -> Result<(), Stop> {
     say_made(rt, "Book::open")?;
     let event = RoomCall::Alone(Call::Control(available()));
-    let calls = RoomCall::Run([leave(), enter(), leave()]);
+    let calls = RoomCall::Run([leave(0), enter(0, Service::Active), leave(0)]);
     change(rt, "Book::call of an event", room, &[event])?;
-    room.call(&enter())?;
+    room.call(&enter(0, Service::Active))?;
     change(rt, "Book::run", room, &[calls])?;
     show(rt, room)
 }

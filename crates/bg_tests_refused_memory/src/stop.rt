@@ -1,5 +1,6 @@
 //! Why a call has no answer.
 
+use bg_audit::AuditFault;
 use bg_book::{ControlFault, EnterFault, OpenFault, Reply, RunFault};
 use bg_http::{RequestFault, ResponseFault};
 use bg_revisions::RevisionFault;
@@ -111,6 +112,14 @@ impl From<ResponseFault> for Stop {
         match fault {
             ResponseFault::OutOfMemory => Stop::OutOfMemory,
             _ => Stop::OtherFault,
+        }
+    }
+}
+
+impl From<AuditFault> for Stop {
+    fn from(fault: AuditFault) -> Stop {
+        match fault {
+            AuditFault::OutOfMemory => Stop::OutOfMemory,
         }
     }
 }

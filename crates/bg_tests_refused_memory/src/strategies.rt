@@ -68,7 +68,8 @@ pub fn base_strategy<R: AllocGlobal + Print + Eprint>(rt: &R) -> Result<Strategy
     strategy_of(rt, BASE)
 }
 
-fn strategy_of<R: AllocGlobal + Print + Eprint>(rt: &R, text: &str) -> Result<Strategy, Stop> {
+/// The strategy of a document.
+pub fn strategy_of<R: AllocGlobal + Print + Eprint>(rt: &R, text: &str) -> Result<Strategy, Stop> {
     let alloc = rt.alloc();
     match made(rt, "bg_strategy::read", read_strategy(alloc, text))? {
         Some(strategy) => Ok(strategy),

@@ -1,0 +1,65 @@
+//! The call of `bg_audit`.
+
+use crate::asking::{made, made_again};
+use crate::stop::Stop;
+use crate::strategies::base_strategy;
+use bg_audit::audit;
+use bg_history::{Entry, History};
+use bg_revisions::Service;
+use bg_strategy::Strategy;
+use std::alloc::Global;
+
+pub fn make_calls<R: AllocGlobal + Print + Eprint>(rt: &R) -> Result<(), Stop> {
+    let strategy = base_strategy(rt)?;
+    let history = make_history(rt)?;
+    let is_legal = audit_history(rt, &history, &strategy)?;
+    println!(rt; "legal and settled: {is_legal}")?;
+    Ok(())
+}
+
+fn make_history<R: AllocGlobal + Print + Eprint>(rt: &R) -> Result<History, Stop> {
+    let alloc = rt.alloc();
+    match made(rt, "History::new, History::reserve", new_history(alloc))? {
+        Some(history) => Ok(history),
+        None => made_again(rt, "History::new, History::reserve", new_history(alloc)),
+    }
+}
+
+/// Revision 1 has both its endpoints, and a request enters and leaves.
+fn new_history(alloc: Global) -> Result<History, Stop> {
+    let mut history = History::new(alloc, 2, "v1", &[9001, 9002])?;
+    history.reserve(3)?;
+    history.push_reserved(Entry::Available {
+        revision: 1,
+        size: 2,
+    });
+    history.push_reserved(Entry::Enter {
+        seat: 0,
+        service: Service::Active,
+        number: 1,
+        revision: 1,
+        port: 9002,
+    });
+    history.push_reserved(Entry::Leave {
+        seat: 0,
+        number: 1,
+        revision: 1,
+    });
+    Ok(history)
+}
+
+fn audit_history<R: AllocGlobal + Print + Eprint>(
+    rt: &R,
+    history: &History,
+    strategy: &Strategy,
+) -> Result<bool, Stop> {
+    let alloc = rt.alloc();
+    match made(rt, "audit", new_answer(alloc, history, strategy))? {
+        Some(answer) => Ok(answer),
+        None => made_again(rt, "audit", new_answer(alloc, history, strategy)),
+    }
+}
+
+fn new_answer(alloc: Global, history: &History, strategy: &Strategy) -> Result<bool, Stop> {
+    Ok(audit(alloc, history, strategy)?)
+}
