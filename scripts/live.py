@@ -118,6 +118,23 @@ def free_ports(count):
     return ports
 
 
+def exchanged(connection, request, *later):
+    """What a client that sends these bytes, and others later, and ends its side, is answered, or None where the connection
+    is reset."""
+    try:
+        connection.sendall(request)
+        for piece in later:
+            time.sleep(0.05)
+            connection.sendall(piece)
+        connection.shutdown(socket.SHUT_WR)
+        answer = b""
+        while piece := connection.recv(65536):
+            answer += piece
+        return answer
+    except ConnectionError:
+        return None
+
+
 class Switch:
     """A running `serve`."""
 
@@ -141,21 +158,9 @@ class Switch:
         return socket.create_connection(("127.0.0.1", port), timeout=20)
 
     def raw(self, port, request, *later):
-        """What a client that sends these bytes, and others later, and ends its side, is answered, or None where the
-        connection is reset."""
+        """What a client is answered that sends these bytes, and others later: see `exchanged`."""
         with self.connect(port) as connection:
-            try:
-                connection.sendall(request)
-                for piece in later:
-                    time.sleep(0.05)
-                    connection.sendall(piece)
-                connection.shutdown(socket.SHUT_WR)
-                answer = b""
-                while piece := connection.recv(65536):
-                    answer += piece
-                return answer
-            except ConnectionError:
-                return None
+            return exchanged(connection, request, *later)
 
     def get(self, port, path="/", method="GET", body=None, fields=None):
         """The status and the body that a client is answered, or None where there is no whole answer."""

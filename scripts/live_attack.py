@@ -17,7 +17,7 @@ from typing import NamedTuple
 
 import live
 import live_patience
-from live import ROLLOUT, check
+from live import ROLLOUT, check, exchanged
 from live_patience import ANSWER, BAD_GATEWAY, LONGEST, SLACK, connect, received, send_in_pieces
 
 SEED = 30
@@ -123,15 +123,7 @@ def start(endpoint, workers, count, patience=None):
 def asked(port, text):
     """What a client is answered that sends this, or None where the connection is reset."""
     with connect(port) as client:
-        try:
-            client.sendall(text)
-            client.shutdown(socket.SHUT_WR)
-            answer = b""
-            while piece := client.recv(65536):
-                answer += piece
-            return answer
-        except ConnectionError:
-            return None
+        return exchanged(client, text)
 
 
 def at_once(calls):
