@@ -133,7 +133,7 @@ fn read_ports(alloc: Global, words: Words) -> Result<Ports, LineFault>
     for word in words {
         numbers.push(short_number(word)?)?;
     }
-    Ok(Ports::new(alloc, &numbers)?)
+    Ok(Ports::from_vec(alloc, numbers)?)
 }
 
 fn tick(words: Words) -> Result<Command, LineFault>

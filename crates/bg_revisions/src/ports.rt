@@ -24,8 +24,15 @@ impl Ports {
         ensures { IfOk result (λ p. p ≡ numbers.now) }
     {
         let copy = numbers.to_vec(alloc)?;
+        Ports::from_vec(alloc, copy)
+    }
+
+    /// Takes `numbers` as they are, without a copy; refused only where memory is.
+    pub fn from_vec(alloc: Global, numbers: Vec<u16>) -> Result<Ports, AllocError>
+        ensures { IfOk result (λ p. p ≡ numbers.items) }
+    {
         Ok(Ports {
-            numbers: Box::new(alloc, copy)?,
+            numbers: Box::new(alloc, numbers)?,
         })
     }
 
