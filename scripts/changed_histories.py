@@ -32,6 +32,7 @@ class Strategy(NamedTuple):
     post: bool
     delay: int
     revision_limit: int | None
+    abort_delay: int
     history_limit: int
 
 
@@ -52,6 +53,7 @@ def strategy_of(settings):
         post=value("postPromotionAnalysis", None) is not None,
         delay=int(value("scaleDownDelaySeconds", 30)),
         revision_limit=None if value("scaleDownDelayRevisionLimit", None) is None else int(value("scaleDownDelayRevisionLimit", 0)),
+        abort_delay=int(value("abortScaleDownDelaySeconds", 30)),
         history_limit=int(value("revisionHistoryLimit", 10)),
     )
 
@@ -240,7 +242,7 @@ def may_promote(s, h):
     return not s.post or stands(h, "verdict", "post", "successful") or stands(h, "promote_full")
 
 
-def mark(h, r):
+def mark(s, h, r):
     """What last became of r, at which place and at which moment."""
     for place in reversed(range(len(h))):
         entry, before, after = h[place], h[:place], h[: place + 1]
@@ -248,7 +250,10 @@ def mark(h, r):
         if active(before) == r and active(after) != r and not halts:
             return "left", place, moment(after)
         if entry[0] == "deploy" and newest(before) == r and r not in (active(before), stable(before)):
-            return "superseded", place, moment(after)
+            if desired(s, before, r) >= 1:
+                return "superseded", place, moment(after)
+        if halts and s.abort_delay > 0:
+            return "aborted", place, moment(after)
         becomes_active = active(before) != r and active(after) == r
         if begins(entry, before, r) or becomes_active or entry == ("scaled_down", r) or halts:
             return "cleared", place, moment(after)
@@ -263,12 +268,14 @@ def spare(s, h):
 def is_due(s, h, r):
     if r not in spare(s, h):
         return False
-    kind, place, at = mark(h, r)
+    kind, place, at = mark(s, h, r)
     if kind == "cleared":
         return False
     if kind == "superseded":
         return at <= moment(h)
-    later = [q for q in spare(s, h) if mark(h, q)[0] == "left" and mark(h, q)[1] > place]
+    if kind == "aborted":
+        return at + s.abort_delay <= moment(h)
+    later = [q for q in spare(s, h) if mark(s, h, q)[0] == "left" and mark(s, h, q)[1] > place]
     return at + s.delay <= moment(h) or (s.revision_limit is not None and len(later) >= s.revision_limit)
 
 

@@ -331,7 +331,7 @@ stable 2
 newest 3
 revision 1 one desired 0 available 0 open 0 deadline none
 revision 2 two desired 1 available 1 open 0 deadline none
-revision 3 three desired 1 available 1 open 0 deadline none
+revision 3 three desired 1 available 1 open 0 deadline 60
 end
 calls {2 * (entered + 2)}
 """)

@@ -92,11 +92,13 @@ numbered-first g p t r (x ∷ xs) own same =
 time-told : (s : Strategy) (k : past.MarkKind) (at : ℕ) → time_in s (kind_told k) at ≡ time_of s k at
 time-told s past.Left at = refl
 time-told s past.Superseded at = refl
+time-told s past.Aborted at = refl
 time-told s past.Cleared at = refl
 
 left-told : (k : past.MarkKind) → is_left_in (kind_told k) ≡ is_left k
 left-told past.Left = refl
 left-told past.Superseded = refl
+left-told past.Aborted = refl
 left-told past.Cleared = refl
 
 later-told : (stood : ℕ) (m : Option past.Mark) → left_later_in stood (option_map mark_told m) ≡ left_later stood m

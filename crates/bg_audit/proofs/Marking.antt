@@ -3,6 +3,7 @@ use Rattle.std.proofs.Common.{◌≡◌, ℕ, Bool, true, false, not, cond, ◌=
 use Rattle.std.specs.List.{list_any}
 use Rattle.std.specs.Option.{option_or, option_map}
 use Rattle.std.proofs.lemmas.Bool.Decides.{nat_tests}
+use Rattle.std.proofs.lemmas.Option.{same_Some}
 use Rattle.bg_strategy.specs.declared.strategy.Strategy.{Strategy}
 use Rattle.bg_history.specs.declared.entry.Entry.{Entry}
 use Rattle.bg_history.specs.declared.entry.Entry.TheVariants.{Deploy, Outcome}
@@ -15,10 +16,36 @@ use Rattle.bg_history.specs.Deadlines.{exists_in}
 use Rattle.bg_history.specs.Marks as past
 use Rattle.bg_history_facts.specs.Reachable.{Reachable}
 use Rattle.bg_audit.specs.declared.marks.Mark.{Mark}
+use Rattle.bg_audit.specs.declared.marks.MarkKind.{MarkKind}
 use Rattle.bg_audit.specs.declared.marks.RevisionMark.{RevisionMark}
 use Rattle.bg_audit.specs.Marked.{kind_told, mark_told, remarked, with_revision, prepared, marked, HasMarks}
 use Rattle.bg_audit.proofs.Tests.{and_parts, or_right, equal_itself, equal_numbers}
 use Rattle.bg_audit.proofs.Listed.{other-number, stable-there}
+
+-- a revision's mark by its parts
+abbrev mark_of_parts : ℕ → Option Mark → RevisionMark
+mark_of_parts r m = record { revision = r; mark = m }
+
+-- a revision's mark after an entry, by the kind that is told of it
+pub remarked-Some : (s : Strategy) (e : Entry) (before : List Entry) (m : RevisionMark) (k : MarkKind) (at n : ℕ) (told : Option MarkKind)
+    → told ≡ option_map kind_told (past.kind_of s m.revision e before) → told ≡ Some k → at ≡ moment (e ∷ before) → n ≡ length before
+    → mark_of_parts m.revision (Some (record { kind = k; moment = at; stood = n })) ≡ remarked s e before m
+remarked-Some s e before m k at n told is some now stood = go (past.kind_of s m.revision e before) is where
+  go : (o : Option past.MarkKind) → told ≡ option_map kind_told o
+      → mark_of_parts m.revision (Some (record { kind = k; moment = at; stood = n }))
+      ≡ mark_of_parts m.revision (option_or (option_map (λ kind. record { kind = kind_told kind; moment = moment (e ∷ before); stood = length before }) o) m.mark)
+  go None h = absurd (cc)
+  go (Some kind) h =
+      let same : k ≡ kind_told kind = same_Some _ _ (sym some ∙ h) in
+      rw (same, now, stood) refl
+
+pub remarked-None : (s : Strategy) (e : Entry) (before : List Entry) (m : RevisionMark) (told : Option MarkKind)
+    → told ≡ option_map kind_told (past.kind_of s m.revision e before) → told ≡ None → m ≡ remarked s e before m
+remarked-None s e before m told is none = go (past.kind_of s m.revision e before) is where
+  go : (o : Option past.MarkKind) → told ≡ option_map kind_told o
+      → m ≡ mark_of_parts m.revision (option_or (option_map (λ kind. record { kind = kind_told kind; moment = moment (e ∷ before); stood = length before }) o) m.mark)
+  go None h = refl
+  go (Some kind) h = absurd (cc)
 
 -- marking finds the same revisions
 find-remarked : (s : Strategy) (e : Entry) (before : List Entry) (r : ℕ) (ms : List RevisionMark)

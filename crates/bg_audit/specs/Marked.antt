@@ -6,18 +6,30 @@ use Rattle.bg_strategy.specs.declared.strategy.Strategy.{Strategy}
 use Rattle.bg_history.specs.declared.entry.Entry.{Entry}
 use Rattle.bg_history.specs.declared.entry.Entry.TheVariants.{Deploy, Outcome}
 use Rattle.bg_history.specs.declared.entry.Outcome.TheVariants.{Removed}
-use Rattle.bg_history.specs.Turns.{moment}
+use Rattle.bg_history.specs.Turns.{moment, newest_of}
+use Rattle.bg_history.specs.Sizes.{is_scaled}
 use Rattle.bg_history.specs.Deadlines.{exists_in}
 use Rattle.bg_history.specs.Marks as past
 use Rattle.bg_audit.specs.declared.marks.Mark.{Mark}
 use Rattle.bg_audit.specs.declared.marks.MarkKind.{MarkKind}
-use Rattle.bg_audit.specs.declared.marks.MarkKind.TheVariants.{Left, Superseded, Cleared}
+use Rattle.bg_audit.specs.declared.marks.MarkKind.TheVariants.{Left, Superseded, Aborted, Cleared}
 use Rattle.bg_audit.specs.declared.marks.RevisionMark.{RevisionMark}
+use Rattle.bg_audit.specs.declared.marks.Around.{Around}
+use Rattle.bg_audit.specs.Standing.{IsCourse}
+
+-- what stands around an entry is what the past says before and after it
+pub record IsAround (s : Strategy) (e : Entry) (before : List Entry) (a : Around) : Type 0 where
+  pub before_is : IsCourse s before a.before
+  pub after_is : IsCourse s (e ∷ before) a.after
+  pub scaled_is : a.newest_is_scaled ≡ is_scaled s (newest_of before) before
+  pub delay_is : a.has_abort_delay ≡ past.has_abort_delay s
+  pub stood_is : a.stood ≡ length before
 
 -- a kind of mark, as the code has it
 abbrev pub kind_told : past.MarkKind → MarkKind
 kind_told past.Left = Left
 kind_told past.Superseded = Superseded
+kind_told past.Aborted = Aborted
 kind_told past.Cleared = Cleared
 
 -- a mark, as the code has it

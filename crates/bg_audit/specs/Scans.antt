@@ -10,7 +10,7 @@ use Rattle.bg_history.specs.Allowed.{has_value}
 use Rattle.bg_audit.specs.declared.course.Course.{Course}
 use Rattle.bg_audit.specs.declared.marks.Mark.{Mark}
 use Rattle.bg_audit.specs.declared.marks.MarkKind.{MarkKind}
-use Rattle.bg_audit.specs.declared.marks.MarkKind.TheVariants.{Left, Superseded, Cleared}
+use Rattle.bg_audit.specs.declared.marks.MarkKind.TheVariants.{Left, Superseded, Aborted, Cleared}
 use Rattle.bg_audit.specs.declared.requests.OpenRequest.{OpenRequest}
 use Rattle.bg_audit.specs.declared.facts.Facts.{Facts}
 use Rattle.bg_audit.specs.Selected.{selects_in}
@@ -58,6 +58,7 @@ is_spare_in c v = nat_le 1 v.desired && not (selects_in c v.number)
 abbrev pub is_left_in : MarkKind → Bool
 is_left_in Left = true
 is_left_in Superseded = false
+is_left_in Aborted = false
 is_left_in Cleared = false
 
 -- the mark is of a revision that left after `stood` entries or more
@@ -69,6 +70,7 @@ left_later_in stood (Some m) = is_left_in m.kind && nat_lt stood m.stood
 abbrev pub time_in : Strategy → MarkKind → ℕ → Option ℕ
 time_in s Left at = Some (at + s.delay)
 time_in s Superseded at = Some at
+time_in s Aborted at = Some (at + s.abort_delay)
 time_in s Cleared at = None
 
 -- how many spare revisions left after that many entries

@@ -110,7 +110,7 @@ impl Facts {
     }
 
     /// Whether the revision exists and wants so many endpoints.
-    fn may_report(&self, number: u64, size: u32) -> bool
+    pub fn may_report(&self, number: u64, size: u32) -> bool
         ensures { (s : Strategy) (o : Opening) (past : List Entry) → Knows s o past self.now
             → result ≡ (exists_in number past && nat_le size (desired s number past)) }
     {

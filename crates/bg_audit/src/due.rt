@@ -189,6 +189,9 @@ fn is_reached(strategy: &Strategy, mark: Mark, now: u64) -> bool
     match mark.kind {
         MarkKind::Left => now >= mark.moment && now - mark.moment >= strategy.delay as u64,
         MarkKind::Superseded => now >= mark.moment,
+        MarkKind::Aborted => {
+            now >= mark.moment && now - mark.moment >= strategy.abort_delay as u64
+        }
         MarkKind::Cleared => false,
     }
 }

@@ -1,12 +1,15 @@
 //! What is kept of a past, each fact from the past before and its newest entry.
 ghost use Rattle.std.specs.Prelude.{◌≡◌, ◌∷◌, ℕ, [], true, List, length, IfOk, OnOk};
 ghost use Rattle.bg_history.specs.declared.entry.Entry.{Entry};
+ghost use Rattle.bg_strategy.specs.declared.strategy.Strategy.{Strategy};
 ghost use Rattle.bg_history.specs.Kept.{Opening};
+ghost use Rattle.bg_history.specs.Turns.{newest_of};
+ghost use Rattle.bg_history.specs.Sizes.{is_scaled};
 ghost use Rattle.bg_history.specs.Allowed.{is_allowed};
 ghost use Rattle.bg_history_facts.specs.Reachable.{Reachable};
 
 use crate::course::Course;
-use crate::marks::RevisionMark;
+use crate::marks::{Around, RevisionMark};
 use crate::requests::OpenRequest;
 use crate::{marks, requests, revisions};
 use bg_history::Entry;
@@ -64,12 +67,27 @@ impl Facts {
             → place ≡ length past → OnOk result (Knows strategy.now o (entry.now ∷ past) self.new) }
     {
         let before = self.course;
+        let newest_is_scaled = self.newest_is_scaled();
         self.course.take(strategy, entry);
-        let after = self.course;
+        let around = Around {
+            before,
+            after: self.course,
+            newest_is_scaled,
+            has_abort_delay: strategy.abort_delay > 0,
+            stood: place,
+        };
         revisions::take(self.alloc, &mut self.revisions, strategy, &before, entry)?;
-        marks::take(&mut self.marks, entry, &before, &after, place)?;
+        marks::take(&mut self.marks, entry, &around)?;
         requests::take(&mut self.requests, entry)?;
         self.greatest = requests::greatest_number(self.greatest, entry);
         Ok(())
+    }
+
+    /// Whether the newest revision is scaled.
+    fn newest_is_scaled(&self) -> bool
+        ensures { (s : Strategy) (o : Opening) (past : List Entry) → Knows s o past self.now
+            → Reachable s o past → result ≡ is_scaled s (newest_of past) past }
+    {
+        self.may_report(self.course.newest, 1)
     }
 }

@@ -1,15 +1,16 @@
 //! What became of each revision, for its deadline.
-ghost use Rattle.std.specs.Prelude.{◌≡◌, ◌∷◌, ◌==◌, not, List, map, filter, find, length, OnOk};
+ghost use Rattle.std.specs.Prelude.{◌≡◌, ◌∷◌, ◌==◌, not, List, map, filter, find, OnOk};
 ghost use Rattle.std.specs.List.{list_any};
 ghost use Rattle.std.specs.Option.{option_map, option_copied};
 ghost use Rattle.bg_strategy.specs.declared.strategy.Strategy.{Strategy};
 ghost use Rattle.bg_history.specs.declared.entry.Entry.{Entry};
 ghost use Rattle.bg_history.specs.Kept.{Opening};
-ghost use Rattle.bg_history.specs.Sizes.{begins};
+ghost use Rattle.bg_history.specs.Turns.{newest_of};
+ghost use Rattle.bg_history.specs.Sizes.{begins, is_scaled};
 ghost use Rattle.bg_history.specs.Marks.{kind_of, halts, supersedes, scales_down};
 ghost use Rattle.bg_history_facts.specs.Reachable.{Reachable};
 ghost use Rattle.bg_audit.specs.Standing.{IsCourse};
-ghost use Rattle.bg_audit.specs.Marked.{kind_told, remarked, mark_in, with_revision, prepared, HasMarks};
+ghost use Rattle.bg_audit.specs.Marked.{IsAround, kind_told, remarked, mark_in, with_revision, prepared, HasMarks};
 
 use crate::course::Course;
 use bg_history::{AnalysisResult, Entry, Outcome};
@@ -22,6 +23,8 @@ pub enum MarkKind {
     Left,
     /// A deploy took its place before it was active.
     Superseded,
+    /// Its attempt was stopped, and it is to be scaled down after the delay.
+    Aborted,
     /// Its deadline was cleared.
     Cleared,
 }
@@ -41,6 +44,19 @@ pub struct Mark {
 pub struct RevisionMark {
     pub revision: u64,
     pub mark: Option<Mark>,
+}
+
+/// What stands around an entry, by which its marks are told.
+#[derive(Clone, Copy, Drop, Debug)]
+pub struct Around {
+    pub before: Course,
+    pub after: Course,
+    /// Whether the newest revision was scaled before the entry.
+    pub newest_is_scaled: bool,
+    /// Whether aborted revisions are scaled down after a delay.
+    pub has_abort_delay: bool,
+    /// How many entries stood before it.
+    pub stood: u64,
 }
 
 /// The newest mark of the revision.
@@ -67,22 +83,15 @@ fn has_mark(marks: &[RevisionMark], revision: u64) -> bool
     marks.iter().any(|marked| marked.revision == revision)
 }
 
-/// Takes in an entry that is allowed, which stands after so many others; the courses are those before and
-/// after it. Refused only where memory is.
-pub fn take(
-    marks: &mut Vec<RevisionMark>,
-    entry: &Entry,
-    before: &Course,
-    after: &Course,
-    stood: u64,
-) -> Result<(), AllocError>
-    ensures { (s : Strategy) (o : Opening) (past : List Entry) → IsCourse s past before.now
-        → IsCourse s (entry.now ∷ past) after.now → Reachable s o past → stood ≡ length past
+/// Takes in an entry that is allowed. Refused only where memory is.
+pub fn take(marks: &mut Vec<RevisionMark>, entry: &Entry, around: &Around) -> Result<(), AllocError>
+    ensures { (s : Strategy) (o : Opening) (past : List Entry)
+        → IsAround s entry.now past around.now → Reachable s o past
         → HasMarks s past marks.old.items
         → OnOk result (HasMarks s (entry.now ∷ past) marks.new.items) }
 {
     prepare(marks, entry)?;
-    mark_all(marks, entry, before, after, stood);
+    mark_all(marks, entry, around);
     Ok(())
 }
 
@@ -118,51 +127,44 @@ fn drop_mark(marks: &mut Vec<RevisionMark>, revision: u64)
     marks.retain(|marked| marked.revision != revision);
 }
 
-/// Marks each revision for which the entry is a mark; it stands after so many others.
-fn mark_all(
-    marks: &mut Vec<RevisionMark>,
-    entry: &Entry,
-    before: &Course,
-    after: &Course,
-    stood: u64,
-)
-    ensures { (s : Strategy) (past : List Entry) → IsCourse s past before.now
-        → IsCourse s (entry.now ∷ past) after.now → stood ≡ length past
+/// Marks each revision for which the entry is a mark.
+fn mark_all(marks: &mut Vec<RevisionMark>, entry: &Entry, around: &Around)
+    ensures { (s : Strategy) (past : List Entry) → IsAround s entry.now past around.now
         → marks.new.items ≡ map (remarked s entry.now past) marks.old.items }
 {
     for marked in marks.iter_mut() {
-        mark_one(marked, entry, before, after, stood);
+        mark_one(marked, entry, around);
     }
 }
 
-fn mark_one(marked: &mut RevisionMark, entry: &Entry, before: &Course, after: &Course, stood: u64)
-    ensures { (s : Strategy) (past : List Entry) → IsCourse s past before.now
-        → IsCourse s (entry.now ∷ past) after.now → stood ≡ length past
+fn mark_one(marked: &mut RevisionMark, entry: &Entry, around: &Around)
+    ensures { (s : Strategy) (past : List Entry) → IsAround s entry.now past around.now
         → marked.new ≡ remarked s entry.now past marked.old }
 {
-    if let Some(kind) = kind_of(marked.revision, entry, before, after) {
+    if let Some(kind) = kind_of(marked.revision, entry, around) {
         marked.mark = Some(Mark {
             kind,
-            moment: after.moment,
-            stood,
+            moment: around.after.moment,
+            stood: around.stood,
         });
     }
 }
 
 /// The kind of mark that the entry is for the revision, if it is one.
-fn kind_of(revision: u64, entry: &Entry, before: &Course, after: &Course) -> Option<MarkKind>
-    ensures { (s : Strategy) (past : List Entry) → IsCourse s past before.now
-        → IsCourse s (entry.now ∷ past) after.now
+fn kind_of(revision: u64, entry: &Entry, around: &Around) -> Option<MarkKind>
+    ensures { (s : Strategy) (past : List Entry) → IsAround s entry.now past around.now
         → result ≡ option_map kind_told (kind_of s revision entry.now past) }
 {
-    let was_active = before.active == revision;
-    let is_active = after.active == revision;
-    let halted = halts(revision, entry, before);
+    let was_active = around.before.active == revision;
+    let is_active = around.after.active == revision;
+    let halted = halts(revision, entry, &around.before);
     if was_active && !is_active && !halted {
         Some(MarkKind::Left)
-    } else if supersedes(revision, entry, before) {
+    } else if supersedes(revision, entry, &around.before, around.newest_is_scaled) {
         Some(MarkKind::Superseded)
-    } else if begins(revision, entry, before)
+    } else if halted && around.has_abort_delay {
+        Some(MarkKind::Aborted)
+    } else if begins(revision, entry, &around.before)
         || (!was_active && is_active)
         || scales_down(revision, entry)
         || halted
@@ -192,14 +194,19 @@ fn halts(revision: u64, entry: &Entry, before: &Course) -> bool
     is_halt && before.newest == revision
 }
 
-/// Whether the entry deploys another revision in the place of this one, which isn't active or stable.
-fn supersedes(revision: u64, entry: &Entry, before: &Course) -> bool
+/// Whether the entry deploys another revision in the place of this one, which is scaled, and isn't active or
+/// stable.
+fn supersedes(revision: u64, entry: &Entry, before: &Course, newest_is_scaled: bool) -> bool
     ensures { (s : Strategy) (past : List Entry) → IsCourse s past before.now
-        → result ≡ supersedes revision entry.now past }
+        → newest_is_scaled ≡ is_scaled s (newest_of past) past
+        → result ≡ supersedes s revision entry.now past }
 {
     match entry {
         Entry::Deploy { .. } => {
-            before.newest == revision && before.active != revision && before.stable != revision
+            before.newest == revision
+                && before.active != revision
+                && before.stable != revision
+                && newest_is_scaled
         }
         _ => false,
     }

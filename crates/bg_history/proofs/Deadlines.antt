@@ -3,12 +3,12 @@ use Rattle.std.proofs.Common.{◌≡◌, true, false, List, [], ◌∷◌, Some,
 use Rattle.bg_history.specs.declared.entry.Entry.{Entry}
 use Rattle.bg_history.specs.declared.entry.Entry.TheVariants.{Tick, Available, Verdict, Abort, Retry, Enter, Leave, Outcome}
 use Rattle.bg_history.specs.declared.entry.Outcome.TheVariants.{Ready, Resumed, Switched, ScaledDown}
-use Rattle.bg_history.specs.declared.entry.Analysis.TheVariants.{Post}
+use Rattle.bg_history.specs.declared.entry.Analysis.TheVariants.{Pre, Post}
 use Rattle.bg_history.specs.declared.entry.AnalysisResult.TheVariants.{Failed, Error}
 use Rattle.bg_revisions.specs.declared.revision.Service.TheVariants as service
 use Rattle.bg_strategy.specs.declared.strategy.Strategy.{Strategy}
-use Rattle.bg_history.proofs.Examples.{plain, with_pause, with_post, with_limit, opening, deploy_3, deploy_4, ready, switched, promoted, promoted_twice, aborted}
-use Rattle.bg_history.specs.Marks.{Cleared, kind_of}
+use Rattle.bg_history.proofs.Examples.{plain, with_preview, with_pause, with_post, with_limit, without_abort_delay, opening, deploy_2, deploy_3, deploy_4, ready, resumed, switched, promoted, promoted_twice, aborted}
+use Rattle.bg_history.specs.Marks.{Aborted, Cleared, kind_of}
 use Rattle.bg_history.specs.Deadlines.{deadline, is_spare, rank, is_due, is_old, old_revisions}
 use Rattle.bg_history.specs.Steps.{first_allowed, all_allowed}
 
@@ -61,13 +61,56 @@ in_use-first = refl
 in_use-left : first_allowed watched (Leave 0 1 3 ∷ in_use) ≡ Some (ScaledDown 3)
 in_use-left = refl
 
--- nor does an aborted revision count, which has no deadline
+-- nor does an aborted revision count, which didn't leave the active service
 rank_beside_an_abort : rank with_limit 1 (Abort ∷ deploy_3 ∷ promoted) ≡ 0
 rank_beside_an_abort = refl
 
--- nor is it due, even where no old revision may stay
-aborted_is_not_due : is_due (record plain { revision_limit = Some 0 }) 2 aborted ≡ false
+-- nor is it due before its deadline, even where no old revision may stay
+aborted_is_not_due : is_due (record with_pause { revision_limit = Some 0 }) 2 (Tick 24 ∷ aborted) ≡ false
 aborted_is_not_due = refl
+
+-- then it is
+aborted_is_due : is_due (record with_pause { revision_limit = Some 0 }) 2 (Tick 25 ∷ aborted) ≡ true
+aborted_is_due = refl
+
+-- an attempt that is stopped as it begins, at moment 3: its revision has a deadline
+deadline_of_an_abort_at_the_beginning : deadline plain 2 (Abort ∷ deploy_2 ∷ Tick 3 ∷ []) ≡ Some 23
+deadline_of_an_abort_at_the_beginning = refl
+
+-- so has one that is stopped in its analysis before the switch
+deadline_of_an_abort_in_the_analysis : deadline with_pause 2 (Abort ∷ Tick 4 ∷ ready) ≡ Some 24
+deadline_of_an_abort_in_the_analysis = refl
+
+-- one whose analysis fails
+deadline_of_a_failure_before_the_switch : deadline with_pause 2 (Verdict Pre Failed ∷ Tick 4 ∷ ready) ≡ Some 24
+deadline_of_a_failure_before_the_switch = refl
+
+-- or ends by an error
+deadline_of_an_error_before_the_switch : deadline with_pause 2 (Verdict Pre Error ∷ Tick 4 ∷ ready) ≡ Some 24
+deadline_of_an_error_before_the_switch = refl
+
+-- one that is stopped in the pause
+deadline_of_an_abort_in_the_pause : deadline with_pause 2 aborted ≡ Some 25
+deadline_of_an_abort_in_the_pause = refl
+
+-- and one that is stopped while it grows to full size
+deadline_of_an_abort_at_the_sizing : deadline with_preview 2 (Abort ∷ Tick 6 ∷ resumed) ≡ Some 26
+deadline_of_an_abort_at_the_sizing = refl
+
+-- the deadline of the moment of the stop stays as time goes on
+deadline_of_an_abort_later : deadline with_pause 2 (Tick 24 ∷ aborted) ≡ Some 25
+deadline_of_an_abort_later = refl
+
+-- at it the revision is scaled down, and then has none
+scaled_down_after_an_abort : first_allowed with_pause (Tick 25 ∷ aborted) ≡ Some (ScaledDown 2)
+scaled_down_after_an_abort = refl
+
+deadline_once_scaled_down_after_an_abort : deadline with_pause 2 (Outcome (ScaledDown 2) ∷ Tick 25 ∷ aborted) ≡ None
+deadline_once_scaled_down_after_an_abort = refl
+
+-- but not where a request is open at it
+drains_after_an_abort : first_allowed with_post (Tick 20 ∷ Abort ∷ Enter 0 service.Active 1 2 9102 ∷ switched) ≡ None
+drains_after_an_abort = refl
 
 -- the active revision has no deadline
 deadline_of_the_active : deadline plain 2 promoted ≡ None
@@ -97,29 +140,71 @@ deadline_of_the_deployed_over = refl
 deadline_after_the_abort_of_another : deadline with_post 2 (Abort ∷ deploy_3 ∷ switched) ≡ Some 30
 deadline_after_the_abort_of_another = refl
 
--- a revision that leaves it by its own failed analysis has no deadline
-deadline_after_a_failure : deadline with_post 2 (Verdict Post Failed ∷ switched) ≡ None
+-- and the abort is a mark of revision 3 too
+deadline_of_the_other_after_the_abort : deadline with_post 3 (Abort ∷ deploy_3 ∷ switched) ≡ Some 20
+deadline_of_the_other_after_the_abort = refl
+
+-- of which only the first counts among those that left
+rank_beside_both : rank with_post 2 (Abort ∷ deploy_3 ∷ switched) ≡ 0
+rank_beside_both = refl
+
+-- a revision that leaves it by its own failed analysis stays for the delay of an aborted one
+deadline_after_a_failure : deadline with_post 2 (Verdict Post Failed ∷ Tick 7 ∷ switched) ≡ Some 27
 deadline_after_a_failure = refl
 
--- nor has one whose analysis ended by an error
-deadline_after_an_error : deadline with_post 2 (Verdict Post Error ∷ switched) ≡ None
+-- so does one whose analysis ended by an error
+deadline_after_an_error : deadline with_post 2 (Verdict Post Error ∷ Tick 7 ∷ switched) ≡ Some 27
 deadline_after_an_error = refl
+
+-- or that is aborted in it
+deadline_after_an_abort : deadline with_post 2 (Abort ∷ Tick 7 ∷ switched) ≡ Some 27
+deadline_after_an_abort = refl
+
+-- the stable one is active again, and has none
+deadline_of_the_stable_after_an_abort : deadline with_post 1 (Abort ∷ Tick 7 ∷ switched) ≡ None
+deadline_of_the_stable_after_an_abort = refl
+
+-- without the delay an aborted revision has none, even where it just left the active service
+deadline_without_the_delay : deadline without_abort_delay 2 (Abort ∷ Tick 7 ∷ switched) ≡ None
+deadline_without_the_delay = refl
+
+deadline_after_a_failure_without_the_delay : deadline without_abort_delay 2 (Verdict Post Failed ∷ Tick 7 ∷ switched) ≡ None
+deadline_after_a_failure_without_the_delay = refl
 
 -- an entry that changes nothing for a revision is no mark of it
 tick_is_no_mark : kind_of plain 1 (Tick 5) [] ≡ None
 tick_is_no_mark = refl
 
--- a stop clears the deadline of the newest revision
-abort_clears : kind_of plain 2 Abort ready ≡ Some Cleared
+-- a stop is a mark of the newest revision
+abort_marks : kind_of plain 2 Abort ready ≡ Some Aborted
+abort_marks = refl
+
+-- and of no other one
+abort_marks_the_newest : kind_of plain 1 Abort ready ≡ None
+abort_marks_the_newest = refl
+
+-- without the delay it clears its deadline
+abort_clears : kind_of without_abort_delay 2 Abort ready ≡ Some Cleared
 abort_clears = refl
 
 -- so does a retry
 retry_clears : kind_of plain 2 Retry aborted ≡ Some Cleared
 retry_clears = refl
 
--- an aborted revision, if it were scaled down
+deadline_of_a_retry : deadline with_pause 2 (Retry ∷ aborted) ≡ None
+deadline_of_a_retry = refl
+
+-- an aborted revision that stands scaled is superseded by the next deploy
+deadline_of_an_aborted_one_superseded : deadline with_pause 2 (deploy_3 ∷ Tick 6 ∷ aborted) ≡ Some 6
+deadline_of_an_aborted_one_superseded = refl
+
+-- an aborted revision that was scaled down
 abbrev unscaled : List Entry
-unscaled = Outcome (ScaledDown 2) ∷ aborted
+unscaled = Outcome (ScaledDown 2) ∷ Tick 25 ∷ aborted
+
+-- the next deploy is no mark of it
+unscaled_is_not_superseded : kind_of with_pause 2 deploy_3 unscaled ≡ None
+unscaled_is_not_superseded = refl
 
 -- isn't old while it is the newest
 newest_is_not_old : is_old with_pause unscaled 2 ≡ false

@@ -8,7 +8,8 @@ use Rattle.bg_history.specs.declared.entry.AnalysisResult.TheVariants.{Successfu
 use Rattle.bg_strategy.specs.declared.strategy.Strategy.{Strategy}
 use Rattle.bg_history.specs.Kept.{Opening}
 
--- two endpoints for each revision, no analysis, no pause, and 30 seconds until an old revision is scaled down
+-- two endpoints for each revision, no analysis, no pause, 30 seconds until an old revision is scaled down, and 20
+-- until an aborted one is
 abbrev pub plain : Strategy
 plain = record {
   some_replica = lit≤ tt;
@@ -25,6 +26,7 @@ plain = record {
   post = false;
   delay = 30;
   revision_limit = None;
+  abort_delay = 20;
   history_limit = 10;
 }
 
@@ -48,6 +50,10 @@ with_post = record plain { post = true }
 -- at most one old revision stays scaled
 abbrev pub with_limit : Strategy
 with_limit = record plain { revision_limit = Some 1 }
+
+-- an aborted revision stays scaled
+abbrev pub without_abort_delay : Strategy
+without_abort_delay = record plain { post = true; abort_delay = 0 }
 
 -- no old revision is kept
 abbrev pub without_history : Strategy

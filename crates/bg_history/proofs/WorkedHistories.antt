@@ -149,10 +149,10 @@ aborted-newest = refl
 aborted-desired : desired with_pause 2 aborted ≡ 2
 aborted-desired = refl
 
-aborted-deadline : deadline with_pause 2 aborted ≡ None
+aborted-deadline : deadline with_pause 2 aborted ≡ Some 25
 aborted-deadline = refl
 
--- the analysis after the switch fails: active goes back, and the revision that just left it has no deadline
+-- the analysis after the switch fails: active goes back, and the revision that just left it stays for the delay of an aborted one
 abbrev failed : List Entry
 failed = Verdict Post Failed ∷ switched
 
@@ -162,7 +162,7 @@ failed_is_legal = refl
 failed-active : active_of failed ≡ 1
 failed-active = refl
 
-failed-deadline : deadline with_post 2 failed ≡ None
+failed-deadline : deadline with_post 2 failed ≡ Some 20
 failed-deadline = refl
 
 -- request numbers are given in turn from 1: a past whose only request is the second one isn't legal

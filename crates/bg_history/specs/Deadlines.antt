@@ -7,11 +7,12 @@ use Rattle.bg_history.specs.Turns.{moment, newest_of}
 use Rattle.bg_history.specs.Selections.{is_selected}
 use Rattle.bg_history.specs.Sizes.{existing, is_scaled}
 use Rattle.bg_history.specs.Requests.{open_at}
-use Rattle.bg_history.specs.Marks.{MarkKind, Left, Superseded, Cleared, Mark, mark}
+use Rattle.bg_history.specs.Marks.{MarkKind, Left, Superseded, Aborted, Cleared, Mark, mark}
 
 abbrev pub time_of : Strategy → MarkKind → ℕ → Option ℕ
 time_of s Left at = Some (at + s.delay)
 time_of s Superseded at = Some at
+time_of s Aborted at = Some (at + s.abort_delay)
 time_of s Cleared at = None
 
 abbrev pub deadline_of : Strategy → Option Mark → Option ℕ

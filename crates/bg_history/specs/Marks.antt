@@ -1,19 +1,20 @@
 -- What became of a revision, for its deadline.
-use Rattle.std.specs.Prelude.{ℕ, Bool, false, not, if◌then◌else◌, ◌==◌, ◌&&◌, ◌||◌, List, [], ◌∷◌, length, Option, Some, None}
+use Rattle.std.specs.Prelude.{ℕ, Bool, false, not, if◌then◌else◌, ◌==◌, ◌&&◌, ◌||◌, List, [], ◌∷◌, length, nat_lt, Option, Some, None}
 use Rattle.std.specs.Option.{option_or, option_map}
 use Rattle.bg_history.specs.declared.entry.Entry.{Entry}
 use Rattle.bg_history.specs.declared.entry.Entry.TheVariants.{Deploy, Outcome}
 use Rattle.bg_history.specs.declared.entry.Outcome.TheVariants.{ScaledDown}
 use Rattle.bg_history.specs.Turns.{moment, stable_of, newest_of, is_halt}
 use Rattle.bg_history.specs.Selections.{active_of}
-use Rattle.bg_history.specs.Sizes.{begins}
+use Rattle.bg_history.specs.Sizes.{begins, is_scaled}
 use Rattle.bg_strategy.specs.declared.strategy.Strategy.{Strategy}
 
--- what became of a revision: it left the active service, it was superseded, or its deadline was
--- cleared
+-- what became of a revision: it left the active service, it was superseded, its attempt was stopped,
+-- or its deadline was cleared
 pub data MarkKind : Type 0 where
   Left : MarkKind
   Superseded : MarkKind
+  Aborted : MarkKind
   Cleared : MarkKind
 
 -- the kind, the moment and how many entries stood before it
@@ -30,26 +31,37 @@ abbrev pub leaves_active : ℕ → Entry → List Entry → Bool
 leaves_active r e before =
     (active_of before == r) && not (active_of (e ∷ before) == r) && not (halts r e before)
 
-abbrev pub supersedes : ℕ → Entry → List Entry → Bool
-supersedes r (Deploy q name ports) before =
+-- a deploy takes the place of r, the newest revision, which is scaled and neither active nor stable
+abbrev pub supersedes : Strategy → ℕ → Entry → List Entry → Bool
+supersedes s r (Deploy q name ports) before =
     (newest_of before == r) && not (active_of before == r) && not (stable_of before == r)
-supersedes r _ before = false
+    && is_scaled s r before
+supersedes s r _ before = false
+
+-- aborted revisions are scaled down after a delay
+abbrev pub has_abort_delay : Strategy → Bool
+has_abort_delay s = nat_lt 0 s.abort_delay
+
+-- the entry stops the attempt of r, which is to be scaled down after the delay
+abbrev pub aborts : Strategy → ℕ → Entry → List Entry → Bool
+aborts s r e before = halts r e before && has_abort_delay s
 
 abbrev pub scales_down : ℕ → Entry → Bool
 scales_down r (Outcome (ScaledDown q)) = q == r
 scales_down r _ = false
 
-abbrev pub clears : ℕ → Entry → List Entry → Bool
-clears r e before =
+abbrev pub clears : Strategy → ℕ → Entry → List Entry → Bool
+clears s r e before =
     begins r e before || (not (active_of before == r) && (active_of (e ∷ before) == r))
-    || scales_down r e || halts r e before
+    || scales_down r e || (halts r e before && not (has_abort_delay s))
 
 -- the kind of mark that an entry is for r under the strategy, if it is one
 abbrev pub kind_of : Strategy → ℕ → Entry → List Entry → Option MarkKind
 kind_of s r e before =
     if leaves_active r e before then Some Left
-    else if supersedes r e before then Some Superseded
-    else if clears r e before then Some Cleared
+    else if supersedes s r e before then Some Superseded
+    else if aborts s r e before then Some Aborted
+    else if clears s r e before then Some Cleared
     else None
 
 -- the newest mark of r

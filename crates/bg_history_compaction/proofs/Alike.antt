@@ -83,7 +83,7 @@ alike_both {s} {o} {a} {b} e h was now = record {
   templates = λ r. templates-both o r e a b (h.templates r);
   attempt = λ t q. attempt-both t e a b h.running (h.attempt t q);
   pass = pass-both s e a b h.running (h.attempt is_ready ready-quiet) was h.pass;
-  marks = marks-both s e a b (kinds-both s e a b h.stable h.newest h.active (active-both e a b h.stable h.active)) now h.marks;
+  marks = marks-both s e a b (kinds-both s e a b h.stable h.newest h.active (active-both e a b h.stable h.active) h.size) now h.marks;
 }
 
 no-test : (t running rest : Bool) → t ≡ false → (t && running) || rest ≡ rest

@@ -7,6 +7,7 @@ use Rattle.bg_history.specs.declared.entry.Entry.{Entry}
 use Rattle.bg_history.specs.declared.entry.Entry.TheVariants.{Tick, Deploy, Enter, Leave}
 use Rattle.bg_history.specs.Turns.{moment, stable_of, newest_of}
 use Rattle.bg_history.specs.Selections.{active_of}
+use Rattle.bg_history.specs.Sizes.{desired}
 use Rattle.bg_history.specs.Marks.{MarkKind, Left, Cleared, Mark, mark, kind_of, supersedes}
 use Rattle.bg_history_compaction.specs.Alike.{is_quiet, said, earlier, MarksAlike}
 use Rattle.bg_history_compaction.proofs.Steps.{begins-both}
@@ -15,13 +16,14 @@ use Rattle.bg_history_compaction.proofs.Steps.{begins-both}
 abbrev pub next_mark : Option MarkKind → ℕ → ℕ → Option Mark → Option Mark
 next_mark k at stood m = option_or (option_map (λ kind. record { kind = kind; moment = at; stood = stood }) k) m
 
-supersedes-both : (r : ℕ) (e : Entry) (a b : List Entry) → stable_of a ≡ stable_of b → newest_of a ≡ newest_of b → active_of a ≡ active_of b → supersedes r e a ≡ supersedes r e b
-supersedes-both r (Deploy q name ports) a b st new act = rw (st, new, act) refl
-supersedes-both r e a b st new act = refl
+supersedes-both : (s : Strategy) (r : ℕ) (e : Entry) (a b : List Entry) → stable_of a ≡ stable_of b → newest_of a ≡ newest_of b → active_of a ≡ active_of b → desired s r a ≡ desired s r b
+    → supersedes s r e a ≡ supersedes s r e b
+supersedes-both s r (Deploy q name ports) a b st new act size = rw (st, new, act, size) refl
+supersedes-both s r e a b st new act size = refl
 
 kind-both : (s : Strategy) (r : ℕ) (e : Entry) (a b : List Entry) → stable_of a ≡ stable_of b → newest_of a ≡ newest_of b → active_of a ≡ active_of b → active_of (e ∷ a) ≡ active_of (e ∷ b)
-    → kind_of s r e a ≡ kind_of s r e b
-kind-both s r e a b st new act act2 = rw (act2, new, act, supersedes-both r e a b st new act, begins-both r e a b st new) refl
+    → desired s r a ≡ desired s r b → kind_of s r e a ≡ kind_of s r e b
+kind-both s r e a b st new act act2 size = rw (act2, new, act, supersedes-both s r e a b st new act size, begins-both r e a b st new) refl
 
 -- a mark stands before the end
 abbrev pub Within : ℕ → Option Mark → Type 0
@@ -90,8 +92,8 @@ marks-both s e a b kinds now h = record {
 }
 
 pub kinds-both : (s : Strategy) (e : Entry) (a b : List Entry) → stable_of a ≡ stable_of b → newest_of a ≡ newest_of b → active_of a ≡ active_of b → active_of (e ∷ a) ≡ active_of (e ∷ b)
-    → (r : ℕ) → kind_of s r e a ≡ kind_of s r e b
-kinds-both s e a b st new act act2 r = kind-both s r e a b st new act act2
+    → ((r : ℕ) → desired s r a ≡ desired s r b) → (r : ℕ) → kind_of s r e a ≡ kind_of s r e b
+kinds-both s e a b st new act act2 size r = kind-both s r e a b st new act act2 (size r)
 
 -- a quiet entry marks nothing
 quiet-by : (a h : Bool) → cond (a && not a && h) (Some Left) (cond (not a && a || false || false) (Some Cleared) None) ≡ None

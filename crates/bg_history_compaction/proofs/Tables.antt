@@ -8,7 +8,7 @@ use Rattle.bg_strategy.specs.declared.strategy.Strategy.{Strategy}
 use Rattle.bg_history.specs.Kept.{Opening}
 use Rattle.bg_history.specs.Turns.{moment, stable_of, newest_of}
 use Rattle.bg_history.specs.Selections.{active_of}
-use Rattle.bg_history.specs.Marks.{MarkKind, Left, Superseded, Cleared, kind_of}
+use Rattle.bg_history.specs.Marks.{MarkKind, Left, Superseded, Aborted, Cleared, kind_of}
 use Rattle.bg_scaledown.specs.Past.{Stamp, stamped, others, touched, stamp_all, stamps_of, marks_of, table_of}
 use Rattle.bg_history.specs.Compacted.{without, untick, thin, compacted, left_numbers, is_among}
 use Rattle.bg_history_compaction.specs.Alike.{Alike}
@@ -32,6 +32,7 @@ stamped-both : (s : Strategy) (k : Option MarkKind) (q at n p : ℕ) (x y : List
 stamped-both s None q at n p x y h = h
 stamped-both s (Some Left) q at n p x y h = rw (others-both q x y h) refl
 stamped-both s (Some Superseded) q at n p x y h = rw (others-both q x y h) refl
+stamped-both s (Some Aborted) q at n p x y h = rw (others-both q x y h) refl
 stamped-both s (Some Cleared) q at n p x y h = others-both q x y h
 
 stamp_all-both : (s : Strategy) (e : Entry) (a b : List Entry) (qs : List ℕ) (x y : List Stamp) → ((r : ℕ) → kind_of s r e a ≡ kind_of s r e b) → moment (e ∷ a) ≡ moment (e ∷ b) → marks_of x ≡ marks_of y
@@ -47,15 +48,15 @@ touched-both (Deploy r name ports) a b st new act = rw (act, new) refl
 touched-both Retry a b st new act = rw new refl
 touched-both (Outcome (Switched r)) a b st new act = rw act refl
 touched-both (Outcome (ScaledDown r)) a b st new act = refl
-touched-both Abort a b st new act = rw (act, st, new) refl
-touched-both (Verdict analysis Failed) a b st new act = rw (act, st, new) refl
-touched-both (Verdict analysis Error) a b st new act = rw (act, st, new) refl
+touched-both Abort a b st new act = rw (act, new, st) refl
+touched-both (Verdict analysis Failed) a b st new act = rw (act, new, st) refl
+touched-both (Verdict analysis Error) a b st new act = rw (act, new, st) refl
 touched-both e a b st new act = refl
 
 table-both : {s : Strategy} {o : Opening} {a b : List Entry} → (e : Entry) → Alike s o a b → moment (e ∷ a) ≡ moment (e ∷ b) → marks_of (stamps_of s a) ≡ marks_of (stamps_of s b)
     → marks_of (stamps_of s (e ∷ a)) ≡ marks_of (stamps_of s (e ∷ b))
 table-both {s} {o} {a} {b} e h now t =
-    stamp_all-both s e a b (touched e a) (stamps_of s a) (stamps_of s b) (kinds-both s e a b h.stable h.newest h.active (active-both e a b h.stable h.active)) now t
+    stamp_all-both s e a b (touched e a) (stamps_of s a) (stamps_of s b) (kinds-both s e a b h.stable h.newest h.active (active-both e a b h.stable h.active) h.size) now t
     ∙ ap (λ qs. marks_of (stamp_all s e b qs (stamps_of s b))) (touched-both e a b h.stable h.newest h.active)
 
 without-table : (s : Strategy) (o : Opening) (gone : ℕ → Bool) (past : List Entry) → marks_of (stamps_of s past) ≡ marks_of (stamps_of s (without gone past))
@@ -86,4 +87,4 @@ thin-table s o (e ∷ before) = table-both e (thin-alike s o before) (thin-momen
 pub table-same : (s : Strategy) (o : Opening) (past : List Entry) → table_of s (compacted past) ≡ table_of s past
 table-same s o past =
     let g : ℕ → Bool = is_among (left_numbers past) in
-    ap (λ t. record { delay = s.delay; limit = s.revision_limit; marks = t }) (sym (without-table s o g past ∙ thin-table s o (without g past)))
+    ap (λ t. record { delay = s.delay; abort_delay = s.abort_delay; limit = s.revision_limit; marks = t }) (sym (without-table s o g past ∙ thin-table s o (without g past)))

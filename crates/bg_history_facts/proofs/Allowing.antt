@@ -65,6 +65,10 @@ promoted-parts s r past h = and_parts (attempts r past) (has_switched past) (and
 pub promoted-newest : (s : Strategy) (r : ℕ) (past : List Entry) → may_promote s r past ≡ true → r ≡ newest_of past
 promoted-newest s r past h = attempts-newest r past (promoted-parts s r past h).0
 
+-- whose attempt runs
+pub promoted-running : (s : Strategy) (r : ℕ) (past : List Entry) → may_promote s r past ≡ true → is_running past ≡ true
+promoted-running s r past h = (and_parts (is_running past) (r == newest_of past) (promoted-parts s r past h).0).0
+
 -- and comes after the switch
 pub promoted-switched : (s : Strategy) (r : ℕ) (past : List Entry) → may_promote s r past ≡ true → has_switched past ≡ true
 promoted-switched s r past h = (promoted-parts s r past h).1
@@ -92,12 +96,17 @@ first-passes p r (x ∷ xs) h = go (p x) refl h (first-passes p r xs) where
   go true is h rest = ap p (sym (equal_numbers x r h)) ∙ is
   go false is h rest = rest h
 
--- a revision that is removed isn't scaled
-pub removed : (s : Strategy) (r : ℕ) (past : List Entry) → may_remove s r past ≡ true → is_scaled s r past ≡ false
-removed s r past h =
+-- a revision that is removed isn't scaled, and isn't the newest one
+removed-parts : (s : Strategy) (r : ℕ) (past : List Entry) → may_remove s r past ≡ true → (not (is_scaled s r past) && not (is_selected r past) ≡ true) × (not (r == newest_of past) ≡ true)
+removed-parts s r past h =
     let first = (and_parts (nat_lt s.history_limit (length (old_revisions s past))) (is_first r (old_revisions s past)) h).1 in
-    let old = and_parts (not (is_scaled s r past) && not (is_selected r past)) (not (r == newest_of past)) (first-passes (is_old s past) r (existing past) first) in
-    not_true (is_scaled s r past) (and_parts (not (is_scaled s r past)) (not (is_selected r past)) old.0).0
+    and_parts (not (is_scaled s r past) && not (is_selected r past)) (not (r == newest_of past)) (first-passes (is_old s past) r (existing past) first)
+
+pub removed : (s : Strategy) (r : ℕ) (past : List Entry) → may_remove s r past ≡ true → is_scaled s r past ≡ false
+removed s r past h = not_true (is_scaled s r past) (and_parts (not (is_scaled s r past)) (not (is_selected r past)) (removed-parts s r past h).0).0
+
+pub removed-older : (s : Strategy) (r : ℕ) (past : List Entry) → may_remove s r past ≡ true → (r == newest_of past) ≡ false
+removed-older s r past h = not_true (r == newest_of past) (removed-parts s r past h).1
 
 -- the revision of a deploy exists and has that name and those ports
 pub record Returns (o : Opening) (r : ℕ) (name ports : List ℕ) (past : List Entry) : Type 0 where

@@ -3,6 +3,7 @@ mod Existing
 mod Allowing
 mod Sizes
 mod Numbers
+mod Running
 mod Unmarked
 mod Steady
 mod Staying

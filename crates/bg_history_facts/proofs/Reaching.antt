@@ -3,7 +3,6 @@ use Rattle.std.proofs.Common.{◌≡◌, true, List, is_some, ap}
 use Rattle.bg_strategy.specs.declared.strategy.Strategy.{Strategy}
 use Rattle.bg_history.specs.declared.entry.Entry.{Entry}
 use Rattle.bg_history.specs.Kept.{Opening}
-use Rattle.bg_history.specs.Turns.{newest_of}
 use Rattle.bg_history.specs.Sizes.{existing, is_scaled, Ascends}
 use Rattle.bg_history.specs.Deadlines.{exists_in}
 use Rattle.bg_history.specs.Steps.{all_allowed}
@@ -11,7 +10,7 @@ use Rattle.bg_history_facts.specs.Reachable.{Reachable}
 use Rattle.bg_history_facts.proofs.Tests.{and_parts}
 use Rattle.bg_history_facts.proofs.Sizes.{desired-most, available-most}
 use Rattle.bg_history_facts.proofs.Numbers as number
-use Rattle.bg_history_facts.proofs.Unmarked.{active_unmarked, newest_unmarked}
+use Rattle.bg_history_facts.proofs.Unmarked.{active_unmarked}
 use Rattle.bg_history_facts.proofs.Steady.{preview_unmarked}
 use Rattle.bg_history_facts.proofs.Selected.{Standing, standing, standing-preview}
 use Rattle.bg_history_facts.proofs.Marked.{marked}
@@ -25,7 +24,7 @@ reaching ascends s o past a =
       active = stand.active;
       preview = standing-preview s past stand;
       stable = stand.stable;
-      newest = (and_parts (exists_in (newest_of past) past) (is_scaled s (newest_of past) past) stand.newest).0;
+      newest = stand.newest;
       desired_most = λ r. desired-most s r past;
       available_most = λ r. available-most s o r past a;
       given_from = λ r. number.given_from s o r past a;
@@ -38,9 +37,8 @@ reaching ascends s o past a =
       numbers = number.numbers s o past a;
       marked_exists = λ r h. (and_parts (exists_in r past) (is_scaled s r past) (marked s o r past a h)).0;
       marked_scaled = λ r h. (and_parts (exists_in r past) (is_scaled s r past) (marked s o r past a h)).1;
-      active_unmarked = ap is_some (active_unmarked s past);
+      active_unmarked = ap is_some (active_unmarked s o past a);
       preview_unmarked = ap is_some (preview_unmarked s o past a);
-      newest_unmarked = ap is_some (newest_unmarked s o past a);
       open_scaled = requests.open_scaled s o past a;
       unscaled_empty = λ r. requests.unscaled_empty s o r past a;
       moment = number.moment-most s o past a;

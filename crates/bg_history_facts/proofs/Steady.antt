@@ -49,5 +49,5 @@ steady-active s o (e ∷ before) a h = steady-active s o before (allowed_before 
 pub preview_unmarked : (s : Strategy) (o : Opening) (past : List Entry) → all_allowed s o past ≡ true → deadline s (preview_of past) past ≡ None
 preview_unmarked s o past a = go (is_running past) refl where
   go : (b : Bool) → is_running past ≡ b → deadline s (cond b (newest_of past) (stable_of past)) past ≡ None
-  go true is = newest_unmarked s o past a
-  go false is = subst (λ (k : ℕ). deadline s k past ≡ None) (steady-active s o past a is) (active_unmarked s past)
+  go true is = newest_unmarked s o past a is
+  go false is = subst (λ (k : ℕ). deadline s k past ≡ None) (steady-active s o past a is) (active_unmarked s o past a)

@@ -41,7 +41,6 @@ pub record Reachable (s : Strategy) (o : Opening) (past : List Entry) : Type 0 w
   pub marked_scaled : (r : ℕ) → IsTrue (is_some (deadline s r past)) → IsTrue (is_scaled s r past)
   pub active_unmarked : IsFalse (is_some (deadline s (active_of past) past))
   pub preview_unmarked : IsFalse (is_some (deadline s (preview_of past) past))
-  pub newest_unmarked : IsFalse (is_some (deadline s (newest_of past) past))
   -- each open request is at a revision that exists and is scaled, so none is at one that isn't
   pub open_scaled : list_all (λ q. stands_scaled s q.revision past) (open_requests past) ≡ true
   pub unscaled_empty : (r : ℕ) → is_scaled s r past ≡ false → open_at r past ≡ []

@@ -80,7 +80,7 @@ not-lowered s q e before calm empty fails =
     still-fails (is_due s q (e ∷ before)) (is_empty (open_at q (e ∷ before))) (is_due s q before) (is_empty (open_at q before)) (due-calm s q e before calm) empty fails
 
 -- an entry marks no revision that it neither selects, begins, supersedes, stops nor scales down
-unmarked : (s : Strategy) (q : ℕ) (e : Entry) (before : List Entry) → active_of (e ∷ before) ≡ active_of before → begins q e before ≡ false → supersedes q e before ≡ false
+unmarked : (s : Strategy) (q : ℕ) (e : Entry) (before : List Entry) → active_of (e ∷ before) ≡ active_of before → begins q e before ≡ false → supersedes s q e before ≡ false
     → scales_down q e ≡ false → is_halt e ≡ false → mark s q (e ∷ before) ≡ mark s q before
 unmarked s q e before active begin supersede lower halt =
     let none : kind_of s q e before ≡ None = rw (active, begin, supersede, lower, halt) (by-active (active_of before == q)) in

@@ -44,6 +44,7 @@ timing_text s =
     ++ setting_line (codes "autoPromotionSeconds") (decimal s.auto_seconds)
     ++ setting_line (codes "scaleDownDelaySeconds") (decimal s.delay)
     ++ setting_line (codes "scaleDownDelayRevisionLimit") (number_or_dash s.revision_limit)
+    ++ setting_line (codes "abortScaleDownDelaySeconds") (decimal s.abort_delay)
     ++ setting_line (codes "revisionHistoryLimit") (decimal s.history_limit)
 
 -- which analyses there are

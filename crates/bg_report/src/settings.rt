@@ -7,7 +7,7 @@ use bg_strategy::{ServiceName, Strategy, StrategyFault};
 use std::io::Write;
 use std::{fmt, io};
 
-/// Writes a line for each of the eleven settings, its name and its value (Argo Rollouts, "Rollout
+/// Writes a line for each of the twelve settings, its name and its value (Argo Rollouts, "Rollout
 /// Specification"). Where a write fails, a part of them may be written.
 pub fn strategy_lines<W: Write>(strategy: &Strategy, writer: &mut W) -> io::Result<()>
     ensures { OnOk result (Appends (W.contents writer.old) (W.contents writer.new)
@@ -82,6 +82,7 @@ impl fmt::Display for TimingLines<'_> {
         writeln!(f, "autoPromotionSeconds {}", strategy.auto_seconds)?;
         writeln!(f, "scaleDownDelaySeconds {}", strategy.delay)?;
         writeln!(f, "scaleDownDelayRevisionLimit {limit}")?;
+        writeln!(f, "abortScaleDownDelaySeconds {}", strategy.abort_delay)?;
         writeln!(f, "revisionHistoryLimit {}", strategy.history_limit)
     }
 }

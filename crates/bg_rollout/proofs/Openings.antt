@@ -75,7 +75,7 @@ pub stands-opened : (s : Strategy) (name ports : List ℕ) (count : ℕ) (limits
     → Stands (opened s name ports count limits seats) (record {
       core = core;
       roster = record { replicas = s.replicas; revisions = record { number = 1; name = name; ports = ports; desired = s.replicas; available = 0 } ∷ []; last = 1 };
-      deadlines = record { delay = s.delay; limit = s.revision_limit; marks = [] };
+      deadlines = record { delay = s.delay; abort_delay = s.abort_delay; limit = s.revision_limit; marks = [] };
       moment = 0;
       given = 0;
       open_requests = 0;
@@ -111,7 +111,7 @@ abbrev pub running-opened : Strategy → List ℕ → List ℕ → Standing → 
 running-opened s name ports core = record {
   core = core;
   roster = record { replicas = s.replicas; revisions = record { number = 1; name = name; ports = ports; desired = s.replicas; available = 0 } ∷ []; last = 1 };
-  deadlines = record { delay = s.delay; limit = s.revision_limit; marks = [] };
+  deadlines = record { delay = s.delay; abort_delay = s.abort_delay; limit = s.revision_limit; marks = [] };
   moment = 0;
   given = 0;
   open_requests = 0;

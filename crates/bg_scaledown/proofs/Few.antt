@@ -1,5 +1,6 @@
 -- How many marks the table of a past has.
-use Rattle.std.proofs.Common.{◌≡◌, ◌<◌, ◌≤◌, ◌+◌, ℕ, Bool, true, false, ◌==◌, List, [], ◌∷◌, ◌++◌, length, is_some, refl, arith, inl, inr}
+use Rattle.std.proofs.Common.{◌≡◌, ◌<◌, ◌≤◌, ◌+◌, ℕ, Bool, true, false, ◌==◌, List, [], ◌∷◌, ◌++◌, length, Option, Some, None, is_some, is_none, not, refl, arith, ap, ◌∙◌, inl, inr}
+use Rattle.std.specs.Option.{option_map}
 use Rattle.std.proofs.lemmas.Bool.Decides.{nat_tests, eqb_tells}
 use Rattle.bg_strategy.specs.declared.strategy.Strategy.{Strategy}
 use Rattle.bg_revisions.specs.declared.revision.Selectors.{Selectors}
@@ -11,13 +12,15 @@ use Rattle.bg_history.specs.Turns.{newest_of}
 use Rattle.bg_history.specs.Selections.{active_of, selectors_of}
 use Rattle.bg_history.specs.Sizes.{existing, Ascends}
 use Rattle.bg_history.specs.Deadlines.{deadline, exists_in}
-use Rattle.bg_scaledown.specs.Due.{has_room_for}
-use Rattle.bg_scaledown.specs.Events.{replaces_newest, goes_back, only_if, may_mark}
+use Rattle.bg_scaledown.specs.declared.mark.RevisionMark.{RevisionMark}
+use Rattle.bg_scaledown.specs.Due.{mark_of, one_if, has_room_for}
+use Rattle.bg_scaledown.specs.Events.{replaces_newest, goes_back, only_if, marked_by_halt, may_mark}
 use Rattle.bg_scaledown.specs.Past.{Stamp, stamps_of, marks_of, table_of, DeadlinesStand}
 use Rattle.bg_scaledown.proofs.Counts.{member, Distinct, is_false, ascends-distinct, length-within}
 use Rattle.bg_scaledown.proofs.Once.{revisions, stamps-distinct}
 use Rattle.bg_scaledown.proofs.PastRanks.{stamped-deadline}
-use Rattle.bg_scaledown.proofs.Room.{superseded-other, room-left}
+use Rattle.bg_scaledown.proofs.PastDue.{deadline-is_deadline}
+use Rattle.bg_scaledown.proofs.Room.{place, place-most, fits-so, superseded-other, room-left}
 
 -- there is a mark for each stamp
 length-marks_of : (stamps : List Stamp) → length (marks_of stamps) ≡ length (revisions stamps)
@@ -62,29 +65,61 @@ few-marks_for_two s past stands ascends exists unmarked newest bare other few =
     let distinct : Distinct (newest_of past ∷ active_of past ∷ stamped) = (absent, (unstamped s (active_of past) past unmarked, stamps-distinct s past)) in
     omega (arith, length-marks_of (stamps_of s past), length-within (newest_of past ∷ active_of past ∷ stamped) (existing past) distinct (ascends-distinct (existing past) ascends) within)
 
--- an entry marks no more revisions than there are places for, where it marks two only by superseding the newest
-places-for : (next : Entry) (x : Selectors) (n : ℕ) → n < 64 → (replaces_newest x ≡ true → n < 63) → length (may_mark next x) + n ≤ 64
-places-for (Deploy r name ports) x n one two = go (replaces_newest x) (goes_back r x) two where
-  go : (b c : Bool) → (b ≡ true → n < 63) → length (only_if b x.newest ++ only_if c x.active) + n ≤ 64
-  go true c two = let few : n < 63 = two refl in by-active c few where
-    by-active : (c : Bool) → n < 63 → length (x.newest ∷ only_if c x.active) + n ≤ 64
-    by-active true few = omega arith
-    by-active false few = omega arith
-  go false true two = omega arith
-  go false false two = omega arith
-places-for Abort x n one two = omega arith
-places-for (Verdict analysis Failed) x n one two = omega arith
-places-for (Verdict analysis Error) x n one two = omega arith
-places-for (Verdict analysis Successful) x n one two = omega arith
-places-for (Outcome (Switched r)) x n one two = omega arith
-places-for _ x n one two = omega arith
+-- there is room for one revision
+room-one : (s : Strategy) (q : ℕ) (past : List Entry) → length (table_of s past).marks < 64 → has_room_for (q ∷ []) (table_of s past).marks ≡ true
+room-one s q past few = room-left (q ∷ []) (table_of s past).marks (omega arith)
+
+-- a revision with a deadline has a mark in the table
+marked-has_mark : (s : Strategy) (q : ℕ) (past : List Entry) → is_some (deadline s q past) ≡ true → is_none (mark_of q (table_of s past).marks) ≡ false
+marked-has_mark s q past h = go (mark_of q (table_of s past).marks) (ap is_some (deadline-is_deadline s q past) ∙ h) where
+  go : (o : Option RevisionMark) → is_some (option_map (λ m. m.deadline) o) ≡ true → is_none o ≡ false
+  go None h = absurd (cc)
+  go (Some m) h = refl
+
+-- there is room for the newest revision and the active one, whether the newest one has a deadline or not
+room-both : (s : Strategy) (past : List Entry) → DeadlinesStand s past → Ascends (existing past)
+    → exists_in (active_of past) past ≡ true → is_some (deadline s (active_of past) past) ≡ false → exists_in (newest_of past) past ≡ true
+    → length (existing past) ≤ 64 → (newest_of past == active_of past) ≡ false
+    → has_room_for (newest_of past ∷ active_of past ∷ []) (table_of s past).marks ≡ true
+room-both s past stands ascends active unmarked newest few other = go (is_some (deadline s (newest_of past) past)) refl where
+  go : (b : Bool) → is_some (deadline s (newest_of past) past) ≡ b → has_room_for (newest_of past ∷ active_of past ∷ []) (table_of s past).marks ≡ true
+  go true h =
+      let places : place (newest_of past) (table_of s past).marks ≡ 0 = ap one_if (marked-has_mark s (newest_of past) past h) in
+      fits-so _ (omega (arith, places, place-most (active_of past) (table_of s past).marks, few-marks s past stands ascends active unmarked few))
+  go false h =
+      room-left (newest_of past ∷ active_of past ∷ []) (table_of s past).marks
+      (omega (arith, few-marks_for_two s past stands ascends active unmarked newest h other few))
+
+-- so there is for what a stop of an attempt marks
+room-for_halt : (s : Strategy) (past : List Entry) → length (table_of s past).marks < 64
+    → ((newest_of past == active_of past) ≡ false → has_room_for (newest_of past ∷ active_of past ∷ []) (table_of s past).marks ≡ true)
+    → has_room_for (marked_by_halt (selectors_of past)) (table_of s past).marks ≡ true
+room-for_halt s past few both = go (newest_of past == active_of past) both where
+  go : (b : Bool) → (b ≡ false → has_room_for (newest_of past ∷ active_of past ∷ []) (table_of s past).marks ≡ true)
+      → has_room_for (only_if (not b) (newest_of past) ++ active_of past ∷ []) (table_of s past).marks ≡ true
+  go true both = room-one s (active_of past) past few
+  go false both = both refl
+
+-- and for what an entry marks
+room-for : (s : Strategy) (past : List Entry) (next : Entry) → length (table_of s past).marks < 64
+    → ((newest_of past == active_of past) ≡ false → has_room_for (newest_of past ∷ active_of past ∷ []) (table_of s past).marks ≡ true)
+    → has_room_for (may_mark next (selectors_of past)) (table_of s past).marks ≡ true
+room-for s past (Deploy r name ports) few both = go (replaces_newest (selectors_of past)) (goes_back r (selectors_of past)) (superseded-other (selectors_of past)) where
+  go : (b c : Bool) → (b ≡ true → (newest_of past == active_of past) ≡ false) → has_room_for (only_if b (newest_of past) ++ only_if c (active_of past)) (table_of s past).marks ≡ true
+  go true true other = both (other refl)
+  go true false other = room-one s (newest_of past) past few
+  go false true other = room-one s (active_of past) past few
+  go false false other = room-left [] (table_of s past).marks (omega arith)
+room-for s past Abort few both = room-for_halt s past few both
+room-for s past (Verdict analysis Failed) few both = room-for_halt s past few both
+room-for s past (Verdict analysis Error) few both = room-for_halt s past few both
+room-for s past (Verdict analysis Successful) few both = room-left [] (table_of s past).marks (omega arith)
+room-for s past (Outcome (Switched r)) few both = room-one s (active_of past) past few
+room-for s past _ few both = room-left [] (table_of s past).marks (omega arith)
 
 -- there is room for each revision that the next entry marks
 pub next-has_room : (s : Strategy) (past : List Entry) (next : Entry) → DeadlinesStand s past → Ascends (existing past)
-    → exists_in (active_of past) past ≡ true → is_some (deadline s (active_of past) past) ≡ false
-    → exists_in (newest_of past) past ≡ true → is_some (deadline s (newest_of past) past) ≡ false
+    → exists_in (active_of past) past ≡ true → is_some (deadline s (active_of past) past) ≡ false → exists_in (newest_of past) past ≡ true
     → length (existing past) ≤ 64 → has_room_for (may_mark next (selectors_of past)) (table_of s past).marks ≡ true
-next-has_room s past next stands ascends active unmarked newest bare few =
-    room-left (may_mark next (selectors_of past)) (table_of s past).marks
-    (places-for next (selectors_of past) (length (table_of s past).marks) (few-marks s past stands ascends active unmarked few)
-    (λ replaces. few-marks_for_two s past stands ascends active unmarked newest bare (superseded-other (selectors_of past) replaces) few))
+next-has_room s past next stands ascends active unmarked newest few =
+    room-for s past next (few-marks s past stands ascends active unmarked few) (room-both s past stands ascends active unmarked newest few)

@@ -8,7 +8,7 @@ use Rattle.bg_history.specs.declared.entry.Entry.TheVariants.{Deploy, Verdict, A
 use Rattle.bg_history.specs.declared.entry.Outcome.TheVariants.{Switched, ScaledDown}
 use Rattle.bg_history.specs.declared.entry.AnalysisResult.TheVariants.{Successful, Failed, Error}
 use Rattle.bg_history.specs.Turns.{moment}
-use Rattle.bg_history.specs.Marks.{MarkKind, Left, Superseded, Cleared, Mark, kind_of, mark}
+use Rattle.bg_history.specs.Marks.{MarkKind, Left, Superseded, Aborted, Cleared, Mark, kind_of, mark}
 use Rattle.bg_history.specs.Deadlines.{deadline_of}
 use Rattle.bg_strategy.specs.declared.strategy.Strategy.{Strategy}
 use Rattle.bg_scaledown.specs.declared.mark.Cause.TheVariants as cause
@@ -19,6 +19,7 @@ abbrev pub after : Strategy → Option MarkKind → ℕ → ℕ → ℕ → Opti
 after s None r at stood stamp = stamp
 after s (Some Left) r at stood stamp = Some (stamp_at r cause.Left (at + s.delay) stood)
 after s (Some Superseded) r at stood stamp = Some (stamp_at r cause.Superseded at stood)
+after s (Some Aborted) r at stood stamp = Some (stamp_at r cause.Aborted (at + s.abort_delay) stood)
 after s (Some Cleared) r at stood stamp = None
 
 -- the stamp that the newest mark of r makes
@@ -41,12 +42,14 @@ stamp_of-stamped_same : (s : Strategy) (k : Option MarkKind) (r at stood : ℕ) 
 stamp_of-stamped_same s None r at stood stamps = refl
 stamp_of-stamped_same s (Some Left) r at stood stamps = grind (arith, nat_tests)
 stamp_of-stamped_same s (Some Superseded) r at stood stamps = grind (arith, nat_tests)
+stamp_of-stamped_same s (Some Aborted) r at stood stamps = grind (arith, nat_tests)
 stamp_of-stamped_same s (Some Cleared) r at stood stamps = stamp_of-others_same r stamps
 
 stamp_of-stamped_other : (s : Strategy) (k : Option MarkKind) (q r at stood : ℕ) (stamps : List Stamp) → (q == r) ≡ false → stamp_of r (stamped s k q at stood stamps) ≡ stamp_of r stamps
 stamp_of-stamped_other s None q r at stood stamps ne = refl
 stamp_of-stamped_other s (Some Left) q r at stood stamps ne = grind (arith, nat_tests, stamp_of-others_other q r stamps ne)
 stamp_of-stamped_other s (Some Superseded) q r at stood stamps ne = grind (arith, nat_tests, stamp_of-others_other q r stamps ne)
+stamp_of-stamped_other s (Some Aborted) q r at stood stamps ne = grind (arith, nat_tests, stamp_of-others_other q r stamps ne)
 stamp_of-stamped_other s (Some Cleared) q r at stood stamps ne = stamp_of-others_other q r stamps ne
 
 -- an entry marks no revision but those that it touches
@@ -66,6 +69,7 @@ after_twice : (s : Strategy) (k : Option MarkKind) (r at stood : ℕ) (stamp : O
 after_twice s None r at stood stamp = refl
 after_twice s (Some Left) r at stood stamp = refl
 after_twice s (Some Superseded) r at stood stamp = refl
+after_twice s (Some Aborted) r at stood stamp = refl
 after_twice s (Some Cleared) r at stood stamp = refl
 
 after_cond : (s : Strategy) (b : Bool) (k : Option MarkKind) (r at stood : ℕ) (stamp : Option Stamp) → after s k r at stood (cond b (after s k r at stood stamp) stamp) ≡ after s k r at stood stamp
@@ -119,6 +123,7 @@ live_step : (s : Strategy) (k : Option MarkKind) (r at stood : ℕ) (m : Option 
 live_step s None r at stood m = refl
 live_step s (Some Left) r at stood m = refl
 live_step s (Some Superseded) r at stood m = refl
+live_step s (Some Aborted) r at stood m = refl
 live_step s (Some Cleared) r at stood m = refl
 
 -- a past has of each revision the stamp that its newest mark makes
@@ -136,4 +141,5 @@ live-deadline s r (Some m) = go m.kind m.moment m.stood where
   go : (k : MarkKind) (at stood : ℕ) → is_some (deadline_of s (Some (record { kind = k; moment = at; stood = stood }))) ≡ is_some (live s r (Some (record { kind = k; moment = at; stood = stood })))
   go Left at stood = refl
   go Superseded at stood = refl
+  go Aborted at stood = refl
   go Cleared at stood = refl

@@ -4,7 +4,7 @@ use Rattle.std.proofs.lemmas.Bool.Decides.{nat_tests}
 use Rattle.bg_strategy.specs.declared.strategy.Strategy.{Strategy}
 use Rattle.bg_history.specs.declared.entry.Entry.{Entry}
 use Rattle.bg_history.specs.Turns.{moment}
-use Rattle.bg_history.specs.Marks.{MarkKind, Left, Superseded, Cleared, kind_of}
+use Rattle.bg_history.specs.Marks.{MarkKind, Left, Superseded, Aborted, Cleared, kind_of}
 use Rattle.bg_scaledown.specs.Past.{Stamp, others, stamped, touched, stamp_all, stamps_of}
 use Rattle.bg_scaledown.proofs.Counts.{member, Distinct}
 
@@ -44,6 +44,7 @@ distinct-stamped : (s : Strategy) (k : Option MarkKind) (q at stood : ℕ) (stam
 distinct-stamped s None q at stood stamps h = h
 distinct-stamped s (Some Left) q at stood stamps h = (member-others_same q stamps, distinct-others q stamps h)
 distinct-stamped s (Some Superseded) q at stood stamps h = (member-others_same q stamps, distinct-others q stamps h)
+distinct-stamped s (Some Aborted) q at stood stamps h = (member-others_same q stamps, distinct-others q stamps h)
 distinct-stamped s (Some Cleared) q at stood stamps h = distinct-others q stamps h
 
 distinct-stamp_all : (s : Strategy) (e : Entry) (before : List Entry) (qs : List ℕ) (stamps : List Stamp) → Distinct (revisions stamps) → Distinct (revisions (stamp_all s e before qs stamps))

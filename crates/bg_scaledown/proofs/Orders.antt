@@ -5,7 +5,8 @@ use Rattle.bg_strategy.specs.declared.strategy.Strategy.{Strategy}
 use Rattle.bg_history.specs.declared.entry.Entry.{Entry}
 use Rattle.bg_history.specs.Turns.{moment}
 use Rattle.bg_history.specs.Selections.{active_of}
-use Rattle.bg_history.specs.Marks.{MarkKind, Left, Superseded, Cleared, kind_of}
+use Rattle.bg_history.specs.Marks.{MarkKind, Left, Superseded, Aborted, Cleared, kind_of}
+use Rattle.bg_scaledown.specs.declared.mark.Cause.{Cause}
 use Rattle.bg_scaledown.specs.declared.mark.Cause.TheVariants as cause
 use Rattle.bg_scaledown.specs.Due.{has_left}
 use Rattle.bg_scaledown.specs.Past.{Stamp, stamp_at, others, stamped, touched, stamp_all, stamps_of}
@@ -88,10 +89,10 @@ within-left n a at stamps h = record {
   ordered = ((λ _. h.but), ordered-others a stamps h.ordered);
 }
 
--- when a revision is superseded
-within-superseded : (n a q at : ℕ) (stamps : List Stamp) → Within n a stamps → Within n a (stamp_at q cause.Superseded at n ∷ others q stamps)
-within-superseded n a q at stamps h =
-    let stamp : Stamp = stamp_at q cause.Superseded at n in
+-- when a revision gets a mark of another cause
+within-stays : (n a q at : ℕ) (c : Cause) (stamps : List Stamp) → has_left c ≡ false → Within n a stamps → Within n a (stamp_at q c at n ∷ others q stamps)
+within-stays n a q at c stamps stays h =
+    let stamp : Stamp = stamp_at q c at n in
     let rest : Within n a (others q stamps) = within-others n a q stamps h in
     record {
       all = ((λ left. absurd (cc)), rest.all);
@@ -104,7 +105,8 @@ within-stamped : (s : Strategy) (q : ℕ) (e : Entry) (before : List Entry) (k :
     → Within (length before) (active_of before) stamps → Within (length before) (active_of before) (stamped s k q at (length before) stamps)
 within-stamped s q e before None at stamps is h = h
 within-stamped s q e before (Some Left) at stamps is h = rw (← left_is_active s q e before is) (within-left (length before) (active_of before) (at + s.delay) stamps h)
-within-stamped s q e before (Some Superseded) at stamps is h = within-superseded (length before) (active_of before) q at stamps h
+within-stamped s q e before (Some Superseded) at stamps is h = within-stays (length before) (active_of before) q at cause.Superseded stamps refl h
+within-stamped s q e before (Some Aborted) at stamps is h = within-stays (length before) (active_of before) q (at + s.abort_delay) cause.Aborted stamps refl h
 within-stamped s q e before (Some Cleared) at stamps is h = within-others (length before) (active_of before) q stamps h
 
 within-stamp_all : (s : Strategy) (e : Entry) (before : List Entry) (qs : List ℕ) (stamps : List Stamp)

@@ -6,7 +6,7 @@ use Rattle.bg_history.specs.declared.entry.Entry.{Entry}
 use Rattle.bg_strategy.specs.declared.strategy.Strategy.{Strategy}
 use Rattle.bg_history.specs.Turns.{moment}
 use Rattle.bg_history.specs.Sizes.{existing, Ascends}
-use Rattle.bg_history.specs.Marks.{MarkKind, Left, Superseded, Cleared, Mark, mark}
+use Rattle.bg_history.specs.Marks.{MarkKind, Left, Superseded, Aborted, Cleared, Mark, mark}
 use Rattle.bg_history.specs.Deadlines as history
 use Rattle.bg_scaledown.specs.declared.mark.Cause.TheVariants as cause
 use Rattle.bg_scaledown.specs.Due as due
@@ -34,6 +34,7 @@ time-live s r (Some m) = go m.kind m.moment m.stood where
   go : (k : MarkKind) (at stood : ℕ) → option_map (λ m. m.deadline) (option_map (λ stamp. stamp.mark) (live s r (Some (record { kind = k; moment = at; stood = stood })))) ≡ history.time_of s k at
   go Left at stood = refl
   go Superseded at stood = refl
+  go Aborted at stood = refl
   go Cleared at stood = refl
 
 -- the table's deadlines are the past's
@@ -81,6 +82,9 @@ due-by_mark s r past (Some m) is stands ascends = due-by_kind s r past m.kind m.
       ∙ ap (λ n. nat_le (at + s.delay) (moment past) || history.is_over s.revision_limit n) (sym (rank_in-is_rank s r past me stands ascends here refl)))
   due-by_kind s r past Superseded at stood is stands ascends =
       let me : Stamp = stamp_at r cause.Superseded at stood in
+      due-some s r past me stands (stamp_of-past s r past ∙ ap (live s r) is) (ap (λ m. history.marks_due s m past) is)
+  due-by_kind s r past Aborted at stood is stands ascends =
+      let me : Stamp = stamp_at r cause.Aborted (at + s.abort_delay) stood in
       due-some s r past me stands (stamp_of-past s r past ∙ ap (live s r) is) (ap (λ m. history.marks_due s m past) is)
   due-by_kind s r past Cleared at stood is stands ascends = due-none s r past (stamp_of-past s r past ∙ ap (live s r) is) (rw is refl)
 

@@ -6,7 +6,7 @@ use Rattle.bg_history.specs.declared.entry.Entry.{Entry}
 use Rattle.bg_strategy.specs.declared.strategy.Strategy.{Strategy}
 use Rattle.bg_history.specs.Selections.{is_selected}
 use Rattle.bg_history.specs.Sizes.{existing, Ascends}
-use Rattle.bg_history.specs.Marks.{MarkKind, Left, Superseded, Cleared, Mark, mark}
+use Rattle.bg_history.specs.Marks.{MarkKind, Left, Superseded, Aborted, Cleared, Mark, mark}
 use Rattle.bg_history.specs.Deadlines.{deadline, is_spare, left_later, rank_after}
 use Rattle.bg_scaledown.specs.Due.{one_if, rank_in}
 use Rattle.bg_scaledown.specs.Past.{Stamp, stamp_of, stamps_of, marks_of, DeadlinesStand}
@@ -49,6 +49,7 @@ stamp_later-live s stood q (Some m) = stamp_later-kind s stood q m.kind m.moment
   stamp_later-kind : (s : Strategy) (stood q : ℕ) (k : MarkKind) (at n : ℕ) → stamp_later stood (live s q (Some (record { kind = k; moment = at; stood = n }))) ≡ left_later stood (Some (record { kind = k; moment = at; stood = n }))
   stamp_later-kind s stood q Left at n = refl
   stamp_later-kind s stood q Superseded at n = refl
+  stamp_later-kind s stood q Aborted at n = refl
   stamp_later-kind s stood q Cleared at n = refl
 
 -- what is counted has a stamp

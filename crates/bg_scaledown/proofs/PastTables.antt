@@ -4,7 +4,7 @@ use Rattle.std.proofs.lemmas.Bool.Decides.{nat_tests}
 use Rattle.bg_strategy.specs.declared.strategy.Strategy.{Strategy}
 use Rattle.bg_history.specs.declared.entry.Entry.{Entry}
 use Rattle.bg_history.specs.Turns.{moment}
-use Rattle.bg_history.specs.Marks.{MarkKind, Left, Superseded, Cleared, kind_of}
+use Rattle.bg_history.specs.Marks.{MarkKind, Left, Superseded, Aborted, Cleared, kind_of}
 use Rattle.bg_scaledown.specs.declared.mark.RevisionMark.{RevisionMark}
 use Rattle.bg_scaledown.specs.declared.mark.Cause.{Cause}
 use Rattle.bg_scaledown.specs.declared.mark.Cause.TheVariants as cause
@@ -12,12 +12,13 @@ use Rattle.bg_scaledown.specs.Due.{marks_without}
 use Rattle.bg_scaledown.specs.Past.{Stamp, others, stamped, touched, stamp_all, stamps_of, marks_of}
 use Rattle.bg_scaledown.proofs.Filters.{filter-swap, filter-twice}
 
--- the marks after the call of that kind for q: `left_active`, `superseded`, `clear` or none
-abbrev pub marked : ℕ → Option MarkKind → ℕ → ℕ → List RevisionMark → List RevisionMark
-marked delay None q at marks = marks
-marked delay (Some Left) q at marks = record { revision = q; cause = cause.Left; deadline = at + delay } ∷ marks_without q marks
-marked delay (Some Superseded) q at marks = record { revision = q; cause = cause.Superseded; deadline = at } ∷ marks_without q marks
-marked delay (Some Cleared) q at marks = marks_without q marks
+-- the marks after the call of that kind for q: `left_active`, `superseded`, `aborted`, `clear` or none
+abbrev pub marked : Strategy → Option MarkKind → ℕ → ℕ → List RevisionMark → List RevisionMark
+marked s None q at marks = marks
+marked s (Some Left) q at marks = record { revision = q; cause = cause.Left; deadline = at + s.delay } ∷ marks_without q marks
+marked s (Some Superseded) q at marks = record { revision = q; cause = cause.Superseded; deadline = at } ∷ marks_without q marks
+marked s (Some Aborted) q at marks = record { revision = q; cause = cause.Aborted; deadline = at + s.abort_delay } ∷ marks_without q marks
+marked s (Some Cleared) q at marks = marks_without q marks
 
 -- the marks of a revision that are dropped twice, or beside a new one of it
 pub marks_without-twice : (q : ℕ) (marks : List RevisionMark) → marks_without q (marks_without q marks) ≡ marks_without q marks
@@ -39,7 +40,7 @@ marks_without-same q r marks is = rw (← is) (marks_without-twice r marks)
 -- the marks after those calls for several revisions, the last one first
 abbrev pub mark_all : Strategy → Entry → List Entry → List ℕ → List RevisionMark → List RevisionMark
 mark_all s e before [] marks = marks
-mark_all s e before (q ∷ qs) marks = marked s.delay (kind_of s q e before) q (moment (e ∷ before)) (mark_all s e before qs marks)
+mark_all s e before (q ∷ qs) marks = marked s (kind_of s q e before) q (moment (e ∷ before)) (mark_all s e before qs marks)
 
 -- the marks of the stamps that stay are the marks that stay
 marks-others : (r : ℕ) (stamps : List Stamp) → marks_of (others r stamps) ≡ marks_without r (marks_of stamps)
@@ -51,40 +52,42 @@ marks-others r (stamp ∷ stamps) = go (stamp.mark.revision == r) (marks-others 
   go false h = ap (λ marks. stamp.mark ∷ marks) h
 
 -- what a stamp does to the stamps its call does to the marks
-marks-stamped : (s : Strategy) (k : Option MarkKind) (q at stood : ℕ) (stamps : List Stamp) → marks_of (stamped s k q at stood stamps) ≡ marked s.delay k q at (marks_of stamps)
+marks-stamped : (s : Strategy) (k : Option MarkKind) (q at stood : ℕ) (stamps : List Stamp) → marks_of (stamped s k q at stood stamps) ≡ marked s k q at (marks_of stamps)
 marks-stamped s None q at stood stamps = refl
 marks-stamped s (Some Left) q at stood stamps = ap (λ marks. record { revision = q; cause = cause.Left; deadline = at + s.delay } ∷ marks) (marks-others q stamps)
 marks-stamped s (Some Superseded) q at stood stamps = ap (λ marks. record { revision = q; cause = cause.Superseded; deadline = at } ∷ marks) (marks-others q stamps)
+marks-stamped s (Some Aborted) q at stood stamps = ap (λ marks. record { revision = q; cause = cause.Aborted; deadline = at + s.abort_delay } ∷ marks) (marks-others q stamps)
 marks-stamped s (Some Cleared) q at stood stamps = marks-others q stamps
 
 marks-stamp_all : (s : Strategy) (e : Entry) (before : List Entry) (qs : List ℕ) (stamps : List Stamp) → marks_of (stamp_all s e before qs stamps) ≡ mark_all s e before qs (marks_of stamps)
 marks-stamp_all s e before [] stamps = refl
 marks-stamp_all s e before (q ∷ qs) stamps =
     marks-stamped s (kind_of s q e before) q (moment (e ∷ before)) _ (stamp_all s e before qs stamps)
-    ∙ ap (marked s.delay (kind_of s q e before) q (moment (e ∷ before))) (marks-stamp_all s e before qs stamps)
+    ∙ ap (marked s (kind_of s q e before) q (moment (e ∷ before))) (marks-stamp_all s e before qs stamps)
 
 -- one more entry makes those calls for the revisions that it touches
 pub marks-step : (s : Strategy) (e : Entry) (before : List Entry) → marks_of (stamps_of s (e ∷ before)) ≡ mark_all s e before (touched e before) (marks_of (stamps_of s before))
 marks-step s e before = marks-stamp_all s e before (touched e before) (stamps_of s before)
 
 -- the same call twice is one
-pub marked-twice : (delay : ℕ) (k : Option MarkKind) (q at : ℕ) (marks : List RevisionMark) → marked delay k q at (marked delay k q at marks) ≡ marked delay k q at marks
-marked-twice delay None q at marks = refl
-marked-twice delay (Some Left) q at marks = ap (λ ms. record { revision = q; cause = cause.Left; deadline = at + delay } ∷ ms) (without-marked q cause.Left (at + delay) marks)
-marked-twice delay (Some Superseded) q at marks = ap (λ ms. record { revision = q; cause = cause.Superseded; deadline = at } ∷ ms) (without-marked q cause.Superseded at marks)
-marked-twice delay (Some Cleared) q at marks = marks_without-twice q marks
+pub marked-twice : (s : Strategy) (k : Option MarkKind) (q at : ℕ) (marks : List RevisionMark) → marked s k q at (marked s k q at marks) ≡ marked s k q at marks
+marked-twice s None q at marks = refl
+marked-twice s (Some Left) q at marks = ap (λ ms. record { revision = q; cause = cause.Left; deadline = at + s.delay } ∷ ms) (without-marked q cause.Left (at + s.delay) marks)
+marked-twice s (Some Superseded) q at marks = ap (λ ms. record { revision = q; cause = cause.Superseded; deadline = at } ∷ ms) (without-marked q cause.Superseded at marks)
+marked-twice s (Some Aborted) q at marks = ap (λ ms. record { revision = q; cause = cause.Aborted; deadline = at + s.abort_delay } ∷ ms) (without-marked q cause.Aborted (at + s.abort_delay) marks)
+marked-twice s (Some Cleared) q at marks = marks_without-twice q marks
 
 -- the calls for three revisions, the last one first, by what the entry is for each
-abbrev pub thrice : ℕ → (ℕ → Option MarkKind) → ℕ → ℕ → ℕ → ℕ → List RevisionMark → List RevisionMark
-thrice delay kind a b c at marks = marked delay (kind a) a at (marked delay (kind b) b at (marked delay (kind c) c at marks))
+abbrev pub thrice : Strategy → (ℕ → Option MarkKind) → ℕ → ℕ → ℕ → ℕ → List RevisionMark → List RevisionMark
+thrice s kind a b c at marks = marked s (kind a) a at (marked s (kind b) b at (marked s (kind c) c at marks))
 
 -- they are two where neighbours are one revision
-pub thrice-first : (delay : ℕ) (kind : ℕ → Option MarkKind) (a b c at : ℕ) (marks : List RevisionMark) → a ≡ b → thrice delay kind a b c at marks ≡ marked delay (kind a) a at (marked delay (kind c) c at marks)
-thrice-first delay kind a b c at marks is = rw (← is) (marked-twice delay (kind a) a at (marked delay (kind c) c at marks))
+pub thrice-first : (s : Strategy) (kind : ℕ → Option MarkKind) (a b c at : ℕ) (marks : List RevisionMark) → a ≡ b → thrice s kind a b c at marks ≡ marked s (kind a) a at (marked s (kind c) c at marks)
+thrice-first s kind a b c at marks is = rw (← is) (marked-twice s (kind a) a at (marked s (kind c) c at marks))
 
-pub thrice-last : (delay : ℕ) (kind : ℕ → Option MarkKind) (a b c at : ℕ) (marks : List RevisionMark) → b ≡ c → thrice delay kind a b c at marks ≡ marked delay (kind a) a at (marked delay (kind c) c at marks)
-thrice-last delay kind a b c at marks is = rw is (ap (marked delay (kind a) a at) (marked-twice delay (kind c) c at marks))
+pub thrice-last : (s : Strategy) (kind : ℕ → Option MarkKind) (a b c at : ℕ) (marks : List RevisionMark) → b ≡ c → thrice s kind a b c at marks ≡ marked s (kind a) a at (marked s (kind c) c at marks)
+thrice-last s kind a b c at marks is = rw is (ap (marked s (kind a) a at) (marked-twice s (kind c) c at marks))
 
 -- they are the same by kinds that agree
-pub thrice-kinds : (delay : ℕ) (p t : ℕ → Option MarkKind) (a b c at : ℕ) (marks : List RevisionMark) → ((q : ℕ) → p q ≡ t q) → thrice delay p a b c at marks ≡ thrice delay t a b c at marks
-thrice-kinds delay p t a b c at marks same = rw (same a, same b, same c) refl
+pub thrice-kinds : (s : Strategy) (p t : ℕ → Option MarkKind) (a b c at : ℕ) (marks : List RevisionMark) → ((q : ℕ) → p q ≡ t q) → thrice s p a b c at marks ≡ thrice s t a b c at marks
+thrice-kinds s p t a b c at marks same = rw (same a, same b, same c) refl

@@ -10,9 +10,9 @@ use Rattle.bg_scaledown.specs.Tables.{Table}
 use Rattle.bg_scaledown.specs.Past.{stamps_of, marks_of, table_of}
 
 -- where `change` is what the entry does to the marks
-pub table-changed : (s : Strategy) (past : List Entry) (e : Entry) (change : Selectors → ℕ → ℕ → List RevisionMark → List RevisionMark) (t u : Table) (x : Selectors) (now : ℕ)
+pub table-changed : (s : Strategy) (past : List Entry) (e : Entry) (change : Selectors → ℕ → ℕ → ℕ → List RevisionMark → List RevisionMark) (t u : Table) (x : Selectors) (now : ℕ)
     → t ≡ table_of s past → x ≡ selectors_of past → now ≡ moment past
-    → u ≡ record { delay = t.delay; limit = t.limit; marks = change x now t.delay t.marks }
-    → marks_of (stamps_of s (e ∷ past)) ≡ change (selectors_of past) (moment past) s.delay (marks_of (stamps_of s past))
+    → u ≡ record { delay = t.delay; abort_delay = t.abort_delay; limit = t.limit; marks = change x now t.delay t.abort_delay t.marks }
+    → marks_of (stamps_of s (e ∷ past)) ≡ change (selectors_of past) (moment past) s.delay s.abort_delay (marks_of (stamps_of s past))
     → u ≡ table_of s (e ∷ past)
 table-changed s past e change t u x now kept selected at made marks = rw (made, kept, selected, at, marks) refl

@@ -1,12 +1,13 @@
 -- How many marks of other revisions there are.
-use Rattle.std.proofs.Common.{◌≡◌, ◌≢◌, ◌<◌, ◌≤◌, ◌+◌, ℕ, Bool, true, false, not, cond, ◌==◌, nat_le, List, [], ◌∷◌, ◌++◌, length, take, drop, get_or, Option, Some, None, is_some, is_none, refl, arith, sym, ap, ◌∙◌, length-append, inl, inr}
+use Rattle.std.proofs.Common.{◌≡◌, ◌≢◌, ◌<◌, ◌≤◌, ◌+◌, ℕ, Bool, true, false, not, cond, ◌==◌, nat_lt, nat_le, List, [], ◌∷◌, ◌++◌, length, take, drop, get_or, Option, Some, None, is_some, is_none, refl, arith, sym, ap, ◌∙◌, length-append, inl, inr}
 use Rattle.std.proofs.lemmas.Bool.Decides.{nat_tests, eqb_tells}
 use Rattle.std.proofs.lemmas.List.{take-append-drop}
 use Rattle.std.proofs.lemmas.List.Elements.{filter-append, filter_more}
 use Rattle.bg_scaledown.specs.declared.mark.RevisionMark.{RevisionMark}
+use Rattle.bg_scaledown.specs.declared.mark.Cause.TheVariants.{Aborted}
 use Rattle.bg_revisions.specs.declared.revision.Selectors.{Selectors}
 use Rattle.bg_scaledown.specs.Due.{marks_without, mark_of, one_if, unmarked, has_room_for}
-use Rattle.bg_scaledown.specs.Events.{replaces_newest, goes_back, only_if, marked_by_deploy}
+use Rattle.bg_scaledown.specs.Events.{with_aborted, replaces_newest, goes_back, only_if, marked_by_deploy, marked_by_halt}
 
 -- no more than there are marks
 pub length-marks_without : (r : ℕ) (ms : List RevisionMark) → length (marks_without r ms) ≤ length ms
@@ -26,7 +27,7 @@ place r ms = one_if (is_none (mark_of r ms))
 fits : (n : ℕ) → nat_le n 64 ≡ true → n ≤ 64
 fits n h = grind (arith, nat_tests)
 
-fits-so : (n : ℕ) → n ≤ 64 → nat_le n 64 ≡ true
+pub fits-so : (n : ℕ) → n ≤ 64 → nat_le n 64 ≡ true
 fits-so n h = grind (arith, nat_tests)
 
 -- the other revisions' marks are fewer, or as many where this one has none
@@ -60,7 +61,7 @@ marks_without-before r i ms d within other =
     omega (arith, marks_without-take r (i + 1) ms, ap length more, length-append (marks_without r (take i ms)) (get_or ms i d ∷ []))
 
 -- a revision needs one place at most
-place-most : (r : ℕ) (ms : List RevisionMark) → place r ms ≤ 1
+pub place-most : (r : ℕ) (ms : List RevisionMark) → place r ms ≤ 1
 place-most r ms = go (mark_of r ms) where
   go : (o : Option RevisionMark) → one_if (is_none o) ≤ 1
   go None = omega arith
@@ -109,6 +110,26 @@ unmarked-most (r ∷ rest) ms = omega (arith, place-most r ms, unmarked-most res
 pub room-left : (rs : List ℕ) (ms : List RevisionMark) → length rs + length ms ≤ 64 → has_room_for rs ms ≡ true
 room-left rs ms few = fits-so _ (omega (arith, unmarked-most rs ms))
 
+-- two revisions, and what is left of their room
+pair-fits : (n a : ℕ) (ms : List RevisionMark) → has_room_for (n ∷ a ∷ []) ms ≡ true → place n ms + (place a ms + 0) + length ms ≤ 64
+pair-fits n a ms room = fits _ room
+
+-- once marks are dropped
+pub pair-dropped : (q n a : ℕ) (ms : List RevisionMark) → (n == a) ≡ false → has_room_for (n ∷ a ∷ []) ms ≡ true → has_room_for (n ∷ a ∷ []) (marks_without q ms) ≡ true
+pair-dropped q n a ms other room = fits-so _ (omega (arith, dropped-two q n a ms other, pair-fits n a ms room))
+
+-- for one of them
+pub pair-first : (n a : ℕ) (ms : List RevisionMark) → has_room_for (n ∷ a ∷ []) ms ≡ true → has_room_for (n ∷ []) ms ≡ true
+pair-first n a ms room = fits-so _ (omega (arith, pair-fits n a ms room))
+
+pub pair-second : (n a : ℕ) (ms : List RevisionMark) → has_room_for (n ∷ a ∷ []) ms ≡ true → has_room_for (a ∷ []) ms ≡ true
+pair-second n a ms room = fits-so _ (omega (arith, pair-fits n a ms room))
+
+-- for the second once the first is marked
+pub pair-marked : (n a : ℕ) (m : RevisionMark) (ms : List RevisionMark) → m.revision ≡ n → (n == a) ≡ false → has_room_for (n ∷ a ∷ []) ms ≡ true
+    → has_room_for (a ∷ []) (m ∷ marks_without n ms) ≡ true
+pair-marked n a m ms is other room = fits-so _ (omega (arith, marked-room n a m ms is other, pair-fits n a ms room))
+
 -- what is superseded isn't active
 pub superseded-other : (x : Selectors) → replaces_newest x ≡ true → (x.newest == x.active) ≡ false
 superseded-other x replaces = grind (arith, nat_tests)
@@ -118,9 +139,7 @@ pub deploy-dropped : (q r : ℕ) (x : Selectors) (ms : List RevisionMark) → ha
 deploy-dropped q r x ms room = go (replaces_newest x) (goes_back r x) (superseded-other x) room where
   go : (b c : Bool) → (b ≡ true → (x.newest == x.active) ≡ false) → has_room_for (only_if b x.newest ++ only_if c x.active) ms ≡ true
       → has_room_for (only_if b x.newest ++ only_if c x.active) (marks_without q ms) ≡ true
-  go true true other room =
-      let few : place x.newest ms + (place x.active ms + 0) + length ms ≤ 64 = fits _ room in
-      fits-so _ (omega (arith, dropped-two q x.newest x.active ms (other refl)))
+  go true true other room = pair-dropped q x.newest x.active ms (other refl) room
   go true false other room = room-dropped x.newest q ms room
   go false true other room = room-dropped x.active q ms room
   go false false other room = let few : 0 + length ms ≤ 64 = fits _ room in fits-so _ (omega (arith, length-marks_without q ms))
@@ -129,20 +148,44 @@ deploy-dropped q r x ms room = go (replaces_newest x) (goes_back r x) (supersede
 pub room-newest : (r : ℕ) (x : Selectors) (ms : List RevisionMark) → has_room_for (marked_by_deploy r x) ms ≡ true → replaces_newest x ≡ true → has_room_for (x.newest ∷ []) ms ≡ true
 room-newest r x ms room replaces = go (goes_back r x) (rw replaces at room) where
   go : (c : Bool) → has_room_for (only_if true x.newest ++ only_if c x.active) ms ≡ true → has_room_for (x.newest ∷ []) ms ≡ true
-  go true room = let few : place x.newest ms + (place x.active ms + 0) + length ms ≤ 64 = fits _ room in fits-so _ (omega arith)
+  go true room = pair-first x.newest x.active ms room
   go false room = room
 
 -- and for the active one where it leaves, the newest one being superseded
 pub room-both : (r : ℕ) (x : Selectors) (m : RevisionMark) (ms : List RevisionMark) → has_room_for (marked_by_deploy r x) ms ≡ true
     → replaces_newest x ≡ true → goes_back r x ≡ true → m.revision ≡ x.newest → has_room_for (x.active ∷ []) (m ∷ marks_without x.newest ms) ≡ true
 room-both r x m ms room replaces back is =
-    let both : has_room_for (x.newest ∷ x.active ∷ []) ms ≡ true = rw (replaces, back) at room in
-    let few : place x.newest ms + (place x.active ms + 0) + length ms ≤ 64 = fits _ both in
-    fits-so _ (omega (arith, marked-room x.newest x.active m ms is (superseded-other x replaces)))
+    pair-marked x.newest x.active m ms is (superseded-other x replaces) (rw (replaces, back) at room)
 
 -- or where it isn't
 pub room-active : (r : ℕ) (x : Selectors) (ms : List RevisionMark) → has_room_for (marked_by_deploy r x) ms ≡ true → goes_back r x ≡ true → has_room_for (x.active ∷ []) ms ≡ true
 room-active r x ms room back = go (replaces_newest x) (rw back at room) where
   go : (b : Bool) → has_room_for (only_if b x.newest ++ only_if true x.active) ms ≡ true → has_room_for (x.active ∷ []) ms ≡ true
-  go true room = let few : place x.newest ms + (place x.active ms + 0) + length ms ≤ 64 = fits _ room in fits-so _ (omega arith)
+  go true room = pair-second x.newest x.active ms room
   go false room = room
+
+-- there is still room for what a stop of an attempt marks once marks are dropped
+pub halt-dropped : (q : ℕ) (x : Selectors) (ms : List RevisionMark) → has_room_for (marked_by_halt x) ms ≡ true → has_room_for (marked_by_halt x) (marks_without q ms) ≡ true
+halt-dropped q x ms room = go (x.newest == x.active) refl room where
+  go : (b : Bool) → (x.newest == x.active) ≡ b → has_room_for (only_if (not b) x.newest ++ x.active ∷ []) ms ≡ true
+      → has_room_for (only_if (not b) x.newest ++ x.active ∷ []) (marks_without q ms) ≡ true
+  go true same room = room-dropped x.active q ms room
+  go false other room = pair-dropped q x.newest x.active ms other room
+
+-- so there is for the newest revision, which is aborted
+pub halt-newest : (x : Selectors) (ms : List RevisionMark) → has_room_for (marked_by_halt x) ms ≡ true → has_room_for (x.newest ∷ []) ms ≡ true
+halt-newest x ms room = elim (eqb_tells x.newest x.active) [
+  | inl h ↦ let one : has_room_for (x.active ∷ []) ms ≡ true = rw h.0 at room in rw h.1 one
+  | inr h ↦ let both : has_room_for (x.newest ∷ x.active ∷ []) ms ≡ true = rw h.0 at room in pair-first x.newest x.active ms both
+]
+
+-- and then for the active one where it leaves, which is another
+pub halt-active : (x : Selectors) (at delay : ℕ) (ms : List RevisionMark) → has_room_for (marked_by_halt x) ms ≡ true → (x.newest == x.active) ≡ false
+    → has_room_for (x.active ∷ []) (with_aborted x.newest at delay ms) ≡ true
+halt-active x at delay ms room other =
+    let both : has_room_for (x.newest ∷ x.active ∷ []) ms ≡ true = rw other at room in
+    go (nat_lt 0 delay) both where
+      go : (b : Bool) → has_room_for (x.newest ∷ x.active ∷ []) ms ≡ true
+          → has_room_for (x.active ∷ []) (cond b (record { revision = x.newest; cause = Aborted; deadline = at + delay } ∷ marks_without x.newest ms) (marks_without x.newest ms)) ≡ true
+      go true both = pair-marked x.newest x.active (record { revision = x.newest; cause = Aborted; deadline = at + delay }) ms refl other both
+      go false both = room-dropped x.active x.newest ms (pair-second x.newest x.active ms both)

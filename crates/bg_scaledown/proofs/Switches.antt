@@ -27,7 +27,7 @@ kind-kept s q r past same = grind (arith, nat_tests)
 pub marks-switch : (s : Strategy) (r : ℕ) (past : List Entry) → marks_of (stamps_of s (Outcome (Switched r) ∷ past)) ≡ switched r (selectors_of past) (moment past) s.delay (marks_of (stamps_of s past))
 marks-switch s r past = marks-step s (Outcome (Switched r)) past ∙ go (active_of past == r) refl where
   go : (b : Bool) → (active_of past == r) ≡ b
-      → marked s.delay (kind_of s (active_of past) (Outcome (Switched r)) past) (active_of past) (moment past) (marked s.delay (kind_of s r (Outcome (Switched r)) past) r (moment past) (marks_of (stamps_of s past)))
+      → marked s (kind_of s (active_of past) (Outcome (Switched r)) past) (active_of past) (moment past) (marked s (kind_of s r (Outcome (Switched r)) past) r (moment past) (marks_of (stamps_of s past)))
       ≡ switched r (selectors_of past) (moment past) s.delay (marks_of (stamps_of s past))
   go true same = rw (kind-kept s (active_of past) r past same, kind-kept s r r past same, same) refl
   go false other = rw (kind-left s r past other, kind-cleared s r past other, other) refl
@@ -38,11 +38,11 @@ kind-scaled s r past = grind (arith, nat_tests)
 
 pub marks-scaled_down : (s : Strategy) (r : ℕ) (past : List Entry) → marks_of (stamps_of s (Outcome (ScaledDown r) ∷ past)) ≡ marks_without r (marks_of (stamps_of s past))
 marks-scaled_down s r past =
-    marks-step s (Outcome (ScaledDown r)) past ∙ ap (λ k. marked s.delay k r (moment past) (marks_of (stamps_of s past))) (kind-scaled s r past)
+    marks-step s (Outcome (ScaledDown r)) past ∙ ap (λ k. marked s k r (moment past) (marks_of (stamps_of s past))) (kind-scaled s r past)
 
 kind-retried : (s : Strategy) (past : List Entry) → kind_of s (newest_of past) Retry past ≡ Some Cleared
 kind-retried s past = grind (arith, nat_tests)
 
 pub marks-retry : (s : Strategy) (past : List Entry) → marks_of (stamps_of s (Retry ∷ past)) ≡ marks_without (newest_of past) (marks_of (stamps_of s past))
 marks-retry s past =
-    marks-step s Retry past ∙ ap (λ k. marked s.delay k (newest_of past) (moment past) (marks_of (stamps_of s past))) (kind-retried s past)
+    marks-step s Retry past ∙ ap (λ k. marked s k (newest_of past) (moment past) (marks_of (stamps_of s past))) (kind-retried s past)

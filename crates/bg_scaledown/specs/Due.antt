@@ -4,7 +4,7 @@ use Rattle.std.specs.Option.{option_map}
 use Rattle.bg_history.specs.Deadlines.{is_over}
 use Rattle.bg_scaledown.specs.declared.mark.RevisionMark.{RevisionMark}
 use Rattle.bg_scaledown.specs.declared.mark.Cause.{Cause}
-use Rattle.bg_scaledown.specs.declared.mark.Cause.TheVariants.{Left, Superseded}
+use Rattle.bg_scaledown.specs.declared.mark.Cause.TheVariants.{Left, Superseded, Aborted}
 use Rattle.bg_revisions.specs.declared.revision.Selectors.{Selectors}
 use Rattle.bg_scaledown.specs.Tables.{Table}
 
@@ -33,6 +33,7 @@ has_room_for rs marks = nat_le (unmarked rs marks + length marks) 64
 abbrev pub has_left : Cause → Bool
 has_left Left = true
 has_left Superseded = false
+has_left Aborted = false
 
 -- the moment from which the revision may be scaled down
 abbrev pub deadline_in : Table → ℕ → Option ℕ

@@ -1,12 +1,12 @@
 -- What an entry of the history does to the marks, by what was selected before it.
-use Rattle.std.specs.Prelude.{ℕ, Bool, not, if◌then◌else◌, ◌+◌, ◌==◌, ◌&&◌, ◌||◌, List, [], ◌∷◌, ◌++◌}
+use Rattle.std.specs.Prelude.{ℕ, Bool, not, if◌then◌else◌, ◌+◌, ◌==◌, ◌&&◌, ◌||◌, nat_lt, List, [], ◌∷◌, ◌++◌}
 use Rattle.bg_history.specs.declared.entry.Entry.{Entry}
 use Rattle.bg_history.specs.declared.entry.Entry.TheVariants.{Deploy, Verdict, Abort, Outcome}
 use Rattle.bg_history.specs.declared.entry.Outcome.TheVariants.{Switched}
 use Rattle.bg_history.specs.declared.entry.AnalysisResult.TheVariants.{Failed, Error}
 use Rattle.bg_revisions.specs.declared.revision.Selectors.{Selectors}
 use Rattle.bg_scaledown.specs.declared.mark.RevisionMark.{RevisionMark}
-use Rattle.bg_scaledown.specs.declared.mark.Cause.TheVariants.{Left, Superseded}
+use Rattle.bg_scaledown.specs.declared.mark.Cause.TheVariants.{Left, Superseded, Aborted}
 use Rattle.bg_scaledown.specs.Due.{marks_without}
 
 -- the marks where r left the active service, to be scaled down from that moment on
@@ -27,6 +27,18 @@ with_superseded r deadline marks =
       deadline = deadline;
     } ∷ marks_without r marks
 
+-- the marks where the attempt of r was stopped at that moment: it has a deadline after the delay, or
+-- none where the delay is 0
+abbrev pub with_aborted : ℕ → ℕ → ℕ → List RevisionMark → List RevisionMark
+with_aborted r at abort_delay marks =
+    if nat_lt 0 abort_delay then
+    record {
+      revision = r;
+      cause = Aborted;
+      deadline = at + abort_delay;
+    } ∷ marks_without r marks
+    else marks_without r marks
+
 -- a deploy of r begins an attempt of it, or goes back to it
 abbrev pub takes_up : ℕ → Selectors → Bool
 takes_up r x = not (r == x.stable) || not (x.active == r)
@@ -34,6 +46,10 @@ takes_up r x = not (r == x.stable) || not (x.active == r)
 -- a deploy takes the place of the newest revision, which was neither active nor stable
 abbrev pub replaces_newest : Selectors → Bool
 replaces_newest x = not (x.newest == x.active) && not (x.newest == x.stable)
+
+-- and supersedes it, where it is scaled
+abbrev pub supersedes_newest : Selectors → Bool → Bool
+supersedes_newest x scaled = replaces_newest x && scaled
 
 -- a deploy of r goes back to the stable revision from another one
 abbrev pub goes_back : ℕ → Selectors → Bool
@@ -44,23 +60,26 @@ abbrev pub cleared : ℕ → Selectors → List RevisionMark → List RevisionMa
 cleared r x marks = if takes_up r x then marks_without r marks else marks
 
 -- and once it has superseded the newest revision
-abbrev pub replaced : ℕ → Selectors → ℕ → List RevisionMark → List RevisionMark
-replaced r x at marks =
-    if replaces_newest x then with_superseded x.newest at (cleared r x marks)
+abbrev pub replaced : ℕ → Selectors → Bool → ℕ → List RevisionMark → List RevisionMark
+replaced r x scaled at marks =
+    if supersedes_newest x scaled then with_superseded x.newest at (cleared r x marks)
     else cleared r x marks
 
--- the marks after a deploy of r
-abbrev pub deployed : ℕ → Selectors → ℕ → ℕ → List RevisionMark → List RevisionMark
-deployed r x at delay marks =
-    if goes_back r x then with_left x.active (at + delay) (replaced r x at marks)
-    else replaced r x at marks
+-- the marks after a deploy of r, by whether the newest revision is scaled
+abbrev pub deployed : ℕ → Selectors → Bool → ℕ → ℕ → List RevisionMark → List RevisionMark
+deployed r x scaled at delay marks =
+    if goes_back r x then with_left x.active (at + delay) (replaced r x scaled at marks)
+    else replaced r x scaled at marks
 
 -- the marks after an entry that stops the attempt
-abbrev pub halted : Selectors → ℕ → ℕ → List RevisionMark → List RevisionMark
-halted x at delay marks =
-    if x.active == x.stable then marks_without x.newest marks
-    else if x.active == x.newest then marks_without x.stable (marks_without x.newest marks)
-    else with_left x.active (at + delay) (marks_without x.stable (marks_without x.newest marks))
+abbrev pub halted : Selectors → ℕ → ℕ → ℕ → List RevisionMark → List RevisionMark
+halted x at delay abort_delay marks =
+    if x.active == x.stable then with_aborted x.newest at abort_delay marks
+    else if x.active == x.newest then
+    with_aborted x.newest at abort_delay (marks_without x.stable marks)
+    else
+    with_left x.active (at + delay)
+    (with_aborted x.newest at abort_delay (marks_without x.stable marks))
 
 -- the marks after the active service was switched to r
 abbrev pub switched : ℕ → Selectors → ℕ → ℕ → List RevisionMark → List RevisionMark
@@ -77,11 +96,15 @@ only_if b r = if b then r ∷ [] else []
 abbrev pub marked_by_deploy : ℕ → Selectors → List ℕ
 marked_by_deploy r x = only_if (replaces_newest x) x.newest ++ only_if (goes_back r x) x.active
 
+-- the revisions that an entry may mark that stops the attempt: the newest one and the active one
+abbrev pub marked_by_halt : Selectors → List ℕ
+marked_by_halt x = only_if (not (x.newest == x.active)) x.newest ++ x.active ∷ []
+
 -- the revisions that an entry may mark
 abbrev pub may_mark : Entry → Selectors → List ℕ
 may_mark (Deploy r name ports) x = marked_by_deploy r x
-may_mark Abort x = x.active ∷ []
-may_mark (Verdict analysis Failed) x = x.active ∷ []
-may_mark (Verdict analysis Error) x = x.active ∷ []
+may_mark Abort x = marked_by_halt x
+may_mark (Verdict analysis Failed) x = marked_by_halt x
+may_mark (Verdict analysis Error) x = marked_by_halt x
 may_mark (Outcome (Switched r)) x = x.active ∷ []
 may_mark _ x = []

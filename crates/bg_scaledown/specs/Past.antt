@@ -8,7 +8,7 @@ use Rattle.bg_history.specs.Turns.{moment, stable_of, newest_of}
 use Rattle.bg_history.specs.Selections.{active_of}
 use Rattle.bg_history.specs.Sizes.{is_scaled}
 use Rattle.bg_history.specs.Deadlines.{deadline, exists_in}
-use Rattle.bg_history.specs.Marks.{MarkKind, Left, Superseded, Cleared, kind_of}
+use Rattle.bg_history.specs.Marks.{MarkKind, Left, Superseded, Aborted, Cleared, kind_of}
 use Rattle.bg_strategy.specs.declared.strategy.Strategy.{Strategy}
 use Rattle.bg_scaledown.specs.declared.mark.RevisionMark.{RevisionMark}
 use Rattle.bg_scaledown.specs.declared.mark.Cause.{Cause}
@@ -44,6 +44,8 @@ abbrev pub stamped : Strategy → Option MarkKind → ℕ → ℕ → ℕ → Li
 stamped s None q at stood stamps = stamps
 stamped s (Some Left) q at stood stamps = stamp_at q cause.Left (at + s.delay) stood ∷ others q stamps
 stamped s (Some Superseded) q at stood stamps = stamp_at q cause.Superseded at stood ∷ others q stamps
+stamped s (Some Aborted) q at stood stamps =
+    stamp_at q cause.Aborted (at + s.abort_delay) stood ∷ others q stamps
 stamped s (Some Cleared) q at stood stamps = others q stamps
 
 -- the revisions that an entry may mark
@@ -52,11 +54,11 @@ touched (Deploy r name ports) before = active_of before ∷ newest_of before ∷
 touched Retry before = newest_of before ∷ []
 touched (Outcome (Switched r)) before = active_of before ∷ r ∷ []
 touched (Outcome (ScaledDown r)) before = r ∷ []
-touched Abort before = active_of before ∷ stable_of before ∷ newest_of before ∷ []
+touched Abort before = active_of before ∷ newest_of before ∷ stable_of before ∷ []
 touched (Verdict analysis Failed) before =
-    active_of before ∷ stable_of before ∷ newest_of before ∷ []
+    active_of before ∷ newest_of before ∷ stable_of before ∷ []
 touched (Verdict analysis Error) before =
-    active_of before ∷ stable_of before ∷ newest_of before ∷ []
+    active_of before ∷ newest_of before ∷ stable_of before ∷ []
 touched _ before = []
 
 -- the stamps after an entry, as far as it marks these revisions
@@ -80,6 +82,7 @@ marks_of (stamp ∷ stamps) = stamp.mark ∷ marks_of stamps
 abbrev pub table_of : Strategy → List Entry → Table
 table_of s past = record {
   delay = s.delay;
+  abort_delay = s.abort_delay;
   limit = s.revision_limit;
   marks = marks_of (stamps_of s past);
 }

@@ -2,8 +2,9 @@
 use Rattle.std.specs.Prelude.{ℕ, List, Option}
 use Rattle.bg_scaledown.specs.declared.mark.RevisionMark.{RevisionMark}
 
--- the last mark of each revision, the newest first, with the delay and the limit
+-- the last mark of each revision, the newest first, with the two delays and the limit
 pub record Table : Type 0 where
   pub delay : ℕ
+  pub abort_delay : ℕ
   pub limit : Option ℕ
   pub marks : List RevisionMark

@@ -1,4 +1,4 @@
-//! The deadlines of the revisions that left the active service or were superseded.
+//! The deadlines of the revisions that left the active service, were superseded or were aborted.
 ghost use Rattle.std.specs.Prelude.{◌≡◌, ◌≤◌, ◌<◌, ◌+◌, ◌^◌, ℕ, Bool, true, List, [], ◌∷◌, length};
 ghost use Rattle.std.specs.Prelude.{◌&&◌, find, IfSome, IfNone};
 ghost use Rattle.bg_strategy.specs.declared.strategy.Strategy.{Strategy};
@@ -10,6 +10,7 @@ ghost use Rattle.bg_history.specs.Deadlines.{deadline as deadline_of_past};
 ghost use Rattle.bg_history.specs.Deadlines.{is_due as is_due_in_past};
 ghost use Rattle.bg_scaledown.specs.Due.{marks_without, has_room_for, deadline_in};
 ghost use Rattle.bg_scaledown.specs.Due.{exempts, is_due_in, IsLeastDue};
+ghost use Rattle.bg_scaledown.specs.Events.{with_aborted};
 ghost use Rattle.bg_scaledown.specs.Past.{table_of, DeadlinesStand};
 ghost use Rattle.bg_scaledown.specs.declared.mark.Cause.TheVariants.{Left, Superseded};
 
@@ -22,15 +23,16 @@ use bg_history::laws::existing_ascends;
 use bg_revisions::Selectors;
 use std::marker::Model;
 
-/// The last mark of each revision that left the active service or was superseded, in the order of
-/// the calls, with the delay and the limit of the strategy (Argo Rollouts, "BlueGreen Deployment
-/// Strategy": `scaleDownDelaySeconds` and `scaleDownDelayRevisionLimit`). Contracts see the newest
-/// mark first.
+/// The last mark of each revision that left the active service, was superseded or was aborted, in
+/// the order of the calls, with the delays and the limit of the strategy (Argo Rollouts, "BlueGreen
+/// Deployment Strategy": `scaleDownDelaySeconds`, `abortScaleDownDelaySeconds` and
+/// `scaleDownDelayRevisionLimit`). Contracts see the newest mark first.
 ///
 /// No call takes memory.
 #[derive(Drop)]
 pub struct Deadlines {
     delay: u32,
+    abort_delay: u32,
     limit: Option<u32>,
     marks: Marks,
 }
@@ -41,18 +43,30 @@ impl Model for Deadlines {
 
     ghost Value = { Table };
 
-    ghost view = { λ d. record { delay = d.delay; limit = d.limit; marks = d.marks } };
+    ghost view = { λ d. record {
+      delay = d.delay;
+      abort_delay = d.abort_delay;
+      limit = d.limit;
+      marks = d.marks;
+    } };
 
     ghost invariant = { λ d. length d.marks ≤ 64 };
 }
 
 impl Deadlines {
-    /// No mark; the delay is in seconds, and a limit of none is any number of revisions.
-    pub fn new(delay: u32, limit: Option<u32>) -> Deadlines
-        ensures { result ≡ record { delay = delay; limit = limit; marks = [] } }
+    /// No mark; the delays are in seconds, an aborted revision has no deadline where its delay is 0,
+    /// and a limit of none is any number of revisions.
+    pub fn new(delay: u32, abort_delay: u32, limit: Option<u32>) -> Deadlines
+        ensures { result ≡ record {
+          delay = delay;
+          abort_delay = abort_delay;
+          limit = limit;
+          marks = [];
+        } }
     {
         Deadlines {
             delay,
+            abort_delay,
             limit,
             marks: Marks::new(),
         }
@@ -90,6 +104,28 @@ impl Deadlines {
             cause: Cause::Superseded,
             deadline: now,
         });
+    }
+
+    /// The attempt of the revision was stopped: it stays scaled for the delay of an aborted revision,
+    /// and has no deadline where that is 0. The revision has a mark already, or fewer than 64
+    /// revisions have one.
+    pub fn aborted(&mut self, revision: u64, now: u64)
+        requires room { has_room_for (revision ∷ []) self.old.marks ≡ true }
+        requires moment { now ≤ 2 ^ 53 }
+        ensures { self.new ≡ record self.old {
+          marks = with_aborted revision now self.old.abort_delay self.old.marks;
+        } }
+    {
+        if self.abort_delay > 0 {
+            let deadline = now + self.abort_delay as u64;
+            self.set_mark(RevisionMark {
+                revision,
+                cause: Cause::Aborted,
+                deadline,
+            });
+        } else {
+            self.clear(revision);
+        }
     }
 
     /// This is now the last mark of its revision.

@@ -12,15 +12,14 @@ ghost use Rattle.bg_scaledown.specs.Past.{table_of, DeadlinesStand};
 
 use bg_history::laws::existing_ascends;
 
-/// While the active and the newest revision exist and have no deadline, and no more than 64
-/// revisions exist, there is room for each revision that the next entry marks, also where it marks
-/// two.
+/// While the active and the newest revision exist, the active one has no deadline, and no more than
+/// 64 revisions exist, there is room for each revision that the next entry marks, also where it
+/// marks two.
 pub fn next_has_room()
     ensures { (s : Strategy) (past : List Entry) (next : Entry) → DeadlinesStand s past
         → IsTrue (exists_in (active_of past) past)
         → IsFalse (is_some (deadline s (active_of past) past))
         → IsTrue (exists_in (newest_of past) past)
-        → IsFalse (is_some (deadline s (newest_of past) past))
         → length (existing past) ≤ 64
         → has_room_for (may_mark next (selectors_of past)) (table_of s past).marks ≡ true }
 {

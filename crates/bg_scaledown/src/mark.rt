@@ -9,6 +9,8 @@ pub enum Cause {
     Left,
     /// A deploy took its place before it was active: it may be scaled down at once.
     Superseded,
+    /// Its attempt was stopped: it stays scaled for the delay of an aborted revision.
+    Aborted,
 }
 
 /// The last mark of a revision.
@@ -28,7 +30,7 @@ impl Cause {
     {
         match self {
             Cause::Left => true,
-            Cause::Superseded => false,
+            Cause::Superseded | Cause::Aborted => false,
         }
     }
 }

@@ -59,4 +59,5 @@ pub record IsStrategyOf (d : Data) (s : Strategy) : Type 0 where
   pub post : s.post ≡ is_set field.PostPromotionAnalysis d
   pub delay : s.delay ≡ unwrap_or (number_of field.ScaleDownDelaySeconds d) 30
   pub revision_limit : s.revision_limit ≡ number_of field.ScaleDownDelayRevisionLimit d
+  pub abort_delay : s.abort_delay ≡ unwrap_or (number_of field.AbortScaleDownDelaySeconds d) 30
   pub history_limit : s.history_limit ≡ unwrap_or (number_of field.RevisionHistoryLimit d) 10

@@ -48,6 +48,8 @@ entry_of field.ScaleDownDelaySeconds =
     optional inside.BlueGreen (codes "scaleDownDelaySeconds") (Number 0 greatest)
 entry_of field.ScaleDownDelayRevisionLimit =
     optional inside.BlueGreen (codes "scaleDownDelayRevisionLimit") (Number 0 greatest)
+entry_of field.AbortScaleDownDelaySeconds =
+    optional inside.BlueGreen (codes "abortScaleDownDelaySeconds") (Number 0 greatest)
 entry_of field.PrePromotionAnalysis =
     optional inside.BlueGreen (codes "prePromotionAnalysis") Anything
 entry_of field.PostPromotionAnalysis =
@@ -58,5 +60,5 @@ abbrev pub fields : List Field
 fields = field.Document ∷ field.Spec ∷ field.Replicas ∷ field.RevisionHistoryLimit ∷ field.Strategy
     ∷ field.BlueGreen ∷ field.ActiveService ∷ field.PreviewService ∷ field.PreviewReplicaCount
     ∷ field.AutoPromotionEnabled ∷ field.AutoPromotionSeconds ∷ field.ScaleDownDelaySeconds
-    ∷ field.ScaleDownDelayRevisionLimit ∷ field.PrePromotionAnalysis
-    ∷ field.PostPromotionAnalysis ∷ []
+    ∷ field.ScaleDownDelayRevisionLimit ∷ field.AbortScaleDownDelaySeconds
+    ∷ field.PrePromotionAnalysis ∷ field.PostPromotionAnalysis ∷ []

@@ -53,6 +53,7 @@ fn strategy_of(alloc: Global, document: &Value) -> Result<Strategy, AllocError>
         post: is_set(Field::PostPromotionAnalysis, document),
         delay: number_or(Field::ScaleDownDelaySeconds, document, 30),
         revision_limit: number_of(Field::ScaleDownDelayRevisionLimit, document),
+        abort_delay: number_or(Field::AbortScaleDownDelaySeconds, document, 30),
         history_limit: number_or(Field::RevisionHistoryLimit, document, 10),
     })
 }

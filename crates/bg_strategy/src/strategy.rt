@@ -29,6 +29,9 @@ pub struct Strategy {
     pub delay: u32,
     /// How many old revisions may stay scaled: `scaleDownDelayRevisionLimit`; none is any number.
     pub revision_limit: Option<u32>,
+    /// The seconds that an aborted revision stays scaled: `abortScaleDownDelaySeconds`; 0 is for
+    /// ever.
+    pub abort_delay: u32,
     /// How many old revisions are kept: `revisionHistoryLimit`.
     pub history_limit: u32,
     ghost some_replica: { 1 ≤ replicas },
@@ -53,6 +56,7 @@ impl Clone for Strategy {
             post: self.post,
             delay: self.delay,
             revision_limit: self.revision_limit,
+            abort_delay: self.abort_delay,
             history_limit: self.history_limit,
         })
     }

@@ -34,6 +34,8 @@ pub enum Field {
     ScaleDownDelaySeconds,
     /// `scaleDownDelayRevisionLimit` of `blueGreen`; no limit where it is absent.
     ScaleDownDelayRevisionLimit,
+    /// `abortScaleDownDelaySeconds` of `blueGreen`; 30 where it is absent.
+    AbortScaleDownDelaySeconds,
     /// `prePromotionAnalysis` of `blueGreen`, anything.
     PrePromotionAnalysis,
     /// `postPromotionAnalysis` of `blueGreen`, anything.
@@ -41,7 +43,7 @@ pub enum Field {
 }
 
 /// The fields in order.
-pub(crate) const FIELDS: [Field; 15] = [
+pub(crate) const FIELDS: [Field; 16] = [
     Field::Document,
     Field::Spec,
     Field::Replicas,
@@ -55,6 +57,7 @@ pub(crate) const FIELDS: [Field; 15] = [
     Field::AutoPromotionSeconds,
     Field::ScaleDownDelaySeconds,
     Field::ScaleDownDelayRevisionLimit,
+    Field::AbortScaleDownDelaySeconds,
     Field::PrePromotionAnalysis,
     Field::PostPromotionAnalysis,
 ];
@@ -101,6 +104,7 @@ impl Field {
             Field::AutoPromotionSeconds => "autoPromotionSeconds",
             Field::ScaleDownDelaySeconds => "scaleDownDelaySeconds",
             Field::ScaleDownDelayRevisionLimit => "scaleDownDelayRevisionLimit",
+            Field::AbortScaleDownDelaySeconds => "abortScaleDownDelaySeconds",
             Field::PrePromotionAnalysis => "prePromotionAnalysis",
             Field::PostPromotionAnalysis => "postPromotionAnalysis",
         }
@@ -121,6 +125,7 @@ impl Field {
             | Field::AutoPromotionSeconds
             | Field::ScaleDownDelaySeconds
             | Field::ScaleDownDelayRevisionLimit
+            | Field::AbortScaleDownDelaySeconds
             | Field::PrePromotionAnalysis
             | Field::PostPromotionAnalysis => Place::BlueGreen,
         }
@@ -139,7 +144,8 @@ impl Field {
             Field::RevisionHistoryLimit
             | Field::AutoPromotionSeconds
             | Field::ScaleDownDelaySeconds
-            | Field::ScaleDownDelayRevisionLimit => Kind::Number {
+            | Field::ScaleDownDelayRevisionLimit
+            | Field::AbortScaleDownDelaySeconds => Kind::Number {
                 least: 0,
                 most: GREATEST,
             },

@@ -100,7 +100,11 @@ impl<N: Names> Rollout<N> {
         ensures err { IfErr result (λ e. e ≡ OutOfMemory) }
     {
         let core = Core::new(&strategy);
-        let deadlines = Deadlines::new(strategy.delay, strategy.revision_limit);
+        let deadlines = Deadlines::new(
+            strategy.delay,
+            strategy.abort_delay,
+            strategy.revision_limit,
+        );
         let history = History::new(alloc, seats, name, ports)?;
         let roster = first_roster(alloc, strategy.replicas, name, ports)?;
         let lists = RequestLists::new(alloc)?;

@@ -1,7 +1,8 @@
 //! How an event that isn't refused is recorded.
 ghost use Rattle.std.specs.Prelude.{◌≡◌, ◌≤◌, ◌+◌, ◌∷◌, true, length, map, max, unwrap_or, Some, None, IsSome, IfSome, OnOk, OnErr};
 ghost use Rattle.bg_revisions.specs.Rosters.{numbered, resized};
-ghost use Rattle.bg_history.specs.Sizes.{last_number};
+ghost use Rattle.bg_history.specs.Turns.{newest_of};
+ghost use Rattle.bg_history.specs.Sizes.{last_number, is_scaled};
 ghost use Rattle.bg_history.specs.Templates.{owner as owner_of};
 ghost use Rattle.bg_history.specs.Allowed.{is_allowed};
 ghost use Rattle.bg_history.specs.declared.entry.Entry.TheVariants as entry;
@@ -84,8 +85,8 @@ impl<N: Names> Rollout<N> {
         keeps();
         next_has_room();
         reachable();
-        self.deadlines
-            .record(&entry, self.core.selectors(), self.moment);
+        let newest_is_scaled = self.newest_is_scaled();
+        self.deadlines.record(&entry, self.core.selectors(), newest_is_scaled, self.moment);
         self.core = core;
         self.history.push_reserved(entry);
     }
@@ -103,8 +104,10 @@ impl<N: Names> Rollout<N> {
         next_has_room();
         reachable();
         resizes();
+        let newest_is_scaled = self.newest_is_scaled();
         let selectors = self.core.selectors();
-        self.deadlines.record(&Entry::Retry, selectors, self.moment);
+        self.deadlines
+            .record(&Entry::Retry, selectors, newest_is_scaled, self.moment);
         grow(
             &mut self.roster,
             selectors.newest,
@@ -160,13 +163,15 @@ impl<N: Names> Rollout<N> {
         next_has_room();
         reachable();
         resizes();
+        let newest_is_scaled = self.newest_is_scaled();
         let selectors = self.core.selectors();
         let entry = Entry::Deploy {
             revision,
             name,
             ports,
         };
-        self.deadlines.record(&entry, selectors, self.moment);
+        self.deadlines
+            .record(&entry, selectors, newest_is_scaled, self.moment);
         if revision != selectors.stable {
             grow(&mut self.roster, revision, self.strategy.preview_replicas);
         }
@@ -191,6 +196,7 @@ impl<N: Names> Rollout<N> {
         names();
         next_has_room();
         reachable();
+        let newest_is_scaled = self.newest_is_scaled();
         let size = self.strategy.preview_replicas;
         let Ok(revision) = self.roster.add(name.get(), ports.get(), size) else {
             return Err(AllocError);
@@ -201,11 +207,24 @@ impl<N: Names> Rollout<N> {
             name,
             ports,
         };
-        self.deadlines
-            .record(&entry, self.core.selectors(), self.moment);
+        self.deadlines.record(&entry, self.core.selectors(), newest_is_scaled, self.moment);
         self.core.deploy(revision);
         self.history.push_reserved(entry);
         Ok(())
+    }
+
+    /// Whether the newest revision is scaled.
+    pub(super) fn newest_is_scaled(&self) -> bool
+        ensures { let b = self.now.routing in
+            result ≡ is_scaled b.strategy (newest_of b.past) b.past }
+    {
+        finds();
+        reachable();
+        let newest = self.core.selectors().newest;
+        match self.roster.find_number(newest) {
+            Some(revision) => revision.desired > 0,
+            None => false,
+        }
     }
 }
 

@@ -137,9 +137,9 @@ impl<N: Names> Rollout<N> {
         removes();
         resizes();
         neutral(&self.core);
+        let newest_is_scaled = self.newest_is_scaled();
         let entry = Entry::Outcome(outcome);
-        self.deadlines
-            .record(&entry, self.core.selectors(), self.moment);
+        self.deadlines.record(&entry, self.core.selectors(), newest_is_scaled, self.moment);
         match outcome {
             Outcome::Resumed(revision) => {
                 self.roster.set_desired(revision, self.strategy.replicas);

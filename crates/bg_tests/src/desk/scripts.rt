@@ -1,7 +1,7 @@
 //! The scripts that are played at a book and at a desk.
 
 /// What `blueGreen` has beside the active service, and the lines after `open v1 9001 9002`.
-pub(crate) const ROWS: [(&str, &str); 17] = [
+pub(crate) const ROWS: [(&str, &str); 22] = [
     // drops the entries of closed requests, and of neighbouring ticks all but the last
     (
         "",
@@ -154,6 +154,63 @@ report
 abort
 report
 tick 30",
+    ),
+    // aborted revision after its delay
+    (
+        r#", "prePromotionAnalysis": {"templates": []}"#,
+        "deploy v2 9101 9102
+available 2 2
+promote
+verdict pre failed
+tick 29
+tick 30
+report
+available 2 1
+retry
+report
+available 2 2",
+    ),
+    // aborted revision drains
+    (
+        r#", "postPromotionAnalysis": {}"#,
+        "available 1 2
+deploy v2 9101 9102
+available 2 2
+enter 0 active
+abort
+tick 30
+report
+leave 0
+report",
+    ),
+    // aborted revision stays
+    (
+        r#", "postPromotionAnalysis": {}, "abortScaleDownDelaySeconds": 0"#,
+        "available 1 2
+deploy v2 9101 9102
+available 2 2
+verdict post error
+tick 60
+report",
+    ),
+    // abort at the latest moment
+    (
+        r#", "abortScaleDownDelaySeconds": 2147483647"#,
+        "tick 9007199254740992
+deploy v2 9101 9102
+abort
+report
+deploy v1 9001 9002",
+    ),
+    // unscaled revision isn't superseded
+    (
+        r#", "prePromotionAnalysis": {"templates": []}"#,
+        "deploy v2 9101 9102
+available 2 2
+verdict pre failed
+tick 30
+deploy v3 9201 9202
+report",
     ),
     // full promotion
     (

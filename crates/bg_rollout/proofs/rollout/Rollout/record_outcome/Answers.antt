@@ -27,7 +27,7 @@ use Rattle.std.proofs.lemmas.Bool.Decides.{nat_tests}
 use Rattle.bg_history.specs.Allowed.{is_allowed}
 use Rattle.bg_history.specs.Deadlines.{exists_in}
 use Rattle.bg_rollout.proofs.Lists.{empty_list, lists-Removed}
-use Rattle.bg_rollout.proofs.Marking.{room_for_next}
+use Rattle.bg_rollout.proofs.Marking.{room_for_next, scaled_inside}
 use Rattle.bg_rollout.proofs.Outcomes.{first_is_allowed, step_is_first, no_step_is_neutral, resumed_is_newest, scaled_down_exists, removed_was}
 use Rattle.bg_rollout.proofs.Carrying.{Carries, stands_recorded, recorded_by, recorded_left}
 use Rattle.bg_rollout.proofs.rollout.Rollout.record_outcome.Given.{Over}
@@ -214,7 +214,7 @@ carried g c =
       revisions = left.follows.revisions;
       replicas = left.follows.replicas;
       last = left.follows.last ∙ stand.last;
-      deadlines = c.record.ensures b.strategy b.past stand.deadlines (c.selectors.ensures b.strategy b.past stand.core) stand.moment;
+      deadlines = c.record.ensures b.strategy b.past stand.deadlines (c.selectors.ensures b.strategy b.past stand.core) (scaled_inside _ _ _ c.self.view_is c.newest_is_scaled-newest_is_scaled.ensures) stand.moment;
       moment = stand.moment;
       given = refl;
       open_is = refl;

@@ -2,7 +2,7 @@ use Rattle.std.proofs.Common.{refl, sym, ◌∙◌}
 use Rattle.bg_rollout.specs.Invariant.{Stands, midway_of, running_of}
 use Rattle.bg_rollout.proofs.Carrying.{Carries, stands_recorded, recorded_by, allowed_inside, core_inside}
 use Rattle.bg_rollout.proofs.Commands.{Leaves, command_leaves}
-use Rattle.bg_rollout.proofs.Marking.{room_for_next}
+use Rattle.bg_rollout.proofs.Marking.{room_for_next, scaled_inside}
 use Rattle.bg_rollout.proofs.rollout.Rollout.take_command.Given.{Over}
 use Rattle.bg_rollout.proofs.rollout.Rollout.take_command.Goals as goal
 
@@ -28,7 +28,7 @@ carried g c =
       revisions = stand.revisions ∙ sym (c.keeps.ensures b.strategy b.opening b.past e leaves.sizes);
       replicas = refl;
       last = stand.last ∙ sym leaves.last;
-      deadlines = c.record.ensures b.strategy b.past stand.deadlines (c.selectors.ensures b.strategy b.past stand.core) stand.moment;
+      deadlines = c.record.ensures b.strategy b.past stand.deadlines (c.selectors.ensures b.strategy b.past stand.core) (scaled_inside _ _ _ c.self.view_is c.newest_is_scaled-newest_is_scaled.ensures) stand.moment;
       moment = stand.moment ∙ sym leaves.moment;
       given = refl;
       open_is = refl;

@@ -23,7 +23,7 @@ use Rattle.bg_rollout.proofs.Requests.{eq_from}
 use Rattle.bg_rollout.proofs.Carrying.{Carries, stands_recorded, recorded_by, recorded_left, allowed_inside}
 use Rattle.bg_rollout.proofs.Events.{found_there, grown}
 use Rattle.bg_rollout.proofs.Deploys.{owner_exists, lists_known}
-use Rattle.bg_rollout.proofs.Marking.{room_for_next}
+use Rattle.bg_rollout.proofs.Marking.{room_for_next, scaled_inside}
 use Rattle.bg_rollout.proofs.rollout.Rollout.take_known.Given.{Over}
 use Rattle.bg_rollout.proofs.rollout.Rollout.take_known.Goals as goal
 use Rattle.bg_rollout.proofs.rollout.Rollout.take_known.Goals.{then-revision-selectors, else-revision-selectors}
@@ -117,7 +117,7 @@ carried g c =
       revisions = left.revisions;
       replicas = left.replicas;
       last = left.last ∙ stand.last ∙ sym (below_last r (last_number b.past) (reach.given_to r there));
-      deadlines = c.record.ensures b.strategy b.past stand.deadlines (c.selectors-selectors.ensures b.strategy b.past stand.core) stand.moment;
+      deadlines = c.record.ensures b.strategy b.past stand.deadlines (c.selectors-selectors.ensures b.strategy b.past stand.core) (scaled_inside _ _ _ c.self.view_is c.newest_is_scaled-newest_is_scaled.ensures) stand.moment;
       moment = stand.moment;
       given = refl;
       open_is = refl;

@@ -16,7 +16,7 @@ use Rattle.bg_rollout.specs.Invariant.{Midway, Stands, midway_of, running_of}
 use Rattle.bg_rollout.proofs.Requests.{and_parts}
 use Rattle.bg_rollout.proofs.Carrying.{Carries, stands_recorded, recorded_by, allowed_inside}
 use Rattle.bg_rollout.proofs.Deploys.{lists_new}
-use Rattle.bg_rollout.proofs.Marking.{room_for_next}
+use Rattle.bg_rollout.proofs.Marking.{room_for_next, scaled_inside}
 use Rattle.bg_rollout.proofs.rollout.Rollout.take_new.Given.{Over}
 use Rattle.bg_rollout.proofs.rollout.Rollout.take_new.Goals as goal
 
@@ -82,7 +82,7 @@ carried g c =
       replicas = ap (λ (l : Listing). l.replicas) roster;
       last = ap (λ (l : Listing). l.last) roster ∙ sym (above_last r (last_number b.past) (omega arith));
       deadlines = subst (λ (n : ℕ). c.record.new.self ≡ table_of b.strategy (event.Deploy n name ports ∷ b.past)) (number_is g c)
-          (c.record.ensures b.strategy b.past stand.deadlines (c.selectors.ensures b.strategy b.past stand.core) stand.moment);
+          (c.record.ensures b.strategy b.past stand.deadlines (c.selectors.ensures b.strategy b.past stand.core) (scaled_inside _ _ _ c.self.view_is c.newest_is_scaled-newest_is_scaled.ensures) stand.moment);
       moment = stand.moment;
       given = refl;
       open_is = refl;

@@ -9,7 +9,7 @@ use Rattle.bg_history_facts.specs.Reachable.{Reachable}
 use Rattle.bg_rollout.specs.Invariant.{Stands, midway_of, running_of}
 use Rattle.bg_rollout.proofs.Carrying.{Carries, stands_recorded, recorded_by, allowed_inside, core_inside}
 use Rattle.bg_rollout.proofs.Events.{grown}
-use Rattle.bg_rollout.proofs.Marking.{room_for_next}
+use Rattle.bg_rollout.proofs.Marking.{room_for_next, scaled_inside}
 use Rattle.bg_rollout.proofs.rollout.Rollout.take_retry.Given.{Over}
 use Rattle.bg_rollout.proofs.rollout.Rollout.take_retry.Goals as goal
 
@@ -53,7 +53,7 @@ carried g c =
       revisions = ap (λ (l : Listing). l.revisions) roster ∙ ap (map (resized _ _)) stand.revisions ∙ sym (c.resizes.ensures.retry b.strategy b.opening b.past);
       replicas = ap (λ (l : Listing). l.replicas) roster;
       last = ap (λ (l : Listing). l.last) roster ∙ stand.last;
-      deadlines = c.record.ensures b.strategy b.past stand.deadlines (c.selectors-selectors.ensures b.strategy b.past stand.core) stand.moment;
+      deadlines = c.record.ensures b.strategy b.past stand.deadlines (c.selectors-selectors.ensures b.strategy b.past stand.core) (scaled_inside _ _ _ c.self.view_is c.newest_is_scaled-newest_is_scaled.ensures) stand.moment;
       moment = stand.moment;
       given = refl;
       open_is = refl;

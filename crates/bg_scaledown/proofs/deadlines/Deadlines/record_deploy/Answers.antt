@@ -4,7 +4,7 @@ use Rattle.bg_scaledown.specs.Due.{has_room_for}
 use Rattle.bg_scaledown.specs.Events.{marked_by_deploy, replaces_newest, goes_back}
 use Rattle.bg_scaledown.proofs.Room.{deploy-dropped, room-newest, room-both, room-active}
 use Rattle.bg_scaledown.proofs.deadlines.Deadlines.record_deploy.Goals as goal
-use Rattle.bg_scaledown.proofs.deadlines.Deadlines.record_deploy.Goals.{then-revision-selectors, else-revision-selectors+else-selectors-revision, then-selectors+then-selectors-2, else-selectors}
+use Rattle.bg_scaledown.proofs.deadlines.Deadlines.record_deploy.Goals.{then-revision-selectors, else-revision-selectors+else-selectors-revision, then-selectors+then-selectors-2+then-newest_is_scaled, else-selectors}
 
 pub superseded-requires : goal.superseded-requires
 superseded-requires c =
@@ -23,7 +23,7 @@ left_active-requires-clause-room c =
     ] in
     let back : goes_back c.args.revision c.args.selectors ≡ true = grind (arith, nat_tests, c.if-revision-selectors-2.true, c.if-selectors-revision-2.true) in
     elim c.if-selectors.branch [
-      | then-selectors+then-selectors-2 w ↦
+      | then-selectors+then-selectors-2+then-newest_is_scaled w ↦
           let replaces : replaces_newest c.args.selectors ≡ true = grind (arith, nat_tests, w.if-selectors.true, w.if-selectors-2.true) in
           rw (w.self-is, w.superseded.ensures) (room-both c.args.revision c.args.selectors _ c.if-revision-selectors.self.marks room replaces back refl)
       | else-selectors w ↦ rw w.self-is (room-active c.args.revision c.args.selectors c.if-revision-selectors.self.marks room back)
