@@ -1,9 +1,10 @@
-"""`bg_switch serve` on loopback: how long it bears with slow clients and endpoints, ports that close once their connections
-are used up, and what it says on standard error.
+"""`bg_switch serve` on loopback: how long it bears with slow clients and endpoints, requests that it gives up, ports that
+close once their connections are used up, and what it says on standard error.
 
 Where a test waits for the limit on a message, the limit is set to few seconds (BG_SWITCH_PATIENCE_SECONDS).
 """
 import contextlib
+import itertools
 import os
 import socket
 import subprocess
@@ -19,6 +20,9 @@ ROLLOUT = '{"spec": {"strategy": {"blueGreen": {"activeService": "web", "preview
 REQUEST = b"GET / HTTP/1.1\r\nHost: x\r\n\r\n"
 ANSWER = b"HTTP/1.1 200 OK\r\nContent-Length: 2\r\n\r\nok"
 BAD_GATEWAY = b"HTTP/1.1 502 Bad Gateway\r\nContent-Length: 0\r\nConnection: close\r\n\r\n"
+UNAVAILABLE = b"HTTP/1.1 503 Service Unavailable\r\nContent-Length: 0\r\nConnection: close\r\n\r\n"
+# A revision is due 5 seconds after it was left, and its requests are given up 10 seconds later.
+DRAINS = '{"spec": {"strategy": {"blueGreen": {"activeService": "web", "scaleDownDelaySeconds": 5, "drainLimitSeconds": 10}}}}'
 # How long, in seconds, a message may take in these tests, and what comes on top: a client that wasn't read whole is read on
 # for a second, and the machine may be busy.
 PATIENCE = 4
@@ -56,18 +60,22 @@ def get(port, pieces=(REQUEST,), pause=0.0):
         return received(client), time.monotonic() - start
 
 
-def start_endpoint(pieces, pause=0.0):
-    """The port of an endpoint that answers each request with these pieces."""
+def start_endpoint(pieces, pause=0.0, silent_after=None):
+    """The port of an endpoint that answers each request with these pieces, but says nothing to those after so many."""
     listener = socket.create_server(("127.0.0.1", 0), backlog=64)
 
-    def answer(connection):
+    def answer(connection, is_silent):
         with connection:
             connection.recv(65536)
-            send_in_pieces(connection, pieces, pause)
+            if is_silent:
+                received(connection)
+            else:
+                send_in_pieces(connection, pieces, pause)
 
     def serve():
-        while True:
-            threading.Thread(target=answer, args=(listener.accept()[0],), daemon=True).start()
+        for number in itertools.count():
+            is_silent = silent_after is not None and number >= silent_after
+            threading.Thread(target=answer, args=(listener.accept()[0], is_silent), daemon=True).start()
 
     threading.Thread(target=serve, daemon=True).start()
     return listener.getsockname()[1]
@@ -76,7 +84,7 @@ def start_endpoint(pieces, pause=0.0):
 class Switch:
     """A running `serve` whose book is open, with one endpoint."""
 
-    def __init__(self, endpoint, workers, count, patience=None):
+    def __init__(self, endpoint, workers, count, patience=None, rollout=ROLLOUT):
         self.active, self.preview, self.control = free_ports(3)
         self.left = {self.active: workers * count, self.preview: count}
         environment = {name: value for name, value in os.environ.items() if name != "BG_SWITCH_PATIENCE_SECONDS"}
@@ -87,7 +95,7 @@ class Switch:
              "--workers", str(workers), "--count", str(count)],
             stdin=subprocess.PIPE, stdout=subprocess.PIPE, text=True, env=environment)
         live.limit(self.process)
-        self.process.stdin.write(ROLLOUT)
+        self.process.stdin.write(rollout)
         self.process.stdin.close()
         # `communicate` is to leave it alone
         self.process.stdin = None
@@ -100,6 +108,13 @@ class Switch:
     def order(self, line):
         self.operator.sendall(line.encode() + b"\n")
         return self.replies.readline().rstrip("\n")
+
+    def report(self):
+        """The lines of a report that tell of a revision."""
+        lines = [self.order("report")]
+        while lines[-1] != "end":
+            lines.append(self.replies.readline().rstrip("\n"))
+        return [line for line in lines if line.startswith("revision ")]
 
     def get(self, *words, **more):
         self.left[self.active] -= 1
@@ -178,6 +193,32 @@ def slow_endpoints():
     answer, seconds = switch.get()
     check("a response in pieces", (answer.endswith(b"\r\n\r\nok"), seconds < PATIENCE), (True, True))
     check("the end after a response in pieces", switch.end(), (["calls 2"], 0))
+
+
+def given_up():
+    """A download that goes on and on, and an endpoint that is silent, once their revision has drained for too long."""
+    head = b"HTTP/1.1 200 OK\r\nContent-Length: 1000\r\n\r\n"
+    switch = Switch(start_endpoint([head, *[b"x"] * 1000], 0.1, silent_after=1), workers=3, count=2, rollout=DRAINS)
+    ends = []
+    clients = [threading.Thread(target=lambda: ends.append(switch.get()), daemon=True) for _ in range(2)]
+    for client in clients:
+        client.start()
+        time.sleep(0.5)
+    for line, reply in ((f"deploy two {start_endpoint([ANSWER])}", "ok 0"), ("available 2 1", "ok 4"), ("tick 14", "ok 0")):
+        check(f"{line.split()[0]} beside open requests", switch.order(line), reply)
+    time.sleep(2.5)
+    check("downloads before the limit", (ends, switch.report()[0]),
+          ([], "revision 1 one desired 1 available 1 open 2 deadline 5 draining"))
+    start = time.monotonic()
+    check("the tick to the limit", switch.order("tick 15"), "ok 0")
+    answer, _ = switch.get()
+    check("a request beside those that are given up", answer.endswith(b"\r\n\r\nok"), True)
+    for client in clients:
+        client.join(LONGEST)
+    check("downloads past the limit", ([answer for answer, _ in ends], time.monotonic() - start <= SLACK), ([UNAVAILABLE] * 2, True))
+    check("their revision", switch.report(), ["revision 1 one desired 0 available 0 open 0 deadline none",
+                                              "revision 2 two desired 1 available 1 open 0 deadline none"])
+    check("the end after downloads that were given up", switch.end(), (["calls 6"], 0))
 
 
 def limits_that_are_none():
@@ -278,6 +319,7 @@ def main():
     seven_slow_clients()
     slow_requests()
     slow_endpoints()
+    given_up()
     limits_that_are_none()
     connections_used_up()
     a_client_too_many()

@@ -23,6 +23,7 @@ class Revision:
     open: int
     deadline: int | None
     draining: bool
+    cut: bool
 
     def title(self):
         return f"revision {self.number} {self.name}"
@@ -40,9 +41,10 @@ class Report:
 
 
 def read_revision(words):
-    """A line `revision R NAME desired D available A open O deadline T [draining]`."""
-    deadline = None if words[10] == "none" else int(words[10])
-    return Revision(int(words[1]), words[2], int(words[4]), int(words[6]), int(words[8]), deadline, words[-1] == "draining")
+    """A line `revision R NAME desired D available A open O deadline T [draining [cut]]`."""
+    deadline, marks = None if words[10] == "none" else int(words[10]), words[11:]
+    return Revision(int(words[1]), words[2], int(words[4]), int(words[6]), int(words[8]), deadline,
+                    "draining" in marks, "cut" in marks)
 
 
 def read_report(lines):
@@ -65,6 +67,8 @@ def scale_down(revision, moment):
     """What is to be said of a revision's scale-down."""
     if revision.desired == 0:
         return "scaled down"
+    if revision.cut:
+        return "draining: its open requests are given up"
     if revision.draining:
         return "draining: waits for its open requests"
     if revision.deadline is None:
@@ -105,6 +109,8 @@ def revision_changes(before, now):
         yield f"{now.title()}: scale-down at moment {told(before.deadline)} -> {told(now.deadline)}"
     if before.draining != now.draining:
         yield f"{now.title()}: " + (f"draining, {now.open} open" if now.draining else "no longer draining")
+    if now.cut and not before.cut:
+        yield f"{now.title()}: past its drain limit, {now.open} open"
 
 
 def changes(before, now):

@@ -6,6 +6,7 @@ ghost use Rattle.bg_rollout.specs.Changes.{seat_in};
 ghost use Rattle.bg_book.specs.Desks.{StepsTo};
 ghost use Rattle.bg_book.specs.Headline.{Headline};
 ghost use Rattle.bg_rollout.specs.Meeting.{Meets};
+ghost use Rattle.bg_rollout.specs.PastState.{goes_on};
 ghost use Rattle.bg_rollout.specs.Refusals.{control_refusal, enter_refusal, AnswersBy, IsTicket};
 ghost use Rattle.bg_rollout.specs.Routing.{Routing};
 ghost use Rattle.bg_rollout.specs.declared.control_fault.ControlFault.TheVariants as control_fault;
@@ -15,7 +16,7 @@ use crate::book::Book;
 use crate::laws::headline;
 use bg_ledger::{Names, Seat};
 use bg_revisions::Service;
-use bg_rollout::{Control, ControlFault, EnterFault, Left, Ticket};
+use bg_rollout::{Control, ControlFault, EnterFault, GoOn, Left, Ticket};
 use std::sync::{Mutex, Wait};
 
 /// What is asked of a book under its desk's lock.
@@ -77,6 +78,18 @@ impl<N: Names> Desk<N> {
         let book = &mut *locked;
         headline(book);
         book.leave(seat)
+    }
+
+    /// [`Book::may_go_on`].
+    pub fn may_go_on<R: Wait>(&self, rt: &R, seat: &mut Seat<N>) -> GoOn
+        ensures seat { seat.new ≡ seat.old }
+        ensures told { (b : Routing) × Headline b × Meets b seat.old
+            × (result ≡ goes_on b.strategy seat.old.index b.past) }
+    {
+        let mut locked = self.book.lock(rt);
+        let book = &mut *locked;
+        headline(book);
+        book.may_go_on(seat)
     }
 
     /// [`Book::control`].

@@ -14,7 +14,7 @@ pub mod laws;
 mod open_book;
 
 pub use bg_rollout::{
-    Control, ControlFault, EnterFault, GatherFault, Left, Limits, OpenFault, Ticket,
+    Control, ControlFault, EnterFault, GatherFault, GoOn, Left, Limits, OpenFault, Ticket,
 };
 pub use book::Book;
 pub use calls::{Call, Reply};

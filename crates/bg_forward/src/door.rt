@@ -6,7 +6,7 @@ ghost use Rattle.bg_rollout.specs.Refusals.{IsTicket, enter_refusal};
 ghost use Rattle.bg_rollout.specs.Routing.{Routing};
 
 use crate::gate::Gate;
-use bg_book::{Desk, EnterFault, Left, Ticket};
+use bg_book::{Desk, EnterFault, GoOn, Left, Ticket};
 use bg_ledger::{Names, Seat};
 use bg_revisions::Service;
 use std::sync::Wait;
@@ -16,8 +16,8 @@ use std::sync::Wait;
 /// shows.
 const REQUESTS_BETWEEN_COMPACTIONS: u64 = 1 << 15;
 
-/// A desk, with the handle by which its lock is awaited. It meets [`Gate`] by [`Desk::enter`] and
-/// [`Desk::leave`], and keeps the history small: it compacts it now and then, and where it is full.
+/// A desk, with the handle by which its lock is awaited. It meets [`Gate`] by [`Desk::enter`],
+/// [`Desk::may_go_on`] and [`Desk::leave`], and keeps the history small: it compacts it now and then, and where it is full.
 #[derive(Drop)]
 pub struct Door<'a, N: Names, R> {
     rt: &'a R,
@@ -44,6 +44,10 @@ impl<N: Names, R: Wait> Gate<N> for Door<'_, N, R> {
             }
             answer => answer,
         }
+    }
+
+    fn may_go_on(&self, seat: &mut Seat<N>) -> GoOn {
+        self.desk.may_go_on(self.rt, seat)
     }
 
     fn leave(&self, seat: &mut Seat<N>) -> Left {

@@ -1,6 +1,5 @@
-//! What is done with a request that entered, and what its client is answered. No seat and no gate
-//! is seen here.
-ghost use Rattle.std.specs.Prelude.{◌≡◌, ◌⊎◌, [], IfErr, IsTrue, OnOk, Ok};
+//! What is done with a request that entered, and what its client is answered.
+ghost use Rattle.std.specs.Prelude.{◌≡◌, ◌<◌, ◌⊎◌, [], IfErr, IsTrue, OnOk, Ok};
 ghost use Rattle.std.specs.Io.KnownBytes.{Appends};
 ghost use Rattle.bg_http.specs.Statuses.{is_refusal};
 ghost use Rattle.bg_http.specs.Texts.{refusal_text, response_text};
@@ -10,50 +9,110 @@ ghost use Rattle.bg_forward.specs.Connections.{WroteLast};
 ghost use Rattle.bg_forward.specs.declared.serving.End.TheVariants as end;
 
 use crate::buffered::Buffered;
+use crate::gate::Gate;
 use crate::serving::End;
 use crate::streams::Dial;
-use bg_http::{Request, Response, write_refusal, write_request, write_response};
-use bg_http_read::read_response;
+use bg_book::GoOn;
+use bg_http::{MOST_TURNS, Request, Response, write_refusal, write_request, write_response};
+use bg_http_read::ResponseParser;
+use bg_ledger::{Names, Seat};
 use std::alloc::Global;
 use std::io;
-use std::io::Write;
+use std::io::{ErrorKind, Read, Write};
+
+/// How many bytes of a response are asked for at once.
+const PIECE: usize = 8192;
 
 /// Forwards a request to a port, and answers its client with the response or a refusal.
-pub(crate) fn exchange<S: Write, D: Dial>(
+pub(crate) fn exchange<N: Names, G: Gate<N>, S: Write, D: Dial>(
     alloc: Global,
+    gate: &G,
+    seat: &mut Seat<N>,
     request: &Request,
     port: u16,
     client: &mut Buffered<S>,
     dial: &D,
 ) -> End
-    requires { held client.old ≡ [] }
+    requires within { 0 < seat.old.number }
+    requires empty { held client.old ≡ [] }
+    ensures seat { seat.new ≡ seat.old }
     ensures may_end { MayEndInside result }
     ensures wrote { WroteLast (S.contents (stream_of client.old))
         (S.contents (stream_of client.new)) (Ok request.now) result }
 {
-    match forward(alloc, request, port, dial) {
+    match forward(alloc, gate, seat, request, port, dial) {
         Ok(response) => answer(request, &response, client),
         Err(status) => refuse(status, client),
     }
 }
 
 /// Forwards a request to a port and reads the response. A fault is the status in which the client
-/// is refused: 503 where memory is refused as the response is read, and 502 otherwise (RFC 9110
-/// sections 15.6.3 and 15.6.4).
-fn forward<D: Dial>(alloc: Global, request: &Request, port: u16, dial: &D) -> Result<Response, u16>
-    ensures { IfErr result IsGatewayStatus }
+/// is refused: 503 where the request is given up, or memory is refused as the response is read, and
+/// 502 otherwise (RFC 9110 sections 15.6.3 and 15.6.4).
+fn forward<N: Names, G: Gate<N>, D: Dial>(
+    alloc: Global,
+    gate: &G,
+    seat: &mut Seat<N>,
+    request: &Request,
+    port: u16,
+    dial: &D,
+) -> Result<Response, u16>
+    requires { 0 < seat.old.number }
+    ensures status { IfErr result IsGatewayStatus }
+    ensures seat { seat.new ≡ seat.old }
 {
     let Ok(stream) = dial.dial(port) else {
         return Err(502);
     };
+    if gate.may_go_on(seat) == GoOn::Cut {
+        return Err(503);
+    }
     let mut upstream = Buffered::new(alloc, stream);
     if write_request(request, port, &mut upstream).is_err() || upstream.flush().is_err() {
         return Err(502);
     }
-    match read_response(alloc, request, &mut upstream.stream) {
-        Ok(response) => Ok(response),
-        Err(fault) => Err(fault.status()),
+    receive(alloc, gate, seat, request, &mut upstream.stream)
+}
+
+/// Reads the response to a request, and asks the gate before each read whether the request goes on.
+/// A read that was interrupted is tried again. Faults are those of `forward`.
+fn receive<N: Names, G: Gate<N>, R: Read>(
+    alloc: Global,
+    gate: &G,
+    seat: &mut Seat<N>,
+    request: &Request,
+    reader: &mut R,
+) -> Result<Response, u16>
+    requires { 0 < seat.old.number }
+    ensures status { IfErr result IsGatewayStatus }
+    ensures seat { seat.new ≡ seat.old }
+{
+    let mut parser = ResponseParser::new(alloc, request);
+    let mut piece = [0; PIECE];
+    for _ in 0..MOST_TURNS {
+        if gate.may_go_on(seat) == GoOn::Cut {
+            return Err(503);
+        }
+        match reader.read(&mut piece) {
+            Ok(0) => {
+                return match parser.end() {
+                    Ok(response) => Ok(response),
+                    Err(fault) => Err(fault.status()),
+                };
+            }
+            Ok(count) => match parser.feed(&piece[..count.min(PIECE)]) {
+                Ok(Some(response)) => return Ok(response),
+                Ok(None) => {}
+                Err(fault) => return Err(fault.status()),
+            },
+            Err(error) => {
+                if error.kind() != ErrorKind::Interrupted {
+                    return Err(502);
+                }
+            }
+        }
     }
+    Err(502)
 }
 
 /// Answers a client with a response.

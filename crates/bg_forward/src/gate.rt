@@ -6,11 +6,11 @@ ghost use Rattle.bg_ledger.specs.Holdings.{vacated};
 ghost use Rattle.bg_ledger.specs.declared.holding.Holding.{Holding};
 ghost use Rattle.bg_revisions.specs.declared.revision.Service.{Service};
 
-use bg_book::{EnterFault, Left, Ticket};
+use bg_book::{EnterFault, GoOn, Left, Ticket};
 use bg_ledger::{Names, Seat};
 use bg_revisions::Service;
 
-/// Where requests enter and leave. All workers share it.
+/// Where requests enter and leave, and are asked for as they are forwarded. All workers share it.
 ///
 /// No method takes a handle: a gate that waits for a lock brings its own, as [`Door`](crate::Door)
 /// does, so that what goes through a gate sees no lock.
@@ -26,6 +26,11 @@ pub trait Gate<N: Names> {
         ensures number { IfOk result (λ t. 0 < t.number) }
         ensures gives { IfOk result (λ t. gives self.now service seat.old t) }
         ensures seat_unchanged { OnErr result (seat.new ≡ seat.old) };
+
+    /// Whether the request that the seat holds goes on, or is given up. The seat stays as it was.
+    fn may_go_on(&self, seat: &mut Seat<N>) -> GoOn
+        requires within { 0 < seat.old.number }
+        ensures seat { seat.new ≡ seat.old };
 
     /// Ends the request that the seat holds, and says which it was.
     fn leave(&self, seat: &mut Seat<N>) -> Left

@@ -48,8 +48,10 @@ pub struct Served {
 /// A request that can't be read is answered by its fault's status (`RequestFault::status`) and
 /// doesn't enter; where it has none, nothing is answered. A refusal of the gate is answered 503. An
 /// endpoint that can't be dialled or written to, or whose response can't be read, is answered 502,
-/// and 503 where memory was refused as that response was read. The request leaves once its answer
-/// or refusal was written or its writing failed.
+/// and 503 where memory was refused as that response was read. The gate is asked once after the dial
+/// and before each read of the response: where it gives the request up, the endpoint is let go, and
+/// the client is answered 503. The request leaves once its answer or refusal was written or its
+/// writing failed.
 ///
 /// The client and the endpoint are written through a buffer, which is flushed before anything
 /// further is done; a flush that fails counts as a failed write.
@@ -107,7 +109,7 @@ fn pass<N: Names, G: Gate<N>, S: Write, D: Dial>(
             end: refuse(503, client),
         };
     };
-    let end = exchange(alloc, request, ticket.port, client, dial);
+    let end = exchange(alloc, gate, seat, request, ticket.port, client, dial);
     gate.leave(seat);
     Served {
         entered: Some(ticket),

@@ -27,6 +27,7 @@ plain = record {
   delay = 30;
   revision_limit = None;
   abort_delay = 20;
+  drain_limit = None;
   history_limit = 10;
 }
 

@@ -13,7 +13,7 @@ use Rattle.bg_promotion.specs.PhaseNames.{phase_name}
 use Rattle.bg_history.specs.Selections.{selectors_of}
 use Rattle.bg_rollout.specs.Routing.{Routing}
 use Rattle.bg_history_listing.specs.Listed.{revisions_of}
-use Rattle.bg_rollout.specs.PastState.{is_draining}
+use Rattle.bg_rollout.specs.PastState.{is_draining, is_past_limit}
 
 -- a word, and its number
 abbrev pub number_line : List ℕ → ℕ → List ℕ
@@ -43,6 +43,10 @@ deadline_text (Some at) = decimal at
 abbrev pub draining_text : Bool → List ℕ
 draining_text draining = if draining then codes " draining" else codes ""
 
+-- the mark of a revision whose requests are given up
+abbrev pub cut_text : Bool → List ℕ
+cut_text past_limit = if past_limit then codes " cut" else codes ""
+
 -- a word, and the value that it tells
 abbrev pub told : List ℕ → List ℕ → List ℕ
 told word value = word ++ codes " " ++ value
@@ -59,7 +63,8 @@ abbrev pub traffic_text : Routing → ℕ → List ℕ
 traffic_text b r =
     codes " open " ++ decimal (length (open_at r b.past))
     ++ codes " deadline " ++ deadline_text (deadline b.strategy r b.past)
-    ++ draining_text (is_draining b.strategy r b.past) ++ codes "\n"
+    ++ draining_text (is_draining b.strategy r b.past)
+    ++ cut_text (is_past_limit b.strategy r b.past) ++ codes "\n"
 
 -- the line of a revision
 abbrev pub revision_line : Routing → Revision → List ℕ

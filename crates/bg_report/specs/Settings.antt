@@ -37,14 +37,19 @@ size_text s =
     setting_line (codes "replicas") (decimal s.replicas)
     ++ setting_line (codes "previewReplicaCount") (decimal s.preview_replicas)
 
--- when a revision is promoted, scaled down and removed
-abbrev pub timing_text : Strategy → List ℕ
-timing_text s =
+-- when a revision is promoted
+abbrev pub promotion_text : Strategy → List ℕ
+promotion_text s =
     setting_line (codes "autoPromotionEnabled") (boolean_text s.auto_promotion)
     ++ setting_line (codes "autoPromotionSeconds") (decimal s.auto_seconds)
-    ++ setting_line (codes "scaleDownDelaySeconds") (decimal s.delay)
+
+-- when a revision is scaled down and removed, and how long its requests may stay
+abbrev pub scale_down_text : Strategy → List ℕ
+scale_down_text s =
+    setting_line (codes "scaleDownDelaySeconds") (decimal s.delay)
     ++ setting_line (codes "scaleDownDelayRevisionLimit") (number_or_dash s.revision_limit)
     ++ setting_line (codes "abortScaleDownDelaySeconds") (decimal s.abort_delay)
+    ++ setting_line (codes "drainLimitSeconds") (number_or_dash s.drain_limit)
     ++ setting_line (codes "revisionHistoryLimit") (decimal s.history_limit)
 
 -- which analyses there are
@@ -55,7 +60,8 @@ analysis_text s =
 
 -- what a strategy means, a line for each setting
 abbrev pub strategy_text : Strategy → List ℕ
-strategy_text s = service_text s ++ size_text s ++ timing_text s ++ analysis_text s
+strategy_text s =
+    service_text s ++ size_text s ++ promotion_text s ++ scale_down_text s ++ analysis_text s
 
 -- the end of a fault's line: the field that it concerns, where it is one
 abbrev pub field_text : Option Field → List ℕ

@@ -1,7 +1,7 @@
 //! The report: where a rollout stands, and each of its revisions.
 ghost use Rattle.std.specs.Prelude.{◌≡◌, ◌+◌, Some, OnOk};
 ghost use Rattle.std.specs.Io.KnownBytes.{Appends};
-ghost use Rattle.bg_report.specs.Reports.{deadline_text, draining_text, report_text, revision_lines as revision_lines_of, selectors_text, sizes_text, standing_text, traffic_text};
+ghost use Rattle.bg_report.specs.Reports.{cut_text, deadline_text, draining_text, report_text, revision_lines as revision_lines_of, selectors_text, sizes_text, standing_text, traffic_text};
 
 use bg_book::Book;
 use bg_ledger::Names;
@@ -95,8 +95,9 @@ impl<N: Names> fmt::Display for RevisionTraffic<'_, N> {
     fn fmt<W: fmt::Write>(&self, f: &mut fmt::Formatter<W>) -> fmt::Result {
         let deadline = Deadline(self.book.deadline_of(self.number));
         let draining = draining_mark(self.book.is_draining(self.number));
+        let cut = cut_mark(self.book.past_limit(self.number));
         write!(f, " open {}", self.book.open_count(self.number))?;
-        writeln!(f, " deadline {deadline}{draining}")
+        writeln!(f, " deadline {deadline}{draining}{cut}")
     }
 }
 
@@ -120,4 +121,11 @@ fn draining_mark(is_draining: bool) -> &'static str
     ensures { result.now ≡ draining_text is_draining }
 {
     if is_draining { " draining" } else { "" }
+}
+
+/// The mark of a revision whose requests are given up.
+fn cut_mark(is_past_limit: bool) -> &'static str
+    ensures { result.now ≡ cut_text is_past_limit }
+{
+    if is_past_limit { " cut" } else { "" }
 }

@@ -1,13 +1,13 @@
 //! The lines that tell what a strategy means, or why it is refused.
 ghost use Rattle.std.specs.Prelude.{◌≡◌, Some, OnOk, codes, decimal};
 ghost use Rattle.std.specs.Io.KnownBytes.{Appends};
-ghost use Rattle.bg_report.specs.Settings.{analysis_text, fault_text, name_or_dash as name_text, number_or_dash, service_text, size_text, strategy_text, timing_text};
+ghost use Rattle.bg_report.specs.Settings.{analysis_text, fault_text, name_or_dash as name_text, number_or_dash, promotion_text, scale_down_text, service_text, size_text, strategy_text};
 
 use bg_strategy::{ServiceName, Strategy, StrategyFault};
 use std::io::Write;
 use std::{fmt, io};
 
-/// Writes a line for each of the twelve settings, its name and its value (Argo Rollouts, "Rollout
+/// Writes a line for each of the thirteen settings, its name and its value (Argo Rollouts, "Rollout
 /// Specification"). Where a write fails, a part of them may be written.
 pub fn strategy_lines<W: Write>(strategy: &Strategy, writer: &mut W) -> io::Result<()>
     ensures { OnOk result (Appends (W.contents writer.old) (W.contents writer.new)
@@ -15,10 +15,11 @@ pub fn strategy_lines<W: Write>(strategy: &Strategy, writer: &mut W) -> io::Resu
 {
     write!(
         writer,
-        "{}{}{}{}",
+        "{}{}{}{}{}",
         ServiceLines(strategy),
         SizeLines(strategy),
-        TimingLines(strategy),
+        PromotionLines(strategy),
+        ScaleDownLines(strategy),
         AnalysisLines(strategy)
     )
 }
@@ -68,21 +69,35 @@ impl fmt::Display for SizeLines<'_> {
     }
 }
 
-/// When a revision is promoted, scaled down and removed.
+/// When a revision is promoted.
 #[derive(Drop)]
-struct TimingLines<'a>(&'a Strategy);
+struct PromotionLines<'a>(&'a Strategy);
 
-impl fmt::Display for TimingLines<'_> {
-    ghost output = { λ lines. Some (timing_text lines.0.now) };
+impl fmt::Display for PromotionLines<'_> {
+    ghost output = { λ lines. Some (promotion_text lines.0.now) };
+
+    fn fmt<W: fmt::Write>(&self, f: &mut fmt::Formatter<W>) -> fmt::Result {
+        let strategy = self.0;
+        writeln!(f, "autoPromotionEnabled {}", strategy.auto_promotion)?;
+        writeln!(f, "autoPromotionSeconds {}", strategy.auto_seconds)
+    }
+}
+
+/// When a revision is scaled down and removed, and how long its requests may stay.
+#[derive(Drop)]
+struct ScaleDownLines<'a>(&'a Strategy);
+
+impl fmt::Display for ScaleDownLines<'_> {
+    ghost output = { λ lines. Some (scale_down_text lines.0.now) };
 
     fn fmt<W: fmt::Write>(&self, f: &mut fmt::Formatter<W>) -> fmt::Result {
         let strategy = self.0;
         let limit = NumberOrDash(strategy.revision_limit);
-        writeln!(f, "autoPromotionEnabled {}", strategy.auto_promotion)?;
-        writeln!(f, "autoPromotionSeconds {}", strategy.auto_seconds)?;
+        let drain_limit = NumberOrDash(strategy.drain_limit);
         writeln!(f, "scaleDownDelaySeconds {}", strategy.delay)?;
         writeln!(f, "scaleDownDelayRevisionLimit {limit}")?;
         writeln!(f, "abortScaleDownDelaySeconds {}", strategy.abort_delay)?;
+        writeln!(f, "drainLimitSeconds {drain_limit}")?;
         writeln!(f, "revisionHistoryLimit {}", strategy.history_limit)
     }
 }

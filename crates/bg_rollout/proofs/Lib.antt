@@ -25,3 +25,4 @@ pub mod Order
 pub mod Gathered
 pub mod Compacting
 pub mod Telling
+pub mod GoingOn

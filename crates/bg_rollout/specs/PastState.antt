@@ -1,19 +1,42 @@
 -- The state that a past asks for: what the readers of a book answer.
-use Rattle.std.specs.Prelude.{◌≡◌, ◌<◌, ◌==◌, ℕ, Bool, not, ◌&&◌, nat_lt, if◌then◌else◌, List, filter, length, map, slice_get, Option, Some, None}
+use Rattle.std.specs.Prelude.{◌≡◌, ◌<◌, ◌+◌, ◌==◌, ℕ, Bool, not, ◌&&◌, nat_lt, if◌then◌else◌, List, filter, length, map, slice_get, Option, Some, None}
 use Rattle.bg_strategy.specs.declared.strategy.Strategy.{Strategy}
 use Rattle.bg_history.specs.declared.entry.Entry.{Entry}
 use Rattle.bg_history.specs.Kept.{Opening}
 use Rattle.bg_history.specs.Requests.{Request, held_by, calls_of, open_at, open_requests}
 use Rattle.bg_history.specs.Sizes.{existing}
-use Rattle.bg_history.specs.Deadlines.{is_due, is_empty}
+use Rattle.bg_history.specs.Turns.{moment}
+use Rattle.bg_history.specs.Deadlines.{deadline, is_due, is_empty, is_reached}
 use Rattle.bg_ledger.specs.declared.holding.Holding.{Holding}
 use Rattle.bg_requestlists.specs.declared.request_lists.OpenRequest.{OpenRequest}
 use Rattle.bg_requestlists.specs.RequestLists.{OpenAt}
+use Rattle.bg_rollout.specs.declared.go_on.GoOn.{GoOn}
+use Rattle.bg_rollout.specs.declared.go_on.GoOn.TheVariants.{Cut, Keep}
 use Rattle.bg_ledger.specs.Holdings.{fresh}
 
 -- r is due and holds an open request
 abbrev pub is_draining : Strategy → ℕ → List Entry → Bool
 is_draining s r past = is_due s r past && not (is_empty (open_at r past))
+
+-- so many seconds after the deadline, where there are both
+abbrev pub drain_end : Option ℕ → Option ℕ → Option ℕ
+drain_end None limit = None
+drain_end (Some at) None = None
+drain_end (Some at) (Some limit) = Some (at + limit)
+
+-- r drains, and the limit for that is over
+abbrev pub is_past_limit : Strategy → ℕ → List Entry → Bool
+is_past_limit s r past =
+    is_draining s r past && is_reached (drain_end (deadline s r past) s.drain_limit) (moment past)
+
+-- a request is given up where its revision drains past the limit
+abbrev pub goes_on_with : Strategy → Option Request → List Entry → GoOn
+goes_on_with s None past = Keep
+goes_on_with s (Some q) past = if is_past_limit s q.revision past then Cut else Keep
+
+-- whether a seat's request goes on; where it has none, nothing is given up
+abbrev pub goes_on : Strategy → ℕ → List Entry → GoOn
+goes_on s seat past = goes_on_with s (held_by seat past) past
 
 -- a seat with these calls and this request in hand
 abbrev pub seated : ℕ → ℕ → Option Request → Holding

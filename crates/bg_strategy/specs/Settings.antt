@@ -60,4 +60,5 @@ pub record IsStrategyOf (d : Data) (s : Strategy) : Type 0 where
   pub delay : s.delay ≡ unwrap_or (number_of field.ScaleDownDelaySeconds d) 30
   pub revision_limit : s.revision_limit ≡ number_of field.ScaleDownDelayRevisionLimit d
   pub abort_delay : s.abort_delay ≡ unwrap_or (number_of field.AbortScaleDownDelaySeconds d) 30
+  pub drain_limit : s.drain_limit ≡ number_of field.DrainLimitSeconds d
   pub history_limit : s.history_limit ≡ unwrap_or (number_of field.RevisionHistoryLimit d) 10

@@ -50,6 +50,8 @@ entry_of field.ScaleDownDelayRevisionLimit =
     optional inside.BlueGreen (codes "scaleDownDelayRevisionLimit") (Number 0 greatest)
 entry_of field.AbortScaleDownDelaySeconds =
     optional inside.BlueGreen (codes "abortScaleDownDelaySeconds") (Number 0 greatest)
+entry_of field.DrainLimitSeconds =
+    optional inside.BlueGreen (codes "drainLimitSeconds") (Number 0 greatest)
 entry_of field.PrePromotionAnalysis =
     optional inside.BlueGreen (codes "prePromotionAnalysis") Anything
 entry_of field.PostPromotionAnalysis =
@@ -61,4 +63,4 @@ fields = field.Document ∷ field.Spec ∷ field.Replicas ∷ field.RevisionHist
     ∷ field.BlueGreen ∷ field.ActiveService ∷ field.PreviewService ∷ field.PreviewReplicaCount
     ∷ field.AutoPromotionEnabled ∷ field.AutoPromotionSeconds ∷ field.ScaleDownDelaySeconds
     ∷ field.ScaleDownDelayRevisionLimit ∷ field.AbortScaleDownDelaySeconds
-    ∷ field.PrePromotionAnalysis ∷ field.PostPromotionAnalysis ∷ []
+    ∷ field.DrainLimitSeconds ∷ field.PrePromotionAnalysis ∷ field.PostPromotionAnalysis ∷ []

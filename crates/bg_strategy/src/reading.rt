@@ -54,6 +54,7 @@ fn strategy_of(alloc: Global, document: &Value) -> Result<Strategy, AllocError>
         delay: number_or(Field::ScaleDownDelaySeconds, document, 30),
         revision_limit: number_of(Field::ScaleDownDelayRevisionLimit, document),
         abort_delay: number_or(Field::AbortScaleDownDelaySeconds, document, 30),
+        drain_limit: number_of(Field::DrainLimitSeconds, document),
         history_limit: number_or(Field::RevisionHistoryLimit, document, 10),
     })
 }

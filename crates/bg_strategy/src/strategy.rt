@@ -32,6 +32,9 @@ pub struct Strategy {
     /// The seconds that an aborted revision stays scaled: `abortScaleDownDelaySeconds`; 0 is for
     /// ever.
     pub abort_delay: u32,
+    /// The seconds from its deadline on that a draining revision's requests have left:
+    /// `drainLimitSeconds`; none is for ever. Argo Rollouts has no such field.
+    pub drain_limit: Option<u32>,
     /// How many old revisions are kept: `revisionHistoryLimit`.
     pub history_limit: u32,
     ghost some_replica: { 1 ≤ replicas },
@@ -57,6 +60,7 @@ impl Clone for Strategy {
             delay: self.delay,
             revision_limit: self.revision_limit,
             abort_delay: self.abort_delay,
+            drain_limit: self.drain_limit,
             history_limit: self.history_limit,
         })
     }

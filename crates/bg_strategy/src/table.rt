@@ -36,6 +36,8 @@ pub enum Field {
     ScaleDownDelayRevisionLimit,
     /// `abortScaleDownDelaySeconds` of `blueGreen`; 30 where it is absent.
     AbortScaleDownDelaySeconds,
+    /// `drainLimitSeconds` of `blueGreen`; no limit where it is absent.
+    DrainLimitSeconds,
     /// `prePromotionAnalysis` of `blueGreen`, anything.
     PrePromotionAnalysis,
     /// `postPromotionAnalysis` of `blueGreen`, anything.
@@ -43,7 +45,7 @@ pub enum Field {
 }
 
 /// The fields in order.
-pub(crate) const FIELDS: [Field; 16] = [
+pub(crate) const FIELDS: [Field; 17] = [
     Field::Document,
     Field::Spec,
     Field::Replicas,
@@ -58,6 +60,7 @@ pub(crate) const FIELDS: [Field; 16] = [
     Field::ScaleDownDelaySeconds,
     Field::ScaleDownDelayRevisionLimit,
     Field::AbortScaleDownDelaySeconds,
+    Field::DrainLimitSeconds,
     Field::PrePromotionAnalysis,
     Field::PostPromotionAnalysis,
 ];
@@ -105,6 +108,7 @@ impl Field {
             Field::ScaleDownDelaySeconds => "scaleDownDelaySeconds",
             Field::ScaleDownDelayRevisionLimit => "scaleDownDelayRevisionLimit",
             Field::AbortScaleDownDelaySeconds => "abortScaleDownDelaySeconds",
+            Field::DrainLimitSeconds => "drainLimitSeconds",
             Field::PrePromotionAnalysis => "prePromotionAnalysis",
             Field::PostPromotionAnalysis => "postPromotionAnalysis",
         }
@@ -126,6 +130,7 @@ impl Field {
             | Field::ScaleDownDelaySeconds
             | Field::ScaleDownDelayRevisionLimit
             | Field::AbortScaleDownDelaySeconds
+            | Field::DrainLimitSeconds
             | Field::PrePromotionAnalysis
             | Field::PostPromotionAnalysis => Place::BlueGreen,
         }
@@ -145,7 +150,8 @@ impl Field {
             | Field::AutoPromotionSeconds
             | Field::ScaleDownDelaySeconds
             | Field::ScaleDownDelayRevisionLimit
-            | Field::AbortScaleDownDelaySeconds => Kind::Number {
+            | Field::AbortScaleDownDelaySeconds
+            | Field::DrainLimitSeconds => Kind::Number {
                 least: 0,
                 most: GREATEST,
             },

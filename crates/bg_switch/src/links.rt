@@ -132,7 +132,8 @@ impl<'a, R: Clock + Wait> Accept for Clients<'a, R> {
     }
 }
 
-/// The connection to an endpoint. Its response has to be whole in time.
+/// The connection to an endpoint. Its response has to be whole in time. It is read in turns, so that
+/// also a request whose endpoint is silent can be given up.
 #[derive(Drop)]
 pub struct Upstream<'a, C: Clock> {
     response: Timed<'a, C>,
@@ -140,7 +141,7 @@ pub struct Upstream<'a, C: Clock> {
 
 impl<C: Clock> Read for Upstream<'_, C> {
     fn read(&mut self, buf: &mut [u8]) -> io::Result<usize> {
-        self.response.read_in_time(buf)
+        self.response.read_in_turns(buf)
     }
 }
 
@@ -174,7 +175,7 @@ impl<'a, R: Net<Stream = TcpStream> + Clock> Dial for Endpoints<'a, R> {
 
     fn dial(&self, port: u16) -> io::Result<Upstream<'a, R>> {
         let stream = TcpStream::connect(self.rt, home(port))?;
-        let response = Timed::begin(stream, self.rt, self.patience)?;
+        let response = Timed::begin_in_turns(stream, self.rt, self.patience)?;
         Ok(Upstream { response })
     }
 }

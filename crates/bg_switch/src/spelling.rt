@@ -1,7 +1,8 @@
 //! Keys of `blueGreen` that look misspelt.
 
-/// The keys of `blueGreen` (Argo Rollouts, "Rollout Specification"); those that aren't read here too.
-const KEYS: [&str; 14] = [
+/// The keys of `blueGreen` (Argo Rollouts, "Rollout Specification"), also those that aren't read here,
+/// and the one that is read here alone.
+const KEYS: [&str; 15] = [
     "activeService",
     "previewService",
     "previewReplicaCount",
@@ -10,6 +11,7 @@ const KEYS: [&str; 14] = [
     "scaleDownDelaySeconds",
     "scaleDownDelayRevisionLimit",
     "abortScaleDownDelaySeconds",
+    "drainLimitSeconds",
     "prePromotionAnalysis",
     "postPromotionAnalysis",
     "antiAffinity",

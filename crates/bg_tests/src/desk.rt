@@ -1,6 +1,7 @@
 //! The routing book behind a lock.
 
 mod calls;
+mod cut;
 mod gathering;
 pub(crate) mod rows;
 pub(crate) mod scripts;

@@ -4,7 +4,7 @@ ghost use Rattle.bg_forward.specs.Buffers.{held};
 ghost use Rattle.bg_rollout.specs.Gathering.{indices};
 ghost use Rattle.bg_ledger.specs.Blanks.{AreAllFor};
 
-use crate::fakes::{Endpoint, Line, Pace, Seen, Shut, Uses};
+use crate::fakes::{Asked, Endpoint, Line, Pace, Seen, Shut, Uses};
 use crate::samples::strategy;
 use bg_audit::audit;
 use bg_book::laws::{lent, same_order};
@@ -15,7 +15,7 @@ use bg_revisions::Service;
 use std::alloc::Global;
 use std::marker::Brand;
 use std::sync::Wait;
-use std::sync::atomic::Ordering;
+use std::sync::atomic::{AtomicU64, Ordering};
 use std::test::Fail;
 
 /// The port of the first request that enters.
@@ -32,6 +32,8 @@ pub struct Setting<'a> {
     pub service: Service,
     /// Whether the gate lets no request in.
     pub shut: bool,
+    /// The question at which the gate gives the request up, counted from 1; 0 is at none.
+    pub cut_at: u64,
     /// How many endpoints are available.
     pub available: u32,
     /// The port at which the endpoint listens.
@@ -52,6 +54,7 @@ impl<'a> Setting<'a> {
             client: Pace::steady(),
             service: Service::Active,
             shut: false,
+            cut_at: 0,
             available: 2,
             port: FIRST_PORT,
             response: response.as_bytes(),
@@ -71,6 +74,8 @@ pub struct Outcome {
     /// How often the client was read and written, and the endpoint.
     pub client: Uses,
     pub endpoint: Uses,
+    /// How often the gate was asked whether the request goes on.
+    pub questions: u64,
     /// How many calls the seat was answered, and whether it is out.
     pub calls: u64,
     pub is_out: bool,
@@ -104,7 +109,7 @@ fn serve_first<N: Names, G: Gate<N>, D: Dial>(
     Some(serve_one(alloc, gate, seat, setting.service, client, dial))
 }
 
-/// Serves it through the door of a desk, or before a door that is shut.
+/// Serves it through the door of a desk, which is asked, or before a door that is shut.
 fn serve_at<N: Names, R: Wait, D: Dial>(
     rt: &R,
     alloc: Global,
@@ -113,6 +118,7 @@ fn serve_at<N: Names, R: Wait, D: Dial>(
     setting: &Setting,
     client: &mut Buffered<Line>,
     dial: &D,
+    questions: &AtomicU64,
 ) -> Option<Served>
     requires { held client.old ≡ [] }
     ensures { indices seats.new ≡ indices seats.old }
@@ -121,7 +127,12 @@ fn serve_at<N: Names, R: Wait, D: Dial>(
     if setting.shut {
         return serve_first(alloc, &Shut { behind: &door }, seats, setting, client, dial);
     }
-    serve_first(alloc, &door, seats, setting, client, dial)
+    let gate = Asked {
+        behind: &door,
+        cut_at: setting.cut_at,
+        questions,
+    };
+    serve_first(alloc, &gate, seats, setting, client, dial)
 }
 
 /// How many calls the first seat was answered, and whether it is out.
@@ -148,6 +159,7 @@ fn serve_over<N: Names, R: Wait>(
         size: setting.available,
     };
     let seen = Seen::new();
+    let questions = AtomicU64::new(0);
     let endpoint = Endpoint {
         alloc,
         port: setting.port,
@@ -178,6 +190,7 @@ fn serve_over<N: Names, R: Wait>(
         setting,
         &mut client,
         &endpoint,
+        &questions,
     );
     let (calls, is_out) = state_of_first(&seats);
     let history = desk.into_book().close(seats);
@@ -196,6 +209,7 @@ fn serve_over<N: Names, R: Wait>(
             reads: seen.reads.load(Ordering::SeqCst),
             writes: seen.writes.load(Ordering::SeqCst),
         },
+        questions: questions.load(Ordering::SeqCst),
         calls,
         is_out,
         is_legal,

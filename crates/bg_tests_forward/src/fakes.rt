@@ -1,6 +1,6 @@
 //! Clients, an endpoint and a gate.
 
-use bg_book::{EnterFault, Left, Ticket};
+use bg_book::{EnterFault, GoOn, Left, Ticket};
 use bg_forward::{Dial, Gate};
 use bg_http::Duplex;
 use bg_ledger::{Names, Seat};
@@ -258,6 +258,37 @@ pub struct Shut<'a, G> {
 impl<N: Names, G: Gate<N>> Gate<N> for Shut<'_, G> {
     fn enter(&self, _seat: &mut Seat<N>, _service: Service) -> Result<Ticket, EnterFault> {
         Err(EnterFault::NoEndpoints)
+    }
+
+    fn may_go_on(&self, seat: &mut Seat<N>) -> GoOn {
+        self.behind.may_go_on(seat)
+    }
+
+    fn leave(&self, seat: &mut Seat<N>) -> Left {
+        self.behind.leave(seat)
+    }
+}
+
+/// A gate that counts how often it is asked whether a request goes on, and gives it up at one of these questions.
+#[derive(Drop)]
+pub struct Asked<'a, G> {
+    pub behind: &'a G,
+    /// The question at which it is given up, counted from 1; 0 is at none.
+    pub cut_at: u64,
+    pub questions: &'a AtomicU64,
+}
+
+impl<N: Names, G: Gate<N>> Gate<N> for Asked<'_, G> {
+    fn enter(&self, seat: &mut Seat<N>, service: Service) -> Result<Ticket, EnterFault> {
+        self.behind.enter(seat, service)
+    }
+
+    fn may_go_on(&self, seat: &mut Seat<N>) -> GoOn {
+        let before = self.questions.fetch_add(1, Ordering::SeqCst);
+        if before.saturating_add(1) == self.cut_at {
+            return GoOn::Cut;
+        }
+        self.behind.may_go_on(seat)
     }
 
     fn leave(&self, seat: &mut Seat<N>) -> Left {

@@ -8,7 +8,7 @@ use crate::fakes::{Line, Pace};
 use crate::messages::{CHUNKS, CHUNKS_ON, GET};
 use crate::samples::strategy;
 use bg_book::laws::{lent, same_order};
-use bg_book::{Book, Control, Desk, EnterFault, Left, Limits, Ticket};
+use bg_book::{Book, Control, Desk, EnterFault, GoOn, Left, Limits, Ticket};
 use bg_forward::{Accept, Dial, Door, Gate, run_workers};
 use bg_http::Duplex;
 use bg_ledger::{Blanks, Names, Seat};
@@ -51,6 +51,10 @@ struct Counted<'a, G> {
 impl<N: Names, G: Gate<N>> Gate<N> for Counted<'_, G> {
     fn enter(&self, seat: &mut Seat<N>, service: Service) -> Result<Ticket, EnterFault> {
         self.behind.enter(seat, service)
+    }
+
+    fn may_go_on(&self, seat: &mut Seat<N>) -> GoOn {
+        self.behind.may_go_on(seat)
     }
 
     fn leave(&self, seat: &mut Seat<N>) -> Left {

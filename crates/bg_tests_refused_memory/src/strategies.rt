@@ -7,7 +7,7 @@ use std::alloc::Global;
 
 /// A document that gives every field.
 const EVERY_FIELD: &str =
-    "{\"spec\": {\"replicas\": 3, \"revisionHistoryLimit\": 4, \"strategy\": {\"blueGreen\": {\"activeService\": \"web\", \"previewService\": \"web-preview\", \"previewReplicaCount\": 2, \"autoPromotionEnabled\": false, \"autoPromotionSeconds\": 5, \"scaleDownDelaySeconds\": 6, \"scaleDownDelayRevisionLimit\": 7, \"abortScaleDownDelaySeconds\": 8, \"prePromotionAnalysis\": {\"templates\": []}, \"postPromotionAnalysis\": {}}}}}";
+    "{\"spec\": {\"replicas\": 3, \"revisionHistoryLimit\": 4, \"strategy\": {\"blueGreen\": {\"activeService\": \"web\", \"previewService\": \"web-preview\", \"previewReplicaCount\": 2, \"autoPromotionEnabled\": false, \"autoPromotionSeconds\": 5, \"scaleDownDelaySeconds\": 6, \"scaleDownDelayRevisionLimit\": 7, \"abortScaleDownDelaySeconds\": 8, \"drainLimitSeconds\": 9, \"prePromotionAnalysis\": {\"templates\": []}, \"postPromotionAnalysis\": {}}}}}";
 
 /// Two replicas, and no preview service.
 const BASE: &str =

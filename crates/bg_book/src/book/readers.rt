@@ -7,7 +7,7 @@ ghost use Rattle.bg_history.specs.Deadlines.{deadline};
 ghost use Rattle.bg_history.specs.Selections.{selectors_of};
 ghost use Rattle.bg_history_listing.specs.Listed.{revisions_of};
 ghost use Rattle.bg_promotion.specs.Phases.{phase_of};
-ghost use Rattle.bg_rollout.specs.PastState.{is_draining as is_draining_in};
+ghost use Rattle.bg_rollout.specs.PastState.{is_draining as is_draining_in, is_past_limit};
 ghost use Rattle.bg_rollout.specs.State.{deadline_at, open_count_at, revision_at};
 
 use crate::book::Book;
@@ -99,6 +99,14 @@ impl<N: Names> Book<N> {
         ensures { result ≡ is_draining_in self.now.strategy number self.now.past }
     {
         self.rollout.is_draining(number)
+    }
+
+    /// Whether the requests of the revision of this number are given up: it drains, and so many
+    /// seconds as the strategy's `drainLimitSeconds` says have passed since its deadline.
+    pub fn past_limit(&self, number: u64) -> bool
+        ensures { result ≡ is_past_limit self.now.strategy number self.now.past }
+    {
+        self.rollout.past_limit(number)
     }
 
     /// The history since the opening.

@@ -1,7 +1,9 @@
 //! How a rollout meets a seat.
 ghost use Rattle.std.specs.Prelude.{◌≡◌, ◌<◌, Some, slice_get};
 ghost use Rattle.bg_rollout.specs.Meeting.{Meets};
+ghost use Rattle.bg_rollout.specs.PastState.{goes_on};
 
+use crate::go_on::GoOn;
 use crate::rollout::Rollout;
 use bg_history_facts::laws::reachable;
 use bg_ledger::{Names, Seat};
@@ -18,6 +20,27 @@ impl<N: Names> Rollout<N> {
         self.stands();
         let index = seat.index();
         self.agree(index, seat);
+    }
+
+    /// Whether the seat's request goes on; where it has none, nothing is given up. It changes nothing.
+    pub fn may_go_on(&mut self, seat: &mut Seat<N>) -> GoOn
+        requires { self.old.routing.opening.seats ≡ N.seats }
+        ensures met { Meets self.old.routing seat.old }
+        ensures goes_on { let b = self.old.routing in
+            result ≡ goes_on b.strategy seat.old.index b.past }
+        ensures rollout { self.new ≡ self.old }
+        ensures seat { seat.new ≡ seat.old }
+    {
+        self.stands();
+        self.meet(seat);
+        if !seat.is_in() {
+            return GoOn::Keep;
+        }
+        if self.past_limit(seat.revision()) {
+            GoOn::Cut
+        } else {
+            GoOn::Keep
+        }
     }
 
     /// Changes nothing. It shows that the record of a seat is the seat.

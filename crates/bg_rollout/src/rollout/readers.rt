@@ -3,12 +3,12 @@ ghost use Rattle.std.specs.Prelude.{◌≡◌, length, Some, IsTrue};
 ghost use Rattle.bg_history.specs.Turns.{moment as moment_of};
 ghost use Rattle.bg_history.specs.Sizes.{existing};
 ghost use Rattle.bg_history.specs.Requests.{open_at};
-ghost use Rattle.bg_history.specs.Deadlines.{deadline};
+ghost use Rattle.bg_history.specs.Deadlines.{deadline, is_reached};
 ghost use Rattle.bg_history.specs.Selections.{selectors_of};
 ghost use Rattle.bg_history.specs.Steps.{is_settled};
 ghost use Rattle.bg_history_listing.specs.Listed.{revisions_of};
 ghost use Rattle.bg_promotion.specs.Phases.{phase_of};
-ghost use Rattle.bg_rollout.specs.PastState.{is_draining as is_draining_in};
+ghost use Rattle.bg_rollout.specs.PastState.{drain_end, is_draining as is_draining_in, is_past_limit};
 
 use crate::rollout::Rollout;
 use bg_history::History;
@@ -84,6 +84,16 @@ impl<N: Names> Rollout<N> {
         self.deadlines.is_due(number, self.moment, exempt) && !self.is_empty_at(number)
     }
 
+    /// Whether the requests of the revision of this number are given up: it drains, and so many
+    /// seconds as the strategy's `drainLimitSeconds` says have passed since its deadline.
+    pub fn past_limit(&self, number: u64) -> bool
+        ensures { let b = self.now.routing in
+            result ≡ is_past_limit b.strategy number b.past }
+    {
+        let limit = self.strategy.drain_limit;
+        self.is_draining(number) && has_passed(self.deadline_of(number), limit, self.moment)
+    }
+
     /// The history since the opening.
     pub fn history(&self) -> &History
         ensures opening { result.now.opening ≡ self.now.routing.opening }
@@ -91,5 +101,15 @@ impl<N: Names> Rollout<N> {
         ensures past { result.now.past ≡ self.now.routing.past }
     {
         &self.history
+    }
+}
+
+/// Whether so many seconds have passed since the deadline, where there are both.
+fn has_passed(deadline: Option<u64>, limit: Option<u32>, now: u64) -> bool
+    ensures { result ≡ is_reached (drain_end deadline limit) now }
+{
+    match (deadline, limit) {
+        (Some(deadline), Some(limit)) => deadline <= now && limit as u64 <= now - deadline,
+        _ => false,
     }
 }

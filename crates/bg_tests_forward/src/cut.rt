@@ -1,0 +1,88 @@
+//! Requests that the gate gives up while they are forwarded.
+
+use crate::connections::Setting;
+use crate::fakes::{Interruptions, Pace};
+use crate::messages::{CHUNKS, CHUNKS_ON, GET, GET_ON, expect, refusal};
+use bg_forward::End;
+use std::test::Fail;
+
+/// An endpoint that is read in one piece or in several, and one whose reads are interrupted.
+fn paces() -> [Pace; 3] {
+    let steady = Pace::steady();
+    let at_once = Pace {
+        most: 4096,
+        ..steady
+    };
+    let interrupted = Pace {
+        interruptions: Interruptions::EverySecond,
+        ..steady
+    };
+    [steady, at_once, interrupted]
+}
+
+#[test]
+fn asks_before_each_read(rt: HostRuntime) -> Result<(), Fail> {
+    for endpoint in paces() {
+        let setting = Setting {
+            endpoint,
+            ..Setting::new(GET, GET_ON, CHUNKS)
+        };
+        let outcome = expect(&rt, rt.alloc(), &setting, End::Answered(200), CHUNKS_ON, 2)?;
+        assert_eq!(rt; outcome.questions, outcome.endpoint.reads.saturating_add(1));
+    }
+    Ok(())
+}
+
+#[test]
+fn cut(rt: HostRuntime) -> Result<(), Fail> {
+    for endpoint in paces() {
+        let sound = Setting {
+            endpoint,
+            ..Setting::new(GET, GET_ON, CHUNKS)
+        };
+        let whole = expect(&rt, rt.alloc(), &sound, End::Answered(200), CHUNKS_ON, 2)?;
+        assert!(rt; whole.questions >= 2);
+        for cut_at in 1..=whole.questions {
+            let setting = Setting { cut_at, ..sound };
+            let end = End::Refused(503);
+            let outcome = expect(&rt, rt.alloc(), &setting, end, refusal(503), 2)?;
+            assert_eq!(rt; outcome.questions, cut_at);
+            assert_eq!(rt; outcome.dialled, 1);
+            // the first question comes before the request is written, and each other one before a read
+            assert_eq!(rt; outcome.forwarded, if cut_at == 1 { 0 } else { 1 });
+            assert_eq!(rt; outcome.endpoint.writes == 0, cut_at == 1);
+            assert_eq!(rt; outcome.endpoint.reads, cut_at.saturating_sub(2));
+        }
+        let later = Setting {
+            cut_at: whole.questions.saturating_add(1),
+            ..sound
+        };
+        let _outcome = expect(&rt, rt.alloc(), &later, End::Answered(200), CHUNKS_ON, 2)?;
+    }
+    Ok(())
+}
+
+#[test]
+fn gives_up_before_it_is_a_bad_gateway(rt: HostRuntime) -> Result<(), Fail> {
+    let steady = Pace::steady();
+    let fails_to_be_written = Pace {
+        failing_write: Some(0),
+        ..steady
+    };
+    let fails_to_be_read = Pace {
+        failing_read: Some(0),
+        ..steady
+    };
+    for (endpoint, cut_at) in [(fails_to_be_written, 1), (fails_to_be_read, 2)] {
+        let failing = Setting {
+            endpoint,
+            ..Setting::new(GET, GET_ON, CHUNKS)
+        };
+        let end = End::Refused(502);
+        let _failed = expect(&rt, rt.alloc(), &failing, end, refusal(502), 2)?;
+        let given_up = Setting { cut_at, ..failing };
+        let end = End::Refused(503);
+        let _outcome = expect(&rt, rt.alloc(), &given_up, end, refusal(503), 2)?;
+    }
+    Ok(())
+}
