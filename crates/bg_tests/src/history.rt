@@ -4,6 +4,5 @@ mod audit;
 pub(crate) mod audited;
 mod changed;
 mod changes;
-mod entries;
 mod sizes;
 mod texts;

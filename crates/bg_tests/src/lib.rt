@@ -14,8 +14,4 @@ mod ledger;
 #[cfg(test)]
 mod openlist;
 #[cfg(test)]
-mod revisions;
-#[cfg(test)]
 mod script;
-#[cfg(test)]
-mod strategy;

@@ -1,4 +1,0 @@
-//! The roster of the revisions that exist.
-
-mod parts;
-mod roster;
