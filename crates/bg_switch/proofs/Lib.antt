@@ -1,4 +1,1 @@
-pub mod WordsTaken
-pub mod ValuesPass
-pub mod Accepted
 pub mod SeatsKept

@@ -1,7 +1,7 @@
 //! The ports at which `serve` listens.
 
 use crate::links::home;
-use crate::orders::Site;
+use bg_command_line::Site;
 use bg_revisions::Service;
 use std::io::ErrorKind;
 use std::net::{Net, TcpListener, TcpStream};

@@ -2,26 +2,18 @@
 #![tactic(auto)]
 
 mod carrying_out;
-mod command_line;
-mod keeping;
 mod links;
 mod listeners;
 mod opening;
 mod operators;
-mod orders;
 mod patience;
-mod reasons;
 mod serving;
-mod spelling;
-mod words;
 mod working;
 
 use crate::carrying_out::{check_buffered, replay_buffered};
-use crate::keeping::Keeping;
-use crate::orders::{Order, OrderFault};
-use crate::patience::patience_seconds;
-use crate::reasons::{tell_reasons, tell_reasons_before_script};
 use crate::serving::serve;
+use bg_command_line::{Order, OrderFault, order, patience_seconds};
+use bg_reasons::{Keeping, tell_reasons, tell_reasons_before_script};
 use bg_script::RunEnd;
 use std::env;
 use std::io::ErrorKind;
@@ -102,10 +94,10 @@ fn process_order<R: Env + AllocGlobal>(rt: &R) -> Result<Order, OrderFault> {
             if error.kind() == ErrorKind::OutOfMemory {
                 return Err(OrderFault::OutOfMemory);
             }
-            return words::order(alloc, &["bg_switch", "\u{FFFD}"]);
+            return order(alloc, &["bg_switch", "\u{FFFD}"]);
         }
     };
     let texts: Vec<String> = texts.collect(alloc)?;
     let words: Vec<&str> = texts.iter().map(|text| text.as_str()).collect(alloc)?;
-    words::order(alloc, &words)
+    order(alloc, &words)
 }

@@ -1,44 +1,16 @@
 //! How long the messages of clients and of endpoints may take.
 ghost use Rattle.std.specs.Io.{ReadsAtMost, WritesAtMost};
-ghost use Rattle.bg_switch.specs.CommandLine.{IsBetween};
 
+use std::io;
 use std::io::{ErrorKind, Read, Write};
 use std::net::TcpStream;
-use std::rt::Env;
 use std::time::{Clock, Duration, Instant};
-use std::{env, io};
 
 /// How many seconds one read or write of a client or an endpoint may wait.
 const WAIT_SECONDS: u64 = 30;
 
 /// How many seconds one read waits that is made in turns.
 const TURN_SECONDS: u64 = 1;
-
-/// How many seconds a message may take until it is whole.
-const MOST_SECONDS: u64 = 60;
-
-/// The environment's variable that gives a message fewer seconds.
-const VARIABLE: &str = "BG_SWITCH_PATIENCE_SECONDS";
-
-/// How many seconds a message may take until it is whole: what the environment's
-/// `BG_SWITCH_PATIENCE_SECONDS` says, 1 to 60, and 60 where it says nothing of the kind.
-pub fn patience_seconds<R: Env + AllocGlobal>(rt: &R) -> u64
-    ensures { IsBetween 1 60 result }
-{
-    match env::var(rt, VARIABLE) {
-        Ok(text) => seconds_in(text.as_str()),
-        Err(_) => MOST_SECONDS,
-    }
-}
-
-fn seconds_in(text: &str) -> u64
-    ensures { IsBetween 1 60 result }
-{
-    match text.parse::<u64>() {
-        Ok(seconds) if 1 <= seconds && seconds <= MOST_SECONDS => seconds,
-        _ => MOST_SECONDS,
-    }
-}
 
 /// A connection of which a message is awaited, which has to be whole in time.
 ///

@@ -1,10 +1,9 @@
 //! `serve`: workers at the ports of clients, beside the operators at the control port.
 
-use crate::keeping::Keeping;
 use crate::listeners::Listeners;
 use crate::opening::{Scene, await_open};
-use crate::orders::Site;
-use crate::reasons::tell_reasons;
+use bg_command_line::Site;
+use bg_reasons::{Keeping, tell_reasons};
 use bg_script::{Finding, RunEnd, finding_of_input, write_finding};
 use std::alloc::Global;
 use std::io;

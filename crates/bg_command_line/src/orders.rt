@@ -1,6 +1,6 @@
 //! What the program is to do.
 ghost use Rattle.std.specs.Prelude.{◌≡◌};
-ghost use Rattle.bg_switch.specs.declared.orders.OrderFault.TheVariants.{OutOfMemory};
+ghost use Rattle.bg_command_line.specs.declared.orders.OrderFault.TheVariants.{OutOfMemory};
 
 use clap::Error;
 use std::alloc::AllocError;

@@ -1,6 +1,6 @@
 //! A reader that keeps what it read, for those who want to look at it once more.
 ghost use Rattle.std.specs.Prelude.{◌≡◌, []};
-ghost use Rattle.bg_switch.specs.Keeping.{keeping_remaining};
+ghost use Rattle.bg_reasons.specs.Keeping.{keeping_remaining};
 
 use std::alloc::Global;
 use std::io;

@@ -13,7 +13,7 @@ use Rattle.clap.specs.ValueTests.{accepts}
 use Rattle.clap.specs.declared.builder.value_parser.ValueParser.{ValueParser}
 use Rattle.clap.specs.declared.builder.value_parser.Reading.{Reading}
 use Rattle.clap.specs.declared.parser.matches.ValueSource.{ValueSource}
-use Rattle.bg_switch.proofs.WordsTaken.{none_else}
+use Rattle.bg_command_line.proofs.WordsTaken.{none_else}
 
 abbrev pub passes : List Rule → Text → Text → Bool
 passes c id v = option_map_or (λ a. value_passes a v) (arg_by_id c id) true

@@ -5,11 +5,11 @@ use Rattle.clap.specs.Words.{App, IsAmong, IsUnsignedIn, Row, Rule, Text, fault_
 use Rattle.clap.specs.declared.error.Error.{Error}
 use Rattle.clap.specs.declared.error.kind.ErrorKind.TheVariants as kind
 use Rattle.clap.specs.declared.builder.value_parser.ValueParser.TheVariants as value_parser
-use Rattle.bg_switch.specs.declared.orders.Order.{Order}
-use Rattle.bg_switch.specs.declared.orders.Order.TheVariants.{Check, Replay, Serve}
-use Rattle.bg_switch.specs.declared.orders.Site.{Site}
-use Rattle.bg_switch.specs.declared.orders.OrderFault.{OrderFault}
-use Rattle.bg_switch.specs.declared.orders.OrderFault.TheVariants.{Words, OutOfMemory}
+use Rattle.bg_command_line.specs.declared.orders.Order.{Order}
+use Rattle.bg_command_line.specs.declared.orders.Order.TheVariants.{Check, Replay, Serve}
+use Rattle.bg_command_line.specs.declared.orders.Site.{Site}
+use Rattle.bg_command_line.specs.declared.orders.OrderFault.{OrderFault}
+use Rattle.bg_command_line.specs.declared.orders.OrderFault.TheVariants.{Words, OutOfMemory}
 
 -- `--NAME N`, N from 1 to `most`
 abbrev pub number_rule : Text → ℕ → Rule

@@ -1,7 +1,7 @@
 use Rattle.std.proofs.Common.{map}
 use Rattle.clap.specs.Words.{app_of, found_of, rows_of}
-use Rattle.bg_switch.proofs.Accepted.{met, inner_name, inner_rows, known_as, order_as}
-use Rattle.bg_switch.proofs.words.order.Goals as goal
+use Rattle.bg_command_line.proofs.Accepted.{met, inner_name, inner_rows, known_as, order_as}
+use Rattle.bg_command_line.proofs.words.order.Goals as goal
 
 pub order_of-requires : goal.order_of-requires
 order_of-requires c =

@@ -2,7 +2,7 @@
 ghost use Rattle.std.specs.Prelude.{◌≡◌, IfOk, false};
 ghost use Rattle.clap.specs.Words.{app_of, rule_of};
 ghost use Rattle.clap.specs.declared.builder.command.Command.TheViews.{out-Command as fields_of};
-ghost use Rattle.bg_switch.specs.CommandLine.{check_app, number_rule, program, replay_app, required_rule, serve_app, top_app, with_port_rules};
+ghost use Rattle.bg_command_line.specs.CommandLine.{check_app, number_rule, program, replay_app, required_rule, serve_app, top_app, with_port_rules};
 
 use clap::builder::ValueParser;
 use clap::{Arg, Command};

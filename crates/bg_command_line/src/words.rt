@@ -1,7 +1,7 @@
 //! Reads the program's words.
 ghost use Rattle.std.specs.Prelude.{◌≡◌, IfOk, IfErr, map, codes, option_map, is_some, true};
 ghost use Rattle.clap.specs.Words.{IsUnsignedIn, first_of, found_of, rows_of};
-ghost use Rattle.bg_switch.specs.CommandLine.{HasWordsOfServe, IsBetween, IsFaultFrom, IsFaultIn, IsIn, IsKnown, IsOrderIn, IsOrderOf, number};
+ghost use Rattle.bg_command_line.specs.CommandLine.{HasWordsOfServe, IsBetween, IsFaultFrom, IsFaultIn, IsIn, IsKnown, IsOrderIn, IsOrderOf, number};
 
 use crate::command_line::program_command;
 use crate::orders::{Order, OrderFault, Site};

@@ -17,10 +17,10 @@ use Rattle.clap.specs.declared.builder.value_parser.Reading.TheVariants as readi
 use Rattle.clap.specs.declared.parser.matches.ValueSource.TheVariants as value_source
 use Rattle.clap.proofs.OnLiterals.{clap_on_literals}
 use Rattle.clap.proofs.ValueTestLemmas.{accepts-Accepts}
-use Rattle.bg_switch.specs.declared.orders.Order.{Order}
-use Rattle.bg_switch.specs.CommandLine.{IsOrderOf, IsIn, IsKnown, HasWordsOfServe, program, check_app, replay_app, serve_app, number_rule, required_rule}
-use Rattle.bg_switch.proofs.WordsTaken.{none_else, walk_keeps, settled_keeps}
-use Rattle.bg_switch.proofs.ValuesPass.{AreGood, has_none, first_passes, use_keeps}
+use Rattle.bg_command_line.specs.declared.orders.Order.{Order}
+use Rattle.bg_command_line.specs.CommandLine.{IsOrderOf, IsIn, IsKnown, HasWordsOfServe, program, check_app, replay_app, serve_app, number_rule, required_rule}
+use Rattle.bg_command_line.proofs.WordsTaken.{none_else, walk_keeps, settled_keeps}
+use Rattle.bg_command_line.proofs.ValuesPass.{AreGood, has_none, first_passes, use_keeps}
 
 -- ---- the subcommand that is entered
 

@@ -1,0 +1,3 @@
+pub mod WordsTaken
+pub mod ValuesPass
+pub mod Accepted
