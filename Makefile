@@ -4,6 +4,9 @@ CRATES := $(shell sed -n 's/^\([a-z_]*\)[^:]*:.*/\1/p' crates.txt)
 LIBRARIES := $(foreach crate,$(CRATES),$(if $(wildcard crates/$(crate)/src/lib.rt),$(crate)))
 # The libraries that a crate stands on, by its line of crates.txt.
 below = $(filter $(LIBRARIES),$(shell sed -n 's/^$(1)\( [^:]*\)*: *//p' crates.txt))
+# How many checks the gate makes side by side, each with one job: memory holds three, and one that is split into four jobs
+# costs a sixth more processor time.
+CHECKS := $(shell count=$$(nproc); [ $$count -lt 3 ] || count=3; echo $$count)
 BENCHES := $(filter-out bench/run.sh,$(wildcard bench/*.sh))
 
 .PHONY: check build libraries test demo demo-live bench $(LIBRARIES)
@@ -25,7 +28,7 @@ $(LIBRARIES):
 	cd crates/$@ && rt lib
 
 test:
-	rt ci
+	RT_JOBS=$(CHECKS) rt ci
 	scripts/whole_program.sh
 	scripts/live.sh
 	scripts/refused_memory.sh
