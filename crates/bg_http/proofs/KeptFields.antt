@@ -1,11 +1,11 @@
 -- Which fields are kept.
-use Rattle.std.proofs.Common.{◌≡◌, ℕ, Bool, true, false, cond, ◌&&◌, List, [], ◌∷◌, refl, ap, sym, ◌∙◌}
+use Rattle.std.proofs.Common.{◌≡◌, ℕ, Bool, true, false, cond, ◌&&◌, ◌||◌, List, [], ◌∷◌, refl, ap, sym, ◌∙◌}
 use Rattle.std.specs.Prelude.{filter, not, codes}
 use Rattle.std.specs.List.{list_any}
 use Rattle.std.specs.Str.{bytes_eq, str_eq_ignore_ascii_case, str_to_ascii_lowercase}
 use Rattle.std.proofs.lemmas.Bool.{or_left, or_right}
 use Rattle.std.proofs.lemmas.Slice.Eq.{bytes_eq-Decides}
-use Rattle.bg_http.specs.Elements.{Field, is_named, elements_named}
+use Rattle.bg_http.specs.Elements.{Field, is_named, has_field, elements_named}
 use Rattle.bg_http.specs.RequestRules.{expects_continue}
 use Rattle.bg_http.specs.Removed.{is_of_connection, is_named_by_connection, is_removed, is_removed_from_request}
 use Rattle.bg_http.specs.Laws.{StaysHere}
@@ -53,3 +53,17 @@ removed_where_named fields name f named other e =
     both false true h k = refl
     both false false h k = k
     both true b h k = cc
+
+-- where no field has a name, there are no elements under it
+no_elements : (name : List ℕ) (fields : List Field) → has_field name fields ≡ false → elements_named name fields ≡ []
+no_elements name [] none = refl
+no_elements name (f ∷ fields) none = by_test (is_named name f) refl none (no_elements name fields)
+  where
+    by_test : (t : Bool) → is_named name f ≡ t → (t || has_field name fields) ≡ false → (has_field name fields ≡ false → elements_named name fields ≡ [])
+        → elements_named name (f ∷ fields) ≡ []
+    by_test true e h later = cc
+    by_test false e h later = rw e (later h)
+
+-- where there is no Connection, nothing is named
+pub none_named : (fields : List Field) (name : List ℕ) → has_field (codes "connection") fields ≡ false → is_named_by_connection fields name ≡ false
+none_named fields name none = rw (no_elements (codes "connection") fields none) refl

@@ -5,4 +5,5 @@ pub mod KeptFields
 pub mod NamedCodings
 pub mod RuledNames
 pub mod Splits
+pub mod TextParts
 mod WorkedMessages

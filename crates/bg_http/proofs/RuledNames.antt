@@ -1,6 +1,6 @@
 -- A name that is not standard is none that a rule speaks of.
 use Rattle.std.proofs.Common.{◌≡◌, ℕ, Bool, true, false, List, refl, sym, ◌∙◌}
-use Rattle.std.specs.Str.{bytes_eq, str_eq_ignore_ascii_case, str_to_ascii_lowercase}
+use Rattle.std.specs.Str.{str_eq_ignore_ascii_case, str_to_ascii_lowercase}
 use Rattle.std.proofs.lemmas.Slice.Eq.{bytes_eq-Decides}
 use Rattle.http_header.specs.StandardHeader.{IsStandardName}
 use Rattle.http_header.specs.declared.name.standard.StandardHeader.TheVariants as standard

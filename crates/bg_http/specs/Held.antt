@@ -21,7 +21,7 @@ FirstElement value (element, rest) = elements value ≡ element.now ∷ elements
 
 -- the elements that are still to come
 abbrev pub elements_left : Elements → List (List ℕ)
-elements_left e = elements_if e.value ++ elements_named (spelled e.name) e.fields.now
+elements_left e = elements_if e.value ++ elements_named (spelled e.name) e.fields
 
 -- what Content-Length fields say, as the code holds it
 abbrev pub length_held : OneLength → Length

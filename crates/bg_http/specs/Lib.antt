@@ -4,6 +4,7 @@ pub mod Held
 pub mod Laws
 pub mod Lengths
 pub mod Names
+pub mod Places
 pub mod Removed
 pub mod RequestRules
 pub mod ResponseRules

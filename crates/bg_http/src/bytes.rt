@@ -23,7 +23,7 @@ impl Bytes {
     pub fn new(alloc: Global, bytes: &[u8]) -> Result<Bytes, AllocError>
         ensures { IfOk result (λ b. b ≡ bytes.now) }
     {
-        let copy = bytes.to_vec(alloc)?;
+        let copy = Vec::from_slice(alloc, bytes)?;
         Ok(Bytes { bytes: copy })
     }
 

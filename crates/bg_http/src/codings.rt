@@ -4,7 +4,7 @@ ghost use Rattle.bg_http.specs.Codings.{codings, ends_in_chunked};
 ghost use Rattle.bg_http.specs.Held.{add_coding};
 
 use crate::elements::{elements_named, is_same_name};
-use crate::field::Field;
+use crate::fields::Fields;
 use crate::names::RuledName;
 
 /// How many codings there are, counted up to two, and whether the last of them is `chunked`.
@@ -29,7 +29,7 @@ impl Codings {
 }
 
 /// The codings that all Transfer-Encoding fields name (RFC 9112 section 6.1).
-pub(crate) fn named_codings(fields: &[Field]) -> Codings
+pub(crate) fn named_codings(fields: &Fields) -> Codings
     ensures count { result.count ≡ min (length (codings fields.now)) 2 }
     ensures chunked_last { result.chunked_last ≡ ends_in_chunked (codings fields.now) }
 {

@@ -5,7 +5,7 @@ ghost use Rattle.bg_http.specs.Elements.{elements_named as elements_of, has_fiel
 ghost use Rattle.bg_http.specs.Held.{FirstElement, elements_left};
 ghost use Rattle.bg_http.specs.Names.{spelled};
 
-use crate::field::Field;
+use crate::fields::{FieldIter, Fields};
 use crate::names::RuledName;
 
 /// Whether both are one name (RFC 9110 section 5.1: names are compared without case).
@@ -16,7 +16,7 @@ pub(crate) fn is_same_name(one: &[u8], other: &[u8]) -> bool
 }
 
 /// Whether a field has the name.
-pub(crate) fn has_field(fields: &[Field], name: RuledName) -> bool
+pub(crate) fn has_field(fields: &Fields, name: RuledName) -> bool
     ensures { result ≡ has_named (spelled name) fields.now }
 {
     fields.iter().any(|field| field.is(name))
@@ -72,22 +72,22 @@ fn first_element(value: &[u8]) -> (&[u8], Option<&[u8]>)
 }
 
 /// The elements of all fields that have a name, in order.
-#[derive(Clone, Copy)]
+#[derive(Drop)]
 pub(crate) struct Elements<'a> {
     /// What is left of the value of a field that was begun.
     value: Option<&'a [u8]>,
     /// The fields that are left.
-    fields: &'a [Field],
+    fields: FieldIter<'a>,
     name: RuledName,
 }
 
 /// The elements of all fields that have the name, in order.
-pub(crate) fn elements_named(fields: &[Field], name: RuledName) -> Elements<'_>
+pub(crate) fn elements_named(fields: &Fields, name: RuledName) -> Elements<'_>
     ensures { elements_left result ≡ elements_of (spelled name) fields.now }
 {
     Elements {
         value: None,
-        fields,
+        fields: fields.iter(),
         name,
     }
 }
@@ -99,9 +99,8 @@ impl Elements<'_> {
         ensures end { IfNone self.new.value (elements_left self.new ≡ []) }
     {
         while self.value.is_none()
-            && let [field, rest @ ..] = self.fields
+            && let Some(field) = self.fields.next()
         {
-            self.fields = rest;
             if field.is(self.name) {
                 self.value = Some(field.value());
             }

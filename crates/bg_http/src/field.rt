@@ -1,56 +1,53 @@
 //! A field of a head.
-ghost use Rattle.std.specs.Prelude.{◌≡◌, IfOk};
+ghost use Rattle.std.specs.Prelude.{◌≡◌};
 ghost use Rattle.bg_http.specs.Elements.{is_named};
-ghost use Rattle.bg_http.specs.Names.{spelled};
+ghost use Rattle.bg_http.specs.Names.{IsRuledAs, spelled};
 
-use crate::bytes::Bytes;
-use crate::names::{RuledName, ruled_name};
-use std::alloc::{AllocError, Global};
+use crate::names::RuledName;
 use std::marker::Model;
 
-/// A field of a head, which contracts see as its name and its value.
+/// A field of a head, which contracts see as its name and its value. It borrows both from the
+/// head's `Fields`.
 #[derive(Drop, Debug)]
-pub struct Field {
-    name: Bytes,
-    value: Bytes,
-    /// What the name is to the rules; it is looked up once.
+pub struct Field<'a> {
+    name: &'a [u8],
+    value: &'a [u8],
+    /// What the name is to the rules.
     ruled: Option<RuledName>,
 }
 
-impl Model for Field {
+impl<'a> Model for Field<'a> {
     ghost use Rattle.std.specs.Prelude.{List, ℕ};
     ghost use Rattle.bg_http.specs.Names.{IsRuledAs};
 
     ghost Value = { List ℕ × List ℕ };
 
-    ghost view = { λ f. (f.name, f.value) };
+    ghost view = { λ f. (f.name.now, f.value.now) };
 
-    ghost invariant = { λ f. IsRuledAs f.name f.ruled };
+    ghost invariant = { λ f. IsRuledAs f.name.now f.ruled };
 }
 
-impl Field {
-    /// Copies the name and the value; refused only where memory is.
-    pub(crate) fn new(alloc: Global, name: &[u8], value: &[u8]) -> Result<Field, AllocError>
-        ensures { IfOk result (λ f. f ≡ (name.now, value.now)) }
+impl<'a> Field<'a> {
+    /// The field of the name and the value, where the name was looked up.
+    pub(crate) fn new(name: &'a [u8], value: &'a [u8], ruled: Option<RuledName>) -> Field<'a>
+        requires { IsRuledAs name.now ruled }
+        ensures { result ≡ (name.now, value.now) }
     {
-        let ruled = ruled_name(name);
-        let name = Bytes::new(alloc, name)?;
-        let value = Bytes::new(alloc, value)?;
-        Ok(Field { name, value, ruled })
+        Field { name, value, ruled }
     }
 
     /// The name, as it was received.
-    pub fn name(&self) -> &[u8]
+    pub fn name(&self) -> &'a [u8]
         ensures { result.now ≡ self.now.0 }
     {
-        self.name.get()
+        self.name
     }
 
     /// The value.
-    pub fn value(&self) -> &[u8]
+    pub fn value(&self) -> &'a [u8]
         ensures { result.now ≡ self.now.1 }
     {
-        self.value.get()
+        self.value
     }
 
     /// Whether the field has the name, in any case of its letters.

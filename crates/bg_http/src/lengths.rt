@@ -6,7 +6,7 @@ ghost use Rattle.bg_http.specs.Held.{elements_left, length_held};
 ghost use Rattle.bg_http.specs.Lengths.{content_length as length_in, is_digits as is_digits_in, has_digits as has_digits_in, number_within, without_zeros as digits_of};
 
 use crate::elements::{Elements, elements_named};
-use crate::field::Field;
+use crate::fields::Fields;
 use crate::names::RuledName;
 
 /// What all Content-Length fields say together. The digits are without leading zeros, so none for
@@ -56,15 +56,14 @@ fn all_have_digits(mut elements: Elements<'_>, digits: &[u8]) -> bool
 
 /// The one length that all elements of the Content-Length fields give. Texts of digits are
 /// compared, so no number is too large (RFC 9110 section 8.6, RFC 9112 section 6.3).
-pub(crate) fn content_length(fields: &[Field]) -> OneLength<'_>
+pub(crate) fn content_length(fields: &Fields) -> OneLength<'_>
     ensures { length_held result ≡ length_in fields.now }
 {
-    let elements = elements_named(fields, RuledName::ContentLength);
-    let mut others = elements;
-    let Some(first) = others.next() else {
+    let Some(first) = elements_named(fields, RuledName::ContentLength).next() else {
         return OneLength::Absent;
     };
     let digits = without_zeros(first);
+    let elements = elements_named(fields, RuledName::ContentLength);
     if all_have_digits(elements, digits) {
         OneLength::Is(digits)
     } else {

@@ -14,6 +14,7 @@ pub mod laws;
 mod lengths;
 mod memory;
 mod names;
+mod places;
 mod removed;
 mod request;
 mod request_fault;
@@ -26,7 +27,7 @@ mod writers;
 
 pub use bytes::Bytes;
 pub use field::Field;
-pub use fields::Fields;
+pub use fields::{FieldIter, Fields};
 pub use memory::Memory;
 pub use request::{Request, RequestHead};
 pub use request_fault::RequestFault;

@@ -1,31 +1,41 @@
 //! The fields that go no further than one connection.
-ghost use Rattle.std.specs.Prelude.{◌≡◌};
+ghost use Rattle.std.specs.Prelude.{◌≡◌, codes};
 ghost use Rattle.std.specs.List.{list_any};
 ghost use Rattle.std.specs.Str.{str_eq_ignore_ascii_case};
+ghost use Rattle.bg_http.specs.Elements.{has_field as has_named};
 ghost use Rattle.bg_http.specs.Held.{elements_left};
 ghost use Rattle.bg_http.specs.Removed as spec;
 
 use crate::elements::{Elements, elements_named, is_same_name};
 use crate::field::Field;
+use crate::fields::Fields;
 use crate::names::RuledName;
 use crate::request_rules::expects_continue;
 
-/// Whether the field goes no further (RFC 9110 section 7.6.1).
-pub(crate) fn is_removed(fields: &[Field], field: &Field) -> bool
+/// Whether the field goes no further (RFC 9110 section 7.6.1). `has_connection` says whether there
+/// is a Connection field; it is asked once a message.
+pub(crate) fn is_removed(fields: &Fields, has_connection: bool, field: &Field<'_>) -> bool
+    requires { has_connection ≡ has_named (codes "connection") fields.now }
     ensures { result ≡ spec.is_removed fields.now field.now }
 {
     is_of_connection(field)
-        || (!field.is(RuledName::Host) && is_named_by_connection(fields, field.name()))
+        || (!field.is(RuledName::Host)
+            && is_named_by_connection(fields, has_connection, field.name()))
 }
 
 /// Whether the field of a request goes no further.
-pub(crate) fn is_removed_from_request(fields: &[Field], field: &Field) -> bool
+pub(crate) fn is_removed_from_request(
+    fields: &Fields,
+    has_connection: bool,
+    field: &Field<'_>,
+) -> bool
+    requires { has_connection ≡ has_named (codes "connection") fields.now }
     ensures { result ≡ spec.is_removed_from_request fields.now field.now }
 {
-    is_removed(fields, field) || expects_continue(field)
+    is_removed(fields, has_connection, field) || expects_continue(field)
 }
 
-fn is_of_connection(field: &Field) -> bool
+fn is_of_connection(field: &Field<'_>) -> bool
     ensures { result ≡ spec.is_of_connection field.now }
 {
     field.is(RuledName::Connection)
@@ -40,9 +50,13 @@ fn is_of_connection(field: &Field) -> bool
 
 /// Whether an element of the Connection fields is the name. An element that is no name at all is
 /// that of no field.
-fn is_named_by_connection(fields: &[Field], name: &[u8]) -> bool
+fn is_named_by_connection(fields: &Fields, has_connection: bool, name: &[u8]) -> bool
+    requires { has_connection ≡ has_named (codes "connection") fields.now }
     ensures { result ≡ spec.is_named_by_connection fields.now name.now }
 {
+    if !has_connection {
+        return false;
+    }
     have_name(elements_named(fields, RuledName::Connection), name)
 }
 

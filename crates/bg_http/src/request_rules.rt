@@ -8,6 +8,7 @@ ghost use Rattle.bg_http.specs.RequestRules as spec;
 use crate::codings::named_codings;
 use crate::elements::{has_field, is_same_name};
 use crate::field::Field;
+use crate::fields::Fields;
 use crate::lengths::{OneLength, content_length, value_within};
 use crate::names::RuledName;
 use crate::request::RequestHead;
@@ -52,18 +53,18 @@ pub fn judge_request(head: &RequestHead) -> Result<Framing, RequestFault>
 pub fn owes_continue(head: &RequestHead, framing: Framing) -> bool
     ensures { result ≡ spec.owes_continue head.now framing }
 {
-    head.minor != 0 && has_body(framing) && has_expectation(head.fields.get())
+    head.minor != 0 && has_body(framing) && has_expectation(&head.fields)
 }
 
 /// Whether there is an Expect that is `100-continue`.
-fn has_expectation(fields: &[Field]) -> bool
+fn has_expectation(fields: &Fields) -> bool
     ensures { result ≡ list_any spec.expects_continue fields.now }
 {
-    fields.iter().any(|field| expects_continue(field))
+    fields.iter().any(|field| expects_continue(&field))
 }
 
 /// Whether the field is an Expect that is `100-continue`.
-pub(crate) fn expects_continue(field: &Field) -> bool
+pub(crate) fn expects_continue(field: &Field<'_>) -> bool
     ensures { result ≡ spec.expects_continue field.now }
 {
     field.is(RuledName::Expect) && is_same_name(field.value(), b"100-continue")
@@ -83,7 +84,7 @@ fn has_body(framing: Framing) -> bool
 fn framing_of(head: &RequestHead) -> Framing
     ensures { result ≡ spec.framing_of head.now }
 {
-    if has_field(head.fields.get(), RuledName::TransferEncoding) {
+    if has_field(&head.fields, RuledName::TransferEncoding) {
         return Framing::Chunks;
     }
     match body_length(head) {
@@ -115,7 +116,7 @@ fn connect_fault(head: &RequestHead) -> Option<RequestFault>
 fn host_fault(head: &RequestHead) -> Option<RequestFault>
     ensures { result ≡ spec.host_fault head.now }
 {
-    let hosts = count_named(head.fields.get(), RuledName::Host);
+    let hosts = count_named(&head.fields, RuledName::Host);
     if hosts > 1 || (hosts == 0 && head.minor != 0) {
         return Some(RequestFault::Bad);
     }
@@ -123,7 +124,7 @@ fn host_fault(head: &RequestHead) -> Option<RequestFault>
 }
 
 /// How many fields have the name.
-fn count_named(fields: &[Field], name: RuledName) -> usize
+fn count_named(fields: &Fields, name: RuledName) -> usize
     ensures { result ≡ count_by (is_named (spelled name)) fields.now }
 {
     fields.iter().filter(|field| field.is(name)).count()
@@ -132,7 +133,7 @@ fn count_named(fields: &[Field], name: RuledName) -> usize
 fn framing_fault(head: &RequestHead) -> Option<RequestFault>
     ensures { result ≡ spec.framing_fault head.now }
 {
-    let fields = head.fields.get();
+    let fields = &head.fields;
     if has_field(fields, RuledName::TransferEncoding)
         && (has_field(fields, RuledName::ContentLength) || head.minor == 0)
     {
@@ -144,7 +145,7 @@ fn framing_fault(head: &RequestHead) -> Option<RequestFault>
 fn coding_fault(head: &RequestHead) -> Option<RequestFault>
     ensures { result ≡ spec.coding_fault head.now }
 {
-    let fields = head.fields.get();
+    let fields = &head.fields;
     if !has_field(fields, RuledName::TransferEncoding) {
         return None;
     }
@@ -168,7 +169,7 @@ fn length_fault(head: &RequestHead) -> Option<RequestFault>
 fn body_length(head: &RequestHead) -> Result<Option<usize>, RequestFault>
     ensures { result ≡ spec.body_length head.now }
 {
-    match content_length(head.fields.get()) {
+    match content_length(&head.fields) {
         OneLength::Absent => Ok(None),
         OneLength::Is(digits) => match value_within(digits, MOST_REQUEST_BODY) {
             Some(size) => Ok(Some(size)),

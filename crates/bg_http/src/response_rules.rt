@@ -54,7 +54,7 @@ pub fn judge_response(
     if has_no_body(request, head.code) {
         return Ok(ResponseFraming::NoBody);
     }
-    if has_field(head.fields.get(), RuledName::TransferEncoding) {
+    if has_field(&head.fields, RuledName::TransferEncoding) {
         return framing_by_codings(head);
     }
     framing_by_length(head)
@@ -67,7 +67,7 @@ pub fn judge_response(
 pub fn length_told(head: &ResponseHead) -> Option<&[u8]>
     ensures { option_copied result ≡ spec.length_told head.now }
 {
-    let fields = head.fields.get();
+    let fields = &head.fields;
     if head.code == 204 || has_field(fields, RuledName::TransferEncoding) {
         return None;
     }
@@ -109,7 +109,7 @@ pub(crate) fn has_no_body(request: &Request, code: u16) -> bool
 fn framing_by_codings(head: &ResponseHead) -> Result<ResponseFraming, ResponseFault>
     ensures { result ≡ spec.framing_by_codings head.now }
 {
-    let found = named_codings(head.fields.get());
+    let found = named_codings(&head.fields);
     if head.minor != 0 && found.chunked_last && found.count == 1 {
         Ok(ResponseFraming::Chunks)
     } else {
@@ -120,7 +120,7 @@ fn framing_by_codings(head: &ResponseHead) -> Result<ResponseFraming, ResponseFa
 fn framing_by_length(head: &ResponseHead) -> Result<ResponseFraming, ResponseFault>
     ensures { result ≡ spec.framing_by_length (content_length_of head.now.fields) }
 {
-    match content_length(head.fields.get()) {
+    match content_length(&head.fields) {
         OneLength::Absent => Ok(ResponseFraming::ToTheEnd),
         OneLength::Is(digits) => match value_within(digits, MOST_RESPONSE_BODY) {
             Some(size) => Ok(ResponseFraming::Length(size)),

@@ -56,7 +56,7 @@ fn write_host<W: Write>(request: &Request, port: u16, writer: &mut W) -> io::Res
     ensures { OnOk result (Appends (W.contents writer.old) (W.contents writer.new)
         (spec.host_line request.now port)) }
 {
-    if request.minor == 0 && !has_field(request.fields.get(), RuledName::Host) {
+    if request.minor == 0 && !has_field(&request.fields, RuledName::Host) {
         write!(writer, "Host: 127.0.0.1:{port}\r\n")?;
     }
     Ok(())
@@ -73,7 +73,7 @@ fn write_via<W: Write>(request: &Request, writer: &mut W) -> io::Result<()>
     }
 }
 
-fn write_field<W: Write>(field: &Field, writer: &mut W) -> io::Result<()>
+fn write_field<W: Write>(field: &Field<'_>, writer: &mut W) -> io::Result<()>
     ensures { OnOk result (Appends (W.contents writer.old) (W.contents writer.new)
         (spec.field_line field.now)) }
 {
@@ -88,10 +88,10 @@ fn write_request_fields<W: Write>(fields: &Fields, writer: &mut W) -> io::Result
     ensures { OnOk result (Appends (W.contents writer.old) (W.contents writer.new)
         (flat_map spec.field_line (kept_in_request fields.now))) }
 {
-    let fields = fields.get();
-    for field in fields {
-        if !is_removed_from_request(fields, field) {
-            write_field(field, writer)?;
+    let has_connection = has_field(fields, RuledName::Connection);
+    for field in fields.iter() {
+        if !is_removed_from_request(fields, has_connection, &field) {
+            write_field(&field, writer)?;
         }
     }
     Ok(())
@@ -155,10 +155,10 @@ fn write_response_fields<W: Write>(fields: &Fields, writer: &mut W) -> io::Resul
     ensures { OnOk result (Appends (W.contents writer.old) (W.contents writer.new)
         (flat_map spec.field_line (kept_in_response fields.now))) }
 {
-    let fields = fields.get();
-    for field in fields {
-        if !is_removed(fields, field) {
-            write_field(field, writer)?;
+    let has_connection = has_field(fields, RuledName::Connection);
+    for field in fields.iter() {
+        if !is_removed(fields, has_connection, &field) {
+            write_field(&field, writer)?;
         }
     }
     Ok(())

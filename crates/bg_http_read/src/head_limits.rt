@@ -24,9 +24,5 @@ pub(crate) fn copy_fields(
     requires { All (IsHeaderWithin (length input.now)) spans.now }
     ensures { IfOk result (λ fields. fields ≡ map (header_bytes input.now) spans.now) }
 {
-    let mut fields = Fields::with_room(alloc, spans.len())?;
-    for span in spans {
-        fields.add(span.name.of(input), span.value.of(input))?;
-    }
-    Ok(fields)
+    Fields::of_spans(alloc, input, spans)
 }

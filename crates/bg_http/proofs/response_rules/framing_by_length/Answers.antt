@@ -5,4 +5,4 @@ use Rattle.bg_http.proofs.response_rules.framing_by_length.Goals as goal
 
 pub value_within-requires-clause-digits : goal.value_within-requires-clause-digits
 value_within-requires-clause-digits c =
-    length_has_digits (elements_named (codes "content-length") c.get.result.now) c.in-Is.digits.now c.in-Is.ensures
+    length_has_digits (elements_named (codes "content-length") c.args.head.now.fields) c.in-Is.digits.now c.in-Is.ensures

@@ -1,4 +1,4 @@
-use Rattle.std.proofs.Common.{take}
+use Rattle.std.proofs.Common.{◌≡◌, ◌++◌}
 use Rattle.std.specs.Prelude.{flat_map, filter, not}
 use Rattle.std.specs.Io.KnownBytes.{Appends}
 use Rattle.bg_http.specs.Removed.{is_removed_from_request}
@@ -7,5 +7,6 @@ use Rattle.bg_http.proofs.writers.write_request_fields.Given as goal
 
 abbrev pub invariant-loop-field : goal.invariant-loop-field
 invariant-loop-field g l =
-    Appends (g.W.Write.contents l.fn.writer) (g.W.Write.contents l.writer)
-    (flat_map field_line (filter (λ f. not (is_removed_from_request l.fields f)) (take l.field-index l.fields)))
+    (l.yielded ++ l.field-iterator ≡ l.fields)
+    × Appends (g.W.Write.contents l.fn.writer) (g.W.Write.contents l.writer)
+    (flat_map field_line (filter (λ f. not (is_removed_from_request l.fields f)) l.yielded))

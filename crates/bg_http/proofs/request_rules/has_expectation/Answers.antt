@@ -1,0 +1,10 @@
+use Rattle.std.proofs.Common.{rules, tests}
+use Rattle.std.proofs.lemmas.Iterator.Consumers.{YieldsList-from_first}
+use Rattle.std.proofs.lemmas.Iterator.Search.{any_from_yields_List}
+use Rattle.bg_http.specs.RequestRules.{expects_continue}
+use Rattle.bg_http.proofs.request_rules.has_expectation.Goals as goal
+
+pub returns : goal.returns
+returns c =
+    any_from_yields_List expects_continue c.any.new.self _ _ c.any.ensures.ran
+    (YieldsList-from_first (λ x. x) (λ left. left) c.args.fields.now c.iter.ensures) (λ x b q k. search (rules, tests))

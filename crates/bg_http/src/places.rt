@@ -1,0 +1,38 @@
+//! Where the fields of a head stand in its text.
+ghost use Rattle.std.specs.Prelude.{◌≡◌, length};
+ghost use Rattle.httparse.specs.Spans.{IsHeaderWithin};
+ghost use Rattle.bg_http.specs.Places.{IsPlaceIn, field_at};
+
+use crate::field::Field;
+use crate::names::{RuledName, ruled_name};
+use httparse::spans::HeaderSpan;
+
+/// Where a field stands in the text of its head.
+#[derive(Clone, Copy, Debug)]
+pub(crate) struct Place {
+    pub(crate) spans: HeaderSpan,
+    /// What the name is to the rules; it is looked up once.
+    pub(crate) ruled: Option<RuledName>,
+}
+
+impl Place {
+    /// The place of the field that the spans cover.
+    pub(crate) fn new(text: &[u8], spans: HeaderSpan) -> Place
+        requires { IsHeaderWithin (length text.now) spans }
+        ensures is_place { IsPlaceIn text.now result }
+        ensures same { result.spans ≡ spans }
+    {
+        let ruled = ruled_name(spans.name.of(text));
+        Place { spans, ruled }
+    }
+
+    /// The field that stands there.
+    pub(crate) fn field_in(self, text: &[u8]) -> Field<'_>
+        requires { IsPlaceIn text.now self }
+        ensures { result ≡ field_at text.now self }
+    {
+        let name = self.spans.name.of(text);
+        let value = self.spans.value.of(text);
+        Field::new(name, value, self.ruled)
+    }
+}
