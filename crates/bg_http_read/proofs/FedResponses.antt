@@ -12,7 +12,8 @@ use Rattle.bg_http_read.specs.Bodies.{Follows, KeepsLimit, Reads, Fails, Refuses
 use Rattle.bg_http_read.specs.BodiesRead.{read_fault}
 use Rattle.bg_http_read.specs.BodyFaults.{Failure, malformed, large, cut}
 use Rattle.bg_http_read.specs.Responses.{AfterInterim, IsFinalHead, SkipsInterim, FramedResponseBodyFails, ReadsResponse, ReadsResponseBody, ResponseBodyFails, ResponseFails, length_of_response, most_response_body, no_body}
-use Rattle.bg_http_read.specs.ResponsesFed.{Advances, AdvancesTo, AwaitsHead, IsSeen, LacksResponse, Starts, stage_seen, GoesToTheEnd, HasParts, IsFed, IsFedBody, IsFedStage, IsOpen, IsOpenStage, IsRead, IsRefused, NeedsMore, StartsBody, WantsBody, WantsStage, first_stage, most_of}
+use Rattle.bg_http_read.specs.ResponsesFed.{Advances, AdvancesTo, AwaitsHead, IsSeen, Starts, stage_seen, HasParts, IsFed, IsFedBody, IsFedStage, IsOpen, IsOpenStage, StartsBody, WantsBody, WantsStage, first_stage, most_of}
+use Rattle.bg_http_read.specs.ResponseStates.{LacksResponse, GoesToTheEnd, IsRead, IsRefused, NeedsMore}
 use Rattle.bg_http_read.specs.Streams.{waiting}
 use Rattle.bg_http_read.specs.declared.body.Body.{Body}
 use Rattle.bg_http_read.specs.declared.body.Stage.{Stage}
@@ -20,7 +21,7 @@ use Rattle.bg_http_read.specs.declared.body.Stage.TheVariants as stage
 use Rattle.bg_http_read.specs.declared.body_fault.BodyFault.{BodyFault}
 use Rattle.bg_http_read.specs.declared.body_fault.BodyFault.TheVariants as body_fault
 use Rattle.bg_http_read.specs.declared.response_body.ResponseBody.{ResponseBody}
-use Rattle.bg_http_read.specs.declared.response_parser.ResponseParser.{ResponseParser}
+use Rattle.bg_http_read.specs.declared.response_feed.ResponseFeed.{ResponseFeed}
 use Rattle.bg_http_read.specs.declared.response_progress.Advance.{Advance}
 use Rattle.bg_http_read.specs.HeadEnds.{after_bytes, is_over}
 use Rattle.bg_http_read.specs.declared.head_end.HeadEnd.TheVariants as head_end
@@ -341,7 +342,7 @@ pub advanced_response : (request : Request) (seen left : List ℕ) (s : Response
 advanced_response request seen left s (Some response) h = h
 advanced_response request seen left s None h = tt
 
-pub advanced_none_at : (request : Request) (seen left : List ℕ) (parser : ResponseParser)
+pub advanced_none_at : (request : Request) (seen left : List ℕ) (parser : ResponseFeed)
     (found : Option Response) → parser.progress.request.now ≡ request
     → AdvancesTo request seen left found parser.progress.stage
     → IfNone found (IsOpenStage parser.progress.stage) → waiting parser.intake ≡ left
@@ -355,7 +356,7 @@ advanced_none_at request seen left parser None asked h goes_on waits = (
   fed_needs_more request parser.progress.stage left seen h.0 goes_on h.1,
 )
 
-pub advanced_open : (left : List ℕ) (parser : ResponseParser) (found : Option Response)
+pub advanced_open : (left : List ℕ) (parser : ResponseFeed) (found : Option Response)
     → IfNone found (IsOpenStage parser.progress.stage)
     → IfNone found (IsSeen parser.progress.stage left) → waiting parser.intake ≡ left
     → IfNone found (IsOpen parser)

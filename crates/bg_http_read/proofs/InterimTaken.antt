@@ -1,5 +1,5 @@
 -- Interim responses and the head after them, at the front of bytes.
-use Rattle.std.proofs.Common.{◌≡◌, true, ℕ, zero, suc, ◌≤◌, List, ◌++◌, refl, ap, ◌∙◌, arith, Ok, Err}
+use Rattle.std.proofs.Common.{◌≡◌, true, ℕ, zero, suc, ◌≤◌, List, ◌++◌, refl, ap, ◌∙◌, arith, Ok, Err, Option, Some, None, IfSome}
 use Rattle.bg_http.specs.ResponseRules.{response_framing}
 use Rattle.bg_http.specs.declared.request.Request.{Request}
 use Rattle.bg_http.specs.declared.response.ResponseHead.{ResponseHead}
@@ -10,7 +10,7 @@ use Rattle.bg_http.specs.declared.response_rules.ResponseFraming.TheVariants as 
 use Rattle.bg_http_read.specs.HeadFaults.{ResponseHeadFails, of_head}
 use Rattle.bg_http_read.specs.ResponseHeads.{ReadsResponseHead}
 use Rattle.bg_http_read.specs.Responses.{AfterInterim, IsFinalHead, JudgedResponse, ResponseFails, SkipsInterim, names_another, breaks_rule, no_head, many_interim}
-use Rattle.bg_http_read.specs.ResponsesFed.{IsRefused}
+use Rattle.bg_http_read.specs.ResponseStates.{IsRefused}
 use Rattle.bg_http_read.specs.declared.head_fault.HeadFault.{HeadFault}
 use Rattle.bg_http_read.proofs.ResponseHeadsFound.{response_head_more, response_head_fails_more}
 
@@ -104,3 +104,9 @@ pub reading_fails : (request : Request) (input : List ℕ)
     → ResponseFails request input fault.ReadFailed
 reading_fails request input =
     no_head (record { count = 0; few = omega arith; after = input; skips = refl; holds = tt })
+
+-- where a read failed, nothing is said of the input
+pub machine_reading : (request : Request) (first : Option (List ℕ))
+    → IfSome first (λ i. ResponseFails request i fault.ReadFailed)
+machine_reading request None = tt
+machine_reading request (Some i) = reading_fails request i

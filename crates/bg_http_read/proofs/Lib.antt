@@ -22,9 +22,11 @@ pub mod RequestsRead
 pub mod RequestBodies
 pub mod ResponseBodies
 pub mod ResponseOrFault
-pub mod ResponsePieces
+pub mod Pieces
 pub mod ResponseHeadsFound
+pub mod States
 pub mod StreamFaults
 pub mod TrailersFound
+pub mod Walks
 mod WorkedBodies
 mod WorkedHeads

@@ -1,10 +1,8 @@
 -- Within a line only its end tells anything, and after the end of a head nothing does.
-use Rattle.std.proofs.Common.{◌≡◌, ◌<◌, ◌≤◌, ℕ, zero, suc, true, false, Bool, ◌==◌, if◌then◌else◌, List, [], ◌∷◌, length, drop, refl, ap, sym, ◌∙◌, arith}
-use Rattle.std.specs.Prelude.{slice_index}
+use Rattle.std.proofs.Common.{◌≡◌, ◌≤◌, ℕ, zero, suc, true, false, Bool, ◌==◌, if◌then◌else◌, List, [], ◌∷◌, length, drop, refl, ap, sym, ◌∙◌, arith}
 use Rattle.std.proofs.lemmas.List.{drop_all}
 use Rattle.memchr.specs.Find.{Nowhere, Passes, is_byte}
 use Rattle.bg_http_read.specs.HeadEnds.{after_byte, after_bytes}
-use Rattle.bg_http_read.specs.declared.head_end.HeadEnd.{HeadEnd}
 use Rattle.bg_http_read.specs.declared.head_end.HeadEnd.TheVariants as end
 
 -- a byte that ends no line

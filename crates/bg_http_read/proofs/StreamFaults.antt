@@ -11,7 +11,7 @@ use Rattle.bg_http.specs.declared.response_fault.ResponseFault.{ResponseFault}
 use Rattle.bg_http.specs.declared.response_fault.ResponseFault.TheVariants as fault
 use Rattle.bg_http.specs.declared.response_rules.ResponseFraming.{ResponseFraming}
 use Rattle.bg_http.specs.declared.response_rules.ResponseFraming.TheVariants as framing
-use Rattle.bg_http_read.specs.ResponsesFed.{is_of_stream}
+use Rattle.bg_http_read.specs.ResponseStates.{is_of_stream}
 
 -- what holds of the fault that is known holds of the fault of an answer
 pub if_err_is : {T E : Type 0} (P : E → Type 0) (r : Result T E) (e : E)

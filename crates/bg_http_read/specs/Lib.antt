@@ -8,6 +8,7 @@ pub mod Laws
 pub mod RequestHeads
 pub mod Requests
 pub mod ResponseHeads
+pub mod ResponseStates
 pub mod Responses
 pub mod ResponsesFed
 pub mod Streams

@@ -1,5 +1,5 @@
--- What the parser of a response was fed, and what it answers.
-use Rattle.std.specs.Prelude.{◌≡◌, ◌⊎◌, Bool, true, false, IsFalse, ℕ, ◌≤◌, List, [], ◌++◌, length, drop, Option, Some, None, Result, Ok, Err, ⊤}
+-- What was fed of a response, and what is still to be read of it.
+use Rattle.std.specs.Prelude.{◌≡◌, false, IsFalse, ℕ, ◌≤◌, List, [], drop, Option, Some, None, Result, Ok, Err, ⊤}
 use Rattle.bg_http.specs.declared.request.Request.{Request}
 use Rattle.bg_http.specs.declared.response.Response.{Response}
 use Rattle.bg_http.specs.declared.response_fault.ResponseFault.{ResponseFault}
@@ -7,7 +7,8 @@ use Rattle.bg_http.specs.declared.response_fault.ResponseFault.TheVariants as fa
 use Rattle.bg_http.specs.declared.response_rules.ResponseFraming.{ResponseFraming}
 use Rattle.bg_http.specs.declared.response_rules.ResponseFraming.TheVariants as framing
 use Rattle.bg_http_read.specs.Bodies.{Follows, KeepsLimit, can_end, is_whole}
-use Rattle.bg_http_read.specs.Responses.{AfterInterim, FinalHeadThen, IsFinalHead, ReadsResponse, ResponseFails, SkipsInterim, length_of_response, most_response_body}
+use Rattle.bg_http_read.specs.Responses.{AfterInterim, IsFinalHead, ResponseFails, SkipsInterim, length_of_response, most_response_body}
+use Rattle.bg_http_read.specs.ResponseStates.{IsRead, IsRefused}
 use Rattle.bg_http_read.specs.Streams.{waiting}
 use Rattle.bg_http_read.specs.HeadEnds.{after_bytes, is_over}
 use Rattle.bg_http_read.specs.declared.head_end.HeadEnd.TheVariants as head_end
@@ -16,42 +17,10 @@ use Rattle.bg_http_read.specs.declared.body.Stage.{Stage}
 use Rattle.bg_http_read.specs.declared.body.Stage.TheVariants as stage
 use Rattle.bg_http_read.specs.declared.final_head.HeadSearch.{HeadSearch}
 use Rattle.bg_http_read.specs.declared.response_body.ResponseBody.{ResponseBody}
-use Rattle.bg_http_read.specs.declared.response_parser.ResponseParser.{ResponseParser}
+use Rattle.bg_http_read.specs.declared.response_feed.ResponseFeed.{ResponseFeed}
 use Rattle.bg_http_read.specs.declared.response_progress.Advance.{Advance}
 use Rattle.bg_http_read.specs.declared.response_progress.ResponseStage.{ResponseStage}
 use Rattle.bg_http_read.specs.declared.response_progress.ResponseStage.TheVariants as part
-
--- whatever follows the bytes, they begin with the response
-abbrev pub IsRead : Request → Response → List ℕ → Type 0
-IsRead request response seen = (more : List ℕ) → ReadsResponse request response (seen ++ more)
-
--- whatever follows the bytes, they are at fault so
-abbrev pub IsRefused : Request → ResponseFault → List ℕ → Type 0
-IsRefused request named seen = (more : List ℕ) → ResponseFails request (seen ++ more) named
-
--- the bytes are a response whose body goes to the end of the input
-abbrev pub GoesToTheEnd : Request → List ℕ → Type 0
-GoesToTheEnd request seen =
-    AfterInterim request seen
-    (FinalHeadThen request (λ named after. (named ≡ framing.ToTheEnd)
-    × (length after ≤ most_response_body)))
-
--- no response is whole
-abbrev pub LacksResponse : Request → List ℕ → Type 0
-LacksResponse request seen = (response : Response) → ¬ (ReadsResponse request response seen)
-
--- more bytes are needed: no response is whole, or it goes to the end of the input
-abbrev pub NeedsMore : Request → List ℕ → Type 0
-NeedsMore request seen = LacksResponse request seen ⊎ GoesToTheEnd request seen
-
--- the fault is one of the stream, not of its bytes or of memory
-abbrev pub is_of_stream : ResponseFault → Bool
-is_of_stream fault.ReadFailed = true
-is_of_stream fault.HeadTooLarge = false
-is_of_stream fault.Bad = false
-is_of_stream fault.TooLarge = false
-is_of_stream fault.Closed = true
-is_of_stream fault.OutOfMemory = false
 
 -- no more interim responses were taken than may be
 abbrev pub IsReady : HeadSearch → Type 0
@@ -121,20 +90,20 @@ AwaitsHead (part.Heads search) = is_over search.end ≡ false
 AwaitsHead (part.Body response) = ⊥
 AwaitsHead part.Done = ⊥
 
--- the parser of the response to the request was fed these bytes, one piece after the other
-pub record IsFed (parser : ResponseParser) (request : Request) (seen : List ℕ) : Type 0 where
-  pub request_is : parser.progress.request.now ≡ request
-  pub stage_is : IsFedStage request parser.progress.stage (waiting parser.intake) seen
+-- of the response to the request these bytes were fed, one piece after the other
+pub record IsFed (feed : ResponseFeed) (request : Request) (seen : List ℕ) : Type 0 where
+  pub request_is : feed.progress.request.now ≡ request
+  pub stage_is : IsFedStage request feed.progress.stage (waiting feed.intake) seen
 
 abbrev pub IsOpenStage : ResponseStage → Type 0
 IsOpenStage (part.Heads search) = IsReady search
 IsOpenStage (part.Body response) = KeepsLimit response.body
 IsOpenStage part.Done = ⊥
 
--- the parser may be fed or ended: it gave no answer and no fault
-abbrev pub IsOpen : ResponseParser → Type 0
-IsOpen parser =
-    IsOpenStage parser.progress.stage × IsSeen parser.progress.stage (waiting parser.intake)
+-- more may be fed, or the end: no answer was given and no fault
+abbrev pub IsOpen : ResponseFeed → Type 0
+IsOpen feed =
+    IsOpenStage feed.progress.stage × IsSeen feed.progress.stage (waiting feed.intake)
 
 -- the body isn't whole: it is cut off where the input ends here, or goes to the end
 pub record WantsBody (request : Request) (response : ResponseBody) (waits seen : List ℕ)

@@ -4,7 +4,8 @@ ghost use Rattle.std.specs.Prelude.{drop, length, nat_le};
 ghost use Rattle.bg_http_read.specs.HeadEnds.{after_bytes, is_over};
 ghost use Rattle.bg_http_read.specs.ResponseHeads.{ResponseHeadIsCut};
 ghost use Rattle.bg_http_read.specs.Responses.{AfterInterim, IsFinalHead, SkipsInterim, names_another};
-ghost use Rattle.bg_http_read.specs.ResponsesFed.{IsReady, IsRefused, is_of_stream};
+ghost use Rattle.bg_http_read.specs.ResponsesFed.{IsReady};
+ghost use Rattle.bg_http_read.specs.ResponseStates.{IsRefused, is_of_stream};
 ghost use Rattle.bg_http_read.specs.declared.head_end.HeadEnd.TheVariants as head_end;
 
 use crate::head_end::HeadEnd;

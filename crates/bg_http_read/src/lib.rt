@@ -18,10 +18,12 @@ mod request_head;
 mod request_head_read;
 mod request_read;
 mod response_body;
+mod response_feed;
 mod response_head;
 mod response_parser;
 mod response_progress;
 mod response_read;
+mod seen;
 mod trailers;
 
 pub use in_memory::request_in;

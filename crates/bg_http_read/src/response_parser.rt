@@ -1,35 +1,52 @@
 //! A response, which is fed the bytes of the input as they come.
-ghost use Rattle.std.specs.Prelude.{◌≡◌, ◌++◌, [], List, ℕ, IfErr, IfOk, IfNone, IfSome, IsFalse};
-ghost use Rattle.bg_http.specs.declared.request.Request.{Request as RequestValue};
+ghost use Rattle.std.specs.Prelude.{◌≡◌, ◌++◌, [], true, IfErr, IfOk, IfNone, IfSome, IsFalse, IsTrue};
 ghost use Rattle.bg_http.specs.declared.response_fault.ResponseFault.TheVariants as response_fault;
 ghost use Rattle.bg_http_read.specs.Responses.{ReadsResponse, ResponseFails};
-ghost use Rattle.bg_http_read.specs.ResponsesFed.{IsFed, IsOpen, IsRead};
-ghost use Rattle.bg_http_read.specs.ResponsesFed.{IsOpenStage, IsRefused, IsSeen, NeedsMore, is_of_stream};
-ghost use Rattle.bg_http_read.specs.Streams.{waiting};
+ghost use Rattle.bg_http_read.specs.ResponseStates.{IsRead, IsRefused, NeedsMore, asks_more, is_of_stream};
 
-use crate::intake::{Intake, behind};
-use crate::response_progress::{Advance, ResponseProgress};
+use crate::response_feed::ResponseFeed;
+use crate::seen::Seen;
 use bg_http::{Request, Response, ResponseFault};
 use std::alloc::Global;
+use std::marker::Model;
 
 /// A response, which is fed the bytes of the input as they come (RFC 9112). Where the input is cut
 /// into pieces doesn't matter.
 #[derive(Drop)]
 pub struct ResponseParser<'a> {
-    /// What was fed and not yet taken.
-    intake: Intake,
-    progress: ResponseProgress<'a>,
+    feed: ResponseFeed<'a>,
+    seen: Seen,
+    is_open: bool,
+}
+
+impl<'a> Model for ResponseParser<'a> {
+    ghost use Rattle.std.specs.Prelude.{IsTrue};
+    ghost use Rattle.bg_http_read.specs.ResponseStates.{ResponseState};
+
+    ghost Value = { ResponseState };
+
+    ghost use Rattle.bg_http_read.specs.ResponsesFed.{IsFed, IsOpen};
+
+    ghost view = { λ parser. record {
+      request = parser.feed.progress.request.now;
+      seen = parser.seen.bytes;
+      is_open = parser.is_open;
+    } };
+
+    ghost invariant = { λ parser. IsTrue parser.is_open
+        → IsFed parser.feed parser.feed.progress.request.now parser.seen.bytes
+        × IsOpen parser.feed };
 }
 
 impl<'a> ResponseParser<'a> {
     /// The response to `request`, of which nothing came.
     pub fn new(alloc: Global, request: &'a Request) -> ResponseParser<'a>
-        ensures fed { IsFed result request.now [] }
-        ensures goes_on { IsOpen result }
+        ensures { result ≡ record { request = request.now; seen = []; is_open = true } }
     {
         ResponseParser {
-            intake: Intake::new(alloc),
-            progress: ResponseProgress::new(alloc, request),
+            feed: ResponseFeed::new(alloc, request),
+            seen: Seen::new(),
+            is_open: true,
         }
     }
 
@@ -41,94 +58,39 @@ impl<'a> ResponseParser<'a> {
     /// 16,384 bytes have, or at the end. After a response or a fault the parser is neither fed nor
     /// ended.
     pub fn feed(&mut self, bytes: &[u8]) -> Result<Option<Response>, ResponseFault>
-        requires { IsOpen self.old }
-        ensures response { (request : RequestValue) (seen : List ℕ) → IsFed self.old request seen
-            → IfOk result (λ found. IfSome found (λ response.
-            IsRead request response (seen ++ bytes.now))) }
-        ensures none_yet { (request : RequestValue) (seen : List ℕ) → IsFed self.old request seen
-            → IfOk result (λ found. IfNone found
-            (IsFed self.new request (seen ++ bytes.now) × NeedsMore request (seen ++ bytes.now))) }
-        ensures refused { (request : RequestValue) (seen : List ℕ) → IsFed self.old request seen
-            → IfErr result (λ fault. IsRefused request fault (seen ++ bytes.now)) }
+        requires { IsTrue self.old.is_open }
+        ensures response { IfOk result (λ found. IfSome found (λ response.
+            IsRead self.old.request response (self.old.seen ++ bytes.now))) }
+        ensures none_yet { IfOk result (λ found. IfNone found
+            ((self.new ≡ record self.old { seen = self.old.seen ++ bytes.now })
+            × NeedsMore self.old.request (self.old.seen ++ bytes.now))) }
+        ensures refused { IfErr result (λ fault.
+            IsRefused self.old.request fault (self.old.seen ++ bytes.now)) }
         ensures fault { IfErr result (λ fault. IsFalse (is_of_stream fault)) }
-        ensures goes_on { IfOk result (λ found. IfNone found (IsOpen self.new)) }
+        ensures goes_on { self.new.is_open ≡ asks_more result }
     {
-        if self.intake.is_empty() {
-            return self.feed_first(bytes);
+        self.seen.add(bytes);
+        self.is_open = false;
+        match self.feed.feed(bytes) {
+            Ok(Some(response)) => Ok(Some(response)),
+            Ok(None) => {
+                self.is_open = true;
+                Ok(None)
+            }
+            Err(fault) => Err(fault),
         }
-        match self.intake.add(bytes) {
-            Ok(()) => self.look(bytes),
-            Err(_) => Err(ResponseFault::OutOfMemory),
-        }
-    }
-
-    /// Adds bytes where none wait: what can be taken of them is copied no second time.
-    fn feed_first(&mut self, bytes: &[u8]) -> Result<Option<Response>, ResponseFault>
-        requires goes_on { IsOpen self.old }
-        requires empty { waiting self.old.intake ≡ [] }
-        ensures response { (request : RequestValue) (seen : List ℕ) → IsFed self.old request seen
-            → IfOk result (λ found. IfSome found (λ response.
-            IsRead request response (seen ++ bytes.now))) }
-        ensures none_yet { (request : RequestValue) (seen : List ℕ) → IsFed self.old request seen
-            → IfOk result (λ found. IfNone found
-            (IsFed self.new request (seen ++ bytes.now) × NeedsMore request (seen ++ bytes.now))) }
-        ensures refused { (request : RequestValue) (seen : List ℕ) → IsFed self.old request seen
-            → IfErr result (λ fault. IsRefused request fault (seen ++ bytes.now)) }
-        ensures fault { IfErr result (λ fault. IsFalse (is_of_stream fault)) }
-        ensures goes_on { IfOk result (λ found. IfNone found (IsOpen self.new)) }
-    {
-        let Advance { response, taken } = self.progress.advance(bytes)?;
-        match response {
-            Some(response) => Ok(Some(response)),
-            None => match self.intake.add(behind(bytes, taken)) {
-                Ok(()) => Ok(None),
-                Err(_) => Err(ResponseFault::OutOfMemory),
-            },
-        }
-    }
-
-    /// Looks at what waits, to which bytes were added, where it is worth while.
-    fn look(&mut self, bytes: &[u8]) -> Result<Option<Response>, ResponseFault>
-        requires goes_on { IsOpenStage self.old.progress.stage }
-        requires seen { (before : List ℕ) × IsSeen self.old.progress.stage before
-            × (waiting self.old.intake ≡ before ++ bytes.now) }
-        ensures response { (request : RequestValue) (seen : List ℕ) → IsFed self.old request seen
-            → IfOk result (λ found. IfSome found (λ response. IsRead request response seen)) }
-        ensures none_yet { (request : RequestValue) (seen : List ℕ) → IsFed self.old request seen
-            → IfOk result (λ found. IfNone found
-            (IsFed self.new request seen × NeedsMore request seen)) }
-        ensures refused { (request : RequestValue) (seen : List ℕ) → IsFed self.old request seen
-            → IfErr result (λ fault. IsRefused request fault seen) }
-        ensures fault { IfErr result (λ fault. IsFalse (is_of_stream fault)) }
-        ensures goes_on { IfOk result (λ found. IfNone found (IsOpen self.new)) }
-    {
-        self.progress.see(bytes);
-        if !self.progress.is_due(self.intake.get().len()) {
-            return Ok(None);
-        }
-        let Advance { response, taken } = self.progress.advance(self.intake.get())?;
-        self.intake.skip(taken);
-        Ok(response)
     }
 
     /// The response to an input that ends here. Otherwise the fault is Closed, or one that was not
     /// told yet, or OutOfMemory.
     pub fn end(self) -> Result<Response, ResponseFault>
-        requires { IsOpen self }
-        ensures response { (request : RequestValue) (seen : List ℕ) → IsFed self.entry request seen
-            → IfOk result (λ response. ReadsResponse request response seen) }
-        ensures refused { (request : RequestValue) (seen : List ℕ) → IsFed self.entry request seen
-            → IfErr result (λ fault. ResponseFails request seen fault) }
+        requires { IsTrue self.is_open }
+        ensures response { IfOk result (λ response.
+            ReadsResponse self.entry.request response self.entry.seen) }
+        ensures refused { IfErr result (λ fault.
+            ResponseFails self.entry.request self.entry.seen fault) }
         ensures fault { IfErr result (λ fault. ¬ (fault ≡ response_fault.ReadFailed)) }
     {
-        let ResponseParser {
-            intake,
-            mut progress,
-        } = self;
-        let Advance { response, taken: _ } = progress.advance(intake.get())?;
-        match response {
-            Some(response) => Ok(response),
-            None => progress.close(),
-        }
+        self.feed.end()
     }
 }

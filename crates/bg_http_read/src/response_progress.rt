@@ -6,7 +6,8 @@ ghost use Rattle.bg_http_read.specs.Bodies.{KeepsLimit};
 ghost use Rattle.bg_http_read.specs.Responses.{ReadsResponse, ResponseFails, SkipsInterim};
 ghost use Rattle.bg_http_read.specs.ResponsesFed.{Advances, AwaitsHead, IsFedBody, IsFedStage};
 ghost use Rattle.bg_http_read.specs.ResponsesFed.{IsOpenStage, IsReady, IsSeen, Starts, WantsStage};
-ghost use Rattle.bg_http_read.specs.ResponsesFed.{is_of_stream, stage_seen};
+ghost use Rattle.bg_http_read.specs.ResponsesFed.{stage_seen};
+ghost use Rattle.bg_http_read.specs.ResponseStates.{is_of_stream};
 
 use crate::final_head::{HeadFound, HeadSearch};
 use crate::intake::behind;

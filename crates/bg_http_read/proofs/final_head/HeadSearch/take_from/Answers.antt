@@ -2,7 +2,7 @@ use Rattle.std.proofs.Common.{rules, ◌≡◌, ◌+◌, suc, true, IsFalse, ari
 use Rattle.std.proofs.lemmas.List.{drop-drop, length-drop}
 use Rattle.bg_http_read.specs.ResponseHeads.{ReadsResponseHead}
 use Rattle.bg_http_read.specs.Responses.{SkipsInterim, names_another}
-use Rattle.bg_http_read.specs.ResponsesFed.{IsRefused, is_of_stream}
+use Rattle.bg_http_read.specs.ResponseStates.{IsRefused, is_of_stream}
 use Rattle.bg_http_read.specs.HeadFaults.{ResponseHeadFails, of_head}
 use Rattle.bg_http_read.proofs.InterimTaken.{head_refuses, rule_refuses, many_refuse, skips_next}
 use Rattle.bg_http_read.proofs.StreamFaults.{if_err_is, judged_of_bytes}

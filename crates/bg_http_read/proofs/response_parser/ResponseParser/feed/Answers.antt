@@ -1,29 +1,19 @@
-use Rattle.std.proofs.Common.{◌++◌}
-use Rattle.bg_http_read.specs.Streams.{waiting}
-use Rattle.bg_http_read.proofs.FedResponses.{fed_added}
+use Rattle.std.proofs.Common.{◌≡◌, ◌++◌, IsTrue, ap, subst, sym, true, ◌∙◌}
+use Rattle.bg_http_read.specs.ResponseStates.{NeedsMore, ResponseState}
+use Rattle.bg_http_read.proofs.States.{same_response}
 use Rattle.bg_http_read.proofs.response_parser.ResponseParser.feed.Goals as goal
 
-pub look-requires-clause-seen : goal.look-requires-clause-seen
-look-requires-clause-seen c =
-    (waiting c.args.self.now.intake, c.requires.1, c.in-Ok.ensures.added)
-
-pub returns-in-Ok-clause-response : goal.returns-in-Ok-clause-response
-returns-in-Ok-clause-response c request seen fed =
-    let old = c.args.self.now in
+pub returns-in-Ok-None-clause-none_yet : goal.returns-in-Ok-None-clause-none_yet
+returns-in-Ok-None-clause-none_yet c =
+    let before = c.self.inside in
+    let request = before.feed.progress.request.now in
     let bytes = c.args.bytes.now in
-    let added = fed_added request old.progress.stage (waiting old.intake) (waiting c.add.new.self) seen bytes fed.stage_is c.in-Ok.ensures.added in
-    c.look.ensures.response request (seen ++ bytes) (record { request_is = fed.request_is; stage_is = added })
-
-pub returns-in-Ok-clause-none_yet : goal.returns-in-Ok-clause-none_yet
-returns-in-Ok-clause-none_yet c request seen fed =
-    let old = c.args.self.now in
-    let bytes = c.args.bytes.now in
-    let added = fed_added request old.progress.stage (waiting old.intake) (waiting c.add.new.self) seen bytes fed.stage_is c.in-Ok.ensures.added in
-    c.look.ensures.none_yet request (seen ++ bytes) (record { request_is = fed.request_is; stage_is = added })
-
-pub returns-in-Ok-clause-refused : goal.returns-in-Ok-clause-refused
-returns-in-Ok-clause-refused c request seen fed =
-    let old = c.args.self.now in
-    let bytes = c.args.bytes.now in
-    let added = fed_added request old.progress.stage (waiting old.intake) (waiting c.add.new.self) seen bytes fed.stage_is c.in-Ok.ensures.added in
-    c.look.ensures.refused request (seen ++ bytes) (record { request_is = fed.request_is; stage_is = added })
+    let is_open : IsTrue before.is_open = ap (λ s. s.is_open) c.self.view_is ∙ c.requires in
+    let fed = rw c.in-Ok-None.field-0-is at c.in-Ok-None.ensures.none_yet request before.seen.bytes (c.self.invariant is_open).0 in
+    let now : ResponseState = record {
+      request = c.feed.new.self.progress.request.now;
+      seen = c.add.new.self.bytes;
+      is_open = true;
+    } in
+    subst (λ s. (now ≡ record s { seen = s.seen ++ bytes }) × NeedsMore s.request (s.seen ++ bytes)) c.self.view_is
+    (same_response _ request _ (before.seen.bytes ++ bytes) true before.is_open fed.0.request_is c.add.ensures (sym is_open), fed.1)

@@ -1,6 +1,6 @@
 use Rattle.std.proofs.Common.{drop, subst, sym}
 use Rattle.bg_http_read.specs.Responses.{SkipsInterim}
-use Rattle.bg_http_read.specs.ResponsesFed.{IsRefused}
+use Rattle.bg_http_read.specs.ResponseStates.{IsRefused}
 use Rattle.bg_http_read.proofs.FedResponses.{advances_err, fed_head}
 use Rattle.bg_http_read.proofs.response_progress.ResponseProgress.advance_head.Goals as goal
 

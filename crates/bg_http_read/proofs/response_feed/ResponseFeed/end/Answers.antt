@@ -3,7 +3,7 @@ use Rattle.bg_http_read.specs.Responses.{ResponseFails}
 use Rattle.bg_http_read.specs.ResponsesFed.{IsFedStage}
 use Rattle.bg_http_read.proofs.FedResponses.{read_here, refused_here}
 use Rattle.bg_http_read.proofs.StreamFaults.{if_err_is}
-use Rattle.bg_http_read.proofs.response_parser.ResponseParser.end.Goals as goal
+use Rattle.bg_http_read.proofs.response_feed.ResponseFeed.end.Goals as goal
 
 pub returns-in_err-response-clause-refused : goal.returns-in_err-response-clause-refused
 returns-in_err-response-clause-refused c request seen fed =

@@ -1,10 +1,11 @@
 use Rattle.std.proofs.Common.{◌++◌, drop, ap, subst, sym, ◌∙◌}
-use Rattle.bg_http_read.specs.ResponsesFed.{IsFedStage, IsRefused, IsSeen}
+use Rattle.bg_http_read.specs.ResponsesFed.{IsFedStage, IsSeen}
+use Rattle.bg_http_read.specs.ResponseStates.{IsRefused}
 use Rattle.bg_http_read.specs.Streams.{waiting}
 use Rattle.bg_http_read.proofs.FedResponses.{fed_first, fed_needs_more}
 use Rattle.bg_http_read.proofs.StreamFaults.{if_err_is}
 use Rattle.bg_http_read.proofs.InterimTaken.{memory_refuses}
-use Rattle.bg_http_read.proofs.response_parser.ResponseParser.feed_first.Goals as goal
+use Rattle.bg_http_read.proofs.response_feed.ResponseFeed.feed_first.Goals as goal
 
 pub returns-in_err-response-clause-refused : goal.returns-in_err-response-clause-refused
 returns-in_err-response-clause-refused c request seen fed =

@@ -1,0 +1,61 @@
+-- An input that is read in pieces from a stream.
+use Rattle.std.proofs.Common.{◌≡◌, ℕ, List, [], ◌++◌, sym, ◌∙◌, ap, append_assoc, subst, Option, Some, None, IfSome, IfOk, IfErr, Result, Ok, Err, refl}
+use Rattle.std.proofs.lemmas.List.{append-nil}
+use Rattle.std.specs.Io.KnownBytes.{Consumes, IsAtEnd}
+use Rattle.bg_http_read.specs.BodiesRead.{Leaves}
+
+-- of the input these bytes came, and then comes the rest
+abbrev pub Came : List ℕ → List ℕ → List ℕ → Type 0
+Came seen input rest = input ≡ seen ++ rest
+
+-- a piece is read, behind which the rest comes
+joined : (seen bytes input rest after : List ℕ) → input ≡ seen ++ rest → rest ≡ bytes ++ after
+    → (seen ++ bytes) ++ after ≡ input
+joined seen bytes input rest after h k =
+    append_assoc seen bytes after ∙ ap (λ l. seen ++ l) (sym k) ∙ sym h
+
+-- nothing came yet
+pub none_came : (first : Option (List ℕ)) → Leaves (Came []) first first
+none_came None = tt
+none_came (Some i) = refl
+
+-- one more piece came
+pub piece_came : (seen bytes : List ℕ) (first left next : Option (List ℕ))
+    → Leaves (Came seen) first left → Consumes left next bytes
+    → Leaves (Came (seen ++ bytes)) first next
+piece_came seen bytes None left next h k = tt
+piece_came seen bytes (Some i) None next h k = absurd h
+piece_came seen bytes (Some i) (Some r) None h k = absurd k
+piece_came seen bytes (Some i) (Some r) (Some q) h k = sym (joined seen bytes i r q h k)
+
+-- what holds of what came, whatever follows, holds of the input
+pub whole_input : (P : List ℕ → Type 0) (seen : List ℕ) (first left : Option (List ℕ))
+    → Leaves (Came seen) first left → ((more : List ℕ) → P (seen ++ more)) → IfSome first P
+whole_input P seen None left h p = tt
+whole_input P seen (Some i) None h p = absurd h
+whole_input P seen (Some i) (Some r) h p = subst P (sym h) (p r)
+
+-- what holds of what came holds of an input that ends there
+pub ended_input : (P : List ℕ → Type 0) (seen : List ℕ) (first left next : Option (List ℕ))
+    → Leaves (Came seen) first left → Consumes left next [] → IsAtEnd next → P seen
+    → IfSome first P
+ended_input P seen None left next h k end p = tt
+ended_input P seen (Some i) None next h k end p = absurd h
+ended_input P seen (Some i) (Some r) None h k end p = absurd k
+ended_input P seen (Some i) (Some r) (Some q) h k end p =
+    subst P (sym (append-nil seen) ∙ ap (λ l. seen ++ l) (sym (k ∙ end)) ∙ sym h) p
+
+-- the same of an answer and of a fault at the end
+pub ended_ok : {T E : Type 0} (P : T → List ℕ → Type 0) (r : Result T E) (seen : List ℕ)
+    (first left next : Option (List ℕ)) → Leaves (Came seen) first left → Consumes left next []
+    → IsAtEnd next → IfOk r (λ x. P x seen) → IfOk r (λ x. IfSome first (P x))
+ended_ok P (Ok x) seen first left next h k end p =
+    ended_input (P x) seen first left next h k end p
+ended_ok P (Err e) seen first left next h k end p = tt
+
+pub ended_err : {T E : Type 0} (P : E → List ℕ → Type 0) (r : Result T E) (seen : List ℕ)
+    (first left next : Option (List ℕ)) → Leaves (Came seen) first left → Consumes left next []
+    → IsAtEnd next → IfErr r (λ e. P e seen) → IfErr r (λ e. IfSome first (P e))
+ended_err P (Ok x) seen first left next h k end p = tt
+ended_err P (Err e) seen first left next h k end p =
+    ended_input (P e) seen first left next h k end p

@@ -1,0 +1,13 @@
+-- What the parsers stand for, by its parts.
+use Rattle.std.proofs.Common.{◌≡◌, Bool, ℕ, List}
+use Rattle.bg_http.specs.declared.request.Request.{Request}
+use Rattle.bg_http_read.specs.ResponseStates.{ResponseState}
+
+abbrev response_state : Request → List ℕ → Bool → ResponseState
+response_state request seen is_open =
+    record { request = request; seen = seen; is_open = is_open }
+
+pub same_response : (request asked : Request) (seen came : List ℕ) (is_open was : Bool)
+    → request ≡ asked → seen ≡ came → is_open ≡ was
+    → response_state request seen is_open ≡ response_state asked came was
+same_response request asked seen came is_open was h k e = cc

@@ -1,0 +1,130 @@
+//! How far a response is read, with the bytes that wait.
+ghost use Rattle.std.specs.Prelude.{◌≡◌, ◌++◌, [], List, ℕ, IfErr, IfOk, IfNone, IfSome, IsFalse};
+ghost use Rattle.bg_http.specs.declared.request.Request.{Request as RequestValue};
+ghost use Rattle.bg_http.specs.declared.response_fault.ResponseFault.TheVariants as response_fault;
+ghost use Rattle.bg_http_read.specs.Responses.{ReadsResponse, ResponseFails};
+ghost use Rattle.bg_http_read.specs.ResponsesFed.{IsFed, IsOpen};
+ghost use Rattle.bg_http_read.specs.ResponseStates.{IsRead};
+ghost use Rattle.bg_http_read.specs.ResponsesFed.{IsOpenStage, IsSeen};
+ghost use Rattle.bg_http_read.specs.ResponseStates.{IsRefused, NeedsMore, is_of_stream};
+ghost use Rattle.bg_http_read.specs.Streams.{waiting};
+
+use crate::intake::{Intake, behind};
+use crate::response_progress::{Advance, ResponseProgress};
+use bg_http::{Request, Response, ResponseFault};
+use std::alloc::Global;
+
+/// How far a response is read, with the bytes that wait. What its contracts say is of the bytes that
+/// were fed in all, which nothing keeps.
+#[derive(Drop)]
+pub(crate) struct ResponseFeed<'a> {
+    /// What was fed and not yet taken.
+    intake: Intake,
+    progress: ResponseProgress<'a>,
+}
+
+impl<'a> ResponseFeed<'a> {
+    /// The response to `request`, of which nothing came.
+    pub(crate) fn new(alloc: Global, request: &'a Request) -> ResponseFeed<'a>
+        ensures fed { IsFed result request.now [] }
+        ensures goes_on { IsOpen result }
+    {
+        ResponseFeed {
+            intake: Intake::new(alloc),
+            progress: ResponseProgress::new(alloc, request),
+        }
+    }
+
+    /// Adds bytes of the input, and gives the response where it is whole; none where more are
+    /// needed, or the end of the input.
+    pub(crate) fn feed(&mut self, bytes: &[u8]) -> Result<Option<Response>, ResponseFault>
+        requires { IsOpen self.old }
+        ensures response { (request : RequestValue) (seen : List ℕ) → IsFed self.old request seen
+            → IfOk result (λ found. IfSome found (λ response.
+            IsRead request response (seen ++ bytes.now))) }
+        ensures none_yet { (request : RequestValue) (seen : List ℕ) → IsFed self.old request seen
+            → IfOk result (λ found. IfNone found
+            (IsFed self.new request (seen ++ bytes.now) × NeedsMore request (seen ++ bytes.now))) }
+        ensures refused { (request : RequestValue) (seen : List ℕ) → IsFed self.old request seen
+            → IfErr result (λ fault. IsRefused request fault (seen ++ bytes.now)) }
+        ensures fault { IfErr result (λ fault. IsFalse (is_of_stream fault)) }
+        ensures goes_on { IfOk result (λ found. IfNone found (IsOpen self.new)) }
+    {
+        if self.intake.is_empty() {
+            return self.feed_first(bytes);
+        }
+        match self.intake.add(bytes) {
+            Ok(()) => self.look(bytes),
+            Err(_) => Err(ResponseFault::OutOfMemory),
+        }
+    }
+
+    /// Adds bytes where none wait: what can be taken of them is copied no second time.
+    fn feed_first(&mut self, bytes: &[u8]) -> Result<Option<Response>, ResponseFault>
+        requires goes_on { IsOpen self.old }
+        requires empty { waiting self.old.intake ≡ [] }
+        ensures response { (request : RequestValue) (seen : List ℕ) → IsFed self.old request seen
+            → IfOk result (λ found. IfSome found (λ response.
+            IsRead request response (seen ++ bytes.now))) }
+        ensures none_yet { (request : RequestValue) (seen : List ℕ) → IsFed self.old request seen
+            → IfOk result (λ found. IfNone found
+            (IsFed self.new request (seen ++ bytes.now) × NeedsMore request (seen ++ bytes.now))) }
+        ensures refused { (request : RequestValue) (seen : List ℕ) → IsFed self.old request seen
+            → IfErr result (λ fault. IsRefused request fault (seen ++ bytes.now)) }
+        ensures fault { IfErr result (λ fault. IsFalse (is_of_stream fault)) }
+        ensures goes_on { IfOk result (λ found. IfNone found (IsOpen self.new)) }
+    {
+        let Advance { response, taken } = self.progress.advance(bytes)?;
+        match response {
+            Some(response) => Ok(Some(response)),
+            None => match self.intake.add(behind(bytes, taken)) {
+                Ok(()) => Ok(None),
+                Err(_) => Err(ResponseFault::OutOfMemory),
+            },
+        }
+    }
+
+    /// Looks at what waits, to which bytes were added, where it is worth while.
+    fn look(&mut self, bytes: &[u8]) -> Result<Option<Response>, ResponseFault>
+        requires goes_on { IsOpenStage self.old.progress.stage }
+        requires seen { (before : List ℕ) × IsSeen self.old.progress.stage before
+            × (waiting self.old.intake ≡ before ++ bytes.now) }
+        ensures response { (request : RequestValue) (seen : List ℕ) → IsFed self.old request seen
+            → IfOk result (λ found. IfSome found (λ response. IsRead request response seen)) }
+        ensures none_yet { (request : RequestValue) (seen : List ℕ) → IsFed self.old request seen
+            → IfOk result (λ found. IfNone found
+            (IsFed self.new request seen × NeedsMore request seen)) }
+        ensures refused { (request : RequestValue) (seen : List ℕ) → IsFed self.old request seen
+            → IfErr result (λ fault. IsRefused request fault seen) }
+        ensures fault { IfErr result (λ fault. IsFalse (is_of_stream fault)) }
+        ensures goes_on { IfOk result (λ found. IfNone found (IsOpen self.new)) }
+    {
+        self.progress.see(bytes);
+        if !self.progress.is_due(self.intake.get().len()) {
+            return Ok(None);
+        }
+        let Advance { response, taken } = self.progress.advance(self.intake.get())?;
+        self.intake.skip(taken);
+        Ok(response)
+    }
+
+    /// The response to an input that ends here.
+    pub(crate) fn end(self) -> Result<Response, ResponseFault>
+        requires { IsOpen self }
+        ensures response { (request : RequestValue) (seen : List ℕ) → IsFed self.entry request seen
+            → IfOk result (λ response. ReadsResponse request response seen) }
+        ensures refused { (request : RequestValue) (seen : List ℕ) → IsFed self.entry request seen
+            → IfErr result (λ fault. ResponseFails request seen fault) }
+        ensures fault { IfErr result (λ fault. ¬ (fault ≡ response_fault.ReadFailed)) }
+    {
+        let ResponseFeed {
+            intake,
+            mut progress,
+        } = self;
+        let Advance { response, taken: _ } = progress.advance(intake.get())?;
+        match response {
+            Some(response) => Ok(response),
+            None => progress.close(),
+        }
+    }
+}
