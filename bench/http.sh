@@ -5,7 +5,7 @@
 set -eu
 # The most that each ratio may be: a head of 20 fields to httparse alone; a head that comes a byte at a time to the same head at
 # once, and where that is a response of one long field; a body by length to one copy of it.
-head=9
+head=3
 by_byte=40
 long_response_by_byte=95
 body=2.3

@@ -111,6 +111,9 @@ impl Fields {
         ensures err { OnErr result (self.new ≡ self.old) }
     {
         let ruled = ruled_name(name);
+        // All room is taken first, so that a refusal leaves nothing of the field behind.
+        self.places.reserve(1)?;
+        self.text.reserve(name.len() + value.len())?;
         let name = put(&mut self.text, name)?;
         let value = put(&mut self.text, value)?;
         let spans = HeaderSpan { name, value };
