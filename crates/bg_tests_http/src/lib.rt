@@ -6,15 +6,11 @@ mod cut_off;
 #[cfg(test)]
 mod expectations;
 #[cfg(test)]
-mod feeding;
-#[cfg(test)]
 mod interrupted;
 #[cfg(test)]
 mod limits;
 #[cfg(test)]
 mod memory;
-#[cfg(test)]
-mod messages;
 #[cfg(test)]
 mod passing;
 #[cfg(test)]

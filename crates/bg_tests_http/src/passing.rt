@@ -58,7 +58,7 @@ impl Message {
 }
 
 /// A fault of a response as one of a request, which may have each of them.
-pub fn as_request(fault: ResponseFault) -> RequestFault {
+fn as_request(fault: ResponseFault) -> RequestFault {
     match fault {
         ResponseFault::ReadFailed => RequestFault::ReadFailed,
         ResponseFault::HeadTooLarge => RequestFault::HeadTooLarge,
@@ -70,7 +70,7 @@ pub fn as_request(fault: ResponseFault) -> RequestFault {
 }
 
 /// A request of this method.
-pub fn asked(alloc: Global, method: &[u8]) -> Result<Request, AllocError> {
+fn asked(alloc: Global, method: &[u8]) -> Result<Request, AllocError> {
     let mut fields = Fields::new(alloc);
     fields.add(b"Host", b"x")?;
     Ok(Request {
@@ -135,11 +135,7 @@ pub const CLOSED: Outcome<'static> = Outcome::Refused(RequestFault::Closed);
 pub type Row<'a> = (&'a str, &'a [u8], Outcome<'a>);
 
 /// Whether this outcome comes of what was read.
-pub fn is_outcome(
-    alloc: Global,
-    read: &Result<Message, RequestFault>,
-    outcome: Outcome<'_>,
-) -> bool {
+fn is_outcome(alloc: Global, read: &Result<Message, RequestFault>, outcome: Outcome<'_>) -> bool {
     match read {
         Ok(message) => match outcome {
             Outcome::GoesOn(bytes) => message.goes_on_in(alloc, bytes),

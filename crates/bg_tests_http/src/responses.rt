@@ -4,7 +4,6 @@ mod answers;
 mod refused;
 mod to_head;
 
-use crate::feeding;
 use crate::passing::{Kind, Outcome, first_wrong};
 
 /// A response whose body is `hi`.
@@ -25,13 +24,4 @@ fn responses(rt: HostRuntime) {
         None
     );
     assert_eq!(rt; first_wrong(alloc, head, to_head::rows()), None);
-}
-
-#[test]
-fn responses_in_two_pieces(rt: HostRuntime) {
-    let alloc = rt.alloc();
-    assert_eq!(rt; feeding::first_wrong(alloc, b"GET", answers::rows()), None);
-    assert_eq!(rt; feeding::first_wrong(alloc, b"GET", refused::rows()), None);
-    assert_eq!(rt; feeding::first_wrong(alloc, b"head", answers::rows()), None);
-    assert_eq!(rt; feeding::first_wrong(alloc, b"HEAD", to_head::rows()), None);
 }

@@ -1,10 +1,9 @@
-use Rattle.std.proofs.Common.{◌≡◌, length}
-use Rattle.bg_http_read.specs.ResponsesFed.{IsOpen}
+use Rattle.std.proofs.Common.{◌≡◌, IsTrue, length}
 use Rattle.bg_forward.proofs.exchange.receive.Given as goal
 
 abbrev pub invariant-loop : goal.invariant-loop
 invariant-loop g l = record {
-  goes_on : IsOpen l.parser;
+  goes_on : IsTrue l.parser.is_open;
   seat : l.seat ≡ l.initial.seat;
   size : length l.piece ≡ 8192;
 }
