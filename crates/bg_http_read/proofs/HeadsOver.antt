@@ -1,7 +1,8 @@
 -- A head ends only where an empty line has come.
-use Rattle.std.proofs.Common.{◌≡◌, ◌<◌, add-one, drop, drop-cons, get_or, ◌+◌, codes, ℕ, true, false, Bool, ◌==◌, ◌||◌, if◌then◌else◌, List, [], ◌∷◌, ◌++◌, length, refl, ap, sym, ◌∙◌, subst, append_assoc}
-use Rattle.httparse.specs.Grammar.{LineEnd, crlf, lf, print_end, Field, print_field, print_section, print_blank, ResponseHead, print_response, print_reason, ReadsResponse, HasNoResponse}
-use Rattle.std.specs.List.{flat_map}
+use Rattle.std.proofs.Common.{◌≡◌, ◌<◌, add-one, drop, drop-cons, get_or, ◌+◌, codes, ℕ, true, false, Bool, ◌==◌, ◌||◌, if◌then◌else◌, List, [], ◌∷◌, ◌++◌, length, refl, ap, sym, ◌∙◌, subst, append_assoc, arith}
+use Rattle.httparse.specs.Grammar.{LineEnd, crlf, lf, print_end, Field, print_field, print_section, print_blank, print_version, RequestHead, print_request, ReadsRequest, HasNoRequest, ResponseHead, print_response, print_reason, ReadsResponse, HasNoResponse, is_token_byte}
+use Rattle.std.specs.List.{All, flat_map}
+use Rattle.std.proofs.lemmas.Bool.{eqb-true}
 use Rattle.bg_http_read.specs.HeadEnds.{after_byte, after_bytes, is_over}
 use Rattle.bg_http_read.specs.declared.head_end.HeadEnd.{HeadEnd}
 use Rattle.bg_http_read.specs.declared.head_end.HeadEnd.TheVariants as end
@@ -164,6 +165,59 @@ pub no_response_yet : (buf : List ℕ) → is_over (after_bytes end.Blank buf) �
     → HasNoResponse buf
 no_response_yet buf h head rest reads =
     let over = ap is_over (response_over buf head rest reads) in absurd (differ (sym over ∙ h))
+  where
+    differ : true ≡ false → ⊥
+    differ e = cc
+
+-- a token begins with no byte of a line's end
+token_begins : (b : ℕ) → is_token_byte b ≡ true → ((b == 10) || (b == 13)) ≡ false
+unfolding is_token_byte
+token_begins b h = either (b == 10) (b == 13) refl refl
+  where
+    either : (s t : Bool) → (b == 10) ≡ s → (b == 13) ≡ t → (s || t) ≡ false
+    either true t e f =
+        let none : is_token_byte 10 ≡ true = subst (λ x. is_token_byte x ≡ true) (eqb-true b 10 e) h in
+        cc
+    either false true e f =
+        let none : is_token_byte 13 ≡ true = subst (λ x. is_token_byte x ≡ true) (eqb-true b 13 f) h in
+        cc
+    either false false e f = refl
+
+-- the parts of a request's first line are one line
+regroup : (blank m a b e s : List ℕ)
+    → blank ++ m ++ a ++ b ++ e ++ s ≡ (blank ++ ((m ++ (a ++ b)) ++ e)) ++ s
+regroup blank m a b e s = simp append_assoc
+
+-- a request begins with its method
+request_text : (h : RequestHead) (first : ℕ) (more : List ℕ) → h.method ≡ first ∷ more
+    → print_request h
+    ≡ (print_blank h.blank ++ (((first ∷ more) ++ (32 ∷ (h.target ++ (32 ∷ print_version h.minor))))
+    ++ print_end h.line_end)) ++ print_section h.fields h.last
+unfolding print_request
+request_text h first more e =
+    regroup (print_blank h.blank) h.method (32 ∷ h.target) (32 ∷ print_version h.minor) (print_end h.line_end)
+    (print_section h.fields h.last)
+    ∙ ap (λ m. (print_blank h.blank ++ ((m ++ (32 ∷ (h.target ++ (32 ∷ print_version h.minor))))
+    ++ print_end h.line_end)) ++ print_section h.fields h.last) e
+
+pub request_over : (buf : List ℕ) (h : RequestHead) (rest : List ℕ) → ReadsRequest buf h rest
+    → after_bytes end.Blank buf ≡ end.Over
+request_over buf h rest reads = by_method h.method refl reads.0.method.0 reads.0.method.1
+  where
+    by_method : (m : List ℕ) → h.method ≡ m → 0 < length m → All (λ x. is_token_byte x ≡ true) m
+        → after_bytes end.Blank buf ≡ end.Over
+    by_method [] e some tokens = absurd (omega arith)
+    by_method (first ∷ more) e some tokens =
+        let text = more ++ (32 ∷ (h.target ++ (32 ∷ print_version h.minor))) in
+        subst (λ l. after_bytes end.Blank l ≡ end.Over)
+        (ap (λ l. l ++ rest) (sym (request_text h first more e)) ∙ sym reads.1)
+        (over h.blank first text h.line_end h.fields h.last rest (token_begins first (tokens 0 0 (omega arith))))
+
+-- where no empty line has come, there is no head
+pub no_request_yet : (buf : List ℕ) → is_over (after_bytes end.Blank buf) ≡ false
+    → HasNoRequest buf
+no_request_yet buf h head rest reads =
+    let over = ap is_over (request_over buf head rest reads) in absurd (differ (sym over ∙ h))
   where
     differ : true ≡ false → ⊥
     differ e = cc

@@ -3,8 +3,10 @@ pub mod BodyOrFault
 pub mod ChunkLines
 pub mod DataSteps
 pub mod FaultStays
+pub mod FedRequests
 pub mod FedResponses
 pub mod Filled
+pub mod FramedBodies
 pub mod Fronts
 pub mod HeadLengths
 pub mod HeadsOver
@@ -18,12 +20,14 @@ pub mod OneResponseFault
 pub mod RequestHeadLoop
 pub mod RequestHeadsFound
 pub mod RequestOrFault
+pub mod RequestSteps
 pub mod RequestsRead
 pub mod RequestBodies
 pub mod ResponseBodies
 pub mod ResponseOrFault
 pub mod Pieces
 pub mod ResponseHeadsFound
+pub mod RuleFaults
 pub mod States
 pub mod StreamFaults
 pub mod TrailersFound

@@ -39,7 +39,7 @@ module _ (b : Body) (none : b.bytes.items ≡ []) where
   length_leaves n s x (Some i) None h = absurd h
   length_leaves n s x (Some i) (Some r) h = let l = length_of n s i x r h in (x, refl, l.0, l.1)
 
-  failed_chunks : b.stage ≡ stage.Line → b.limit ≡ most_body → (failure : Failure) (i : List ℕ)
+  pub failed_chunks : b.stage ≡ stage.Line → b.limit ≡ most_body → (failure : Failure) (i : List ℕ)
       → Fails b failure i → ChunksFail failure most_body 0 i
   failed_chunks s limit failure i h =
       subst (λ n. ChunksFail failure n 0 i) limit

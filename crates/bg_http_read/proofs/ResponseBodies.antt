@@ -33,11 +33,11 @@ module _ (b : Body) (none : b.bytes.items ≡ []) where
       room : b.limit - length b.bytes.items ≡ most_response_body
       room = let empty = ap length none in omega (arith, limit, empty)
 
-no_bytes : (l : List ℕ) → length l ≡ 0 → l ≡ []
+pub no_bytes : (l : List ℕ) → length l ≡ 0 → l ≡ []
 no_bytes [] e = refl
 no_bytes (x ∷ l) e = absurd (omega (arith, e))
 
-no_length : (failure : Failure) (i : List ℕ) → LengthFails failure 0 i → ⊥
+pub no_length : (failure : Failure) (i : List ℕ) → LengthFails failure 0 i → ⊥
 no_length malformed i h = h
 no_length large i h = h
 no_length cut i h = omega (arith, h)

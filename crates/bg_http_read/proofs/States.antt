@@ -1,6 +1,7 @@
 -- What the parsers stand for, by its parts.
 use Rattle.std.proofs.Common.{◌≡◌, Bool, ℕ, List}
 use Rattle.bg_http.specs.declared.request.Request.{Request}
+use Rattle.bg_http_read.specs.RequestStates.{RequestState}
 use Rattle.bg_http_read.specs.ResponseStates.{ResponseState}
 
 abbrev response_state : Request → List ℕ → Bool → ResponseState
@@ -11,3 +12,11 @@ pub same_response : (request asked : Request) (seen came : List ℕ) (is_open wa
     → request ≡ asked → seen ≡ came → is_open ≡ was
     → response_state request seen is_open ≡ response_state asked came was
 same_response request asked seen came is_open was h k e = cc
+
+abbrev request_state : List ℕ → Bool → Bool → RequestState
+request_state seen asked is_open = record { seen = seen; asked = asked; is_open = is_open }
+
+pub same_request : (seen came : List ℕ) (asked owed : Bool) (is_open was : Bool) → seen ≡ came
+    → asked ≡ owed → is_open ≡ was
+    → request_state seen asked is_open ≡ request_state came owed was
+same_request seen came asked owed is_open was h k e = cc

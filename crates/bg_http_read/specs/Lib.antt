@@ -6,7 +6,9 @@ pub mod HeadEnds
 pub mod HeadFaults
 pub mod Laws
 pub mod RequestHeads
+pub mod RequestStates
 pub mod Requests
+pub mod RequestsFed
 pub mod ResponseHeads
 pub mod ResponseStates
 pub mod Responses

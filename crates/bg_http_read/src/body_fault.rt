@@ -1,5 +1,5 @@
 //! Why a body is refused.
-use bg_http::ResponseFault;
+use bg_http::{RequestFault, ResponseFault};
 use std::alloc::AllocError;
 
 /// Why a body is refused.
@@ -35,6 +35,22 @@ impl From<BodyFault> for ResponseFault {
             BodyFault::Bad => ResponseFault::Bad,
             BodyFault::TooLarge => ResponseFault::TooLarge,
             BodyFault::OutOfMemory => ResponseFault::OutOfMemory,
+        }
+    }
+}
+
+impl From<BodyFault> for RequestFault {
+    ghost use Rattle.std.specs.Prelude.{◌≡◌};
+    ghost use Rattle.bg_http_read.specs.BodiesRead.{read_fault};
+    ghost use Rattle.bg_http_read.specs.Requests.{as_request};
+
+    ghost from_gives = { λ fault e. e ≡ as_request (read_fault fault) };
+
+    fn from(fault: BodyFault) -> RequestFault {
+        match fault {
+            BodyFault::Bad => RequestFault::Bad,
+            BodyFault::TooLarge => RequestFault::TooLarge,
+            BodyFault::OutOfMemory => RequestFault::OutOfMemory,
         }
     }
 }

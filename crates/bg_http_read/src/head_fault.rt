@@ -1,5 +1,5 @@
 //! Why there is no head.
-use bg_http::ResponseFault;
+use bg_http::{RequestFault, ResponseFault};
 use std::alloc::AllocError;
 
 /// Why there is no head.
@@ -35,6 +35,22 @@ impl From<HeadFault> for ResponseFault {
             HeadFault::Bad => ResponseFault::Bad,
             HeadFault::TooLarge => ResponseFault::HeadTooLarge,
             HeadFault::OutOfMemory => ResponseFault::OutOfMemory,
+        }
+    }
+}
+
+impl From<HeadFault> for RequestFault {
+    ghost use Rattle.std.specs.Prelude.{◌≡◌};
+    ghost use Rattle.bg_http_read.specs.HeadFaults.{of_head};
+    ghost use Rattle.bg_http_read.specs.Requests.{as_request};
+
+    ghost from_gives = { λ fault e. e ≡ as_request (of_head fault) };
+
+    fn from(fault: HeadFault) -> RequestFault {
+        match fault {
+            HeadFault::Bad => RequestFault::Bad,
+            HeadFault::TooLarge => RequestFault::HeadTooLarge,
+            HeadFault::OutOfMemory => RequestFault::OutOfMemory,
         }
     }
 }

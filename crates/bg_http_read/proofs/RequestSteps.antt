@@ -1,0 +1,84 @@
+-- The steps of a request's parser.
+use Rattle.std.proofs.Common.{◌≡◌, Bool, true, false, List, ℕ, [], refl, subst, sym, Result, Ok, Err, IsErrAnd, IfErr, IfOk}
+use Rattle.std.proofs.lemmas.List.{append-nil}
+use Rattle.bg_http.specs.declared.request.Request.{Request}
+use Rattle.bg_http.specs.declared.request_fault.RequestFault.{RequestFault}
+use Rattle.bg_http_read.specs.RequestStates.{FailsAsked, IsReadAsked, IsRefusedAsked, ReadsAsked, is_whole}
+use Rattle.bg_http_read.specs.RequestsFed.{AdvancesTo, EndsTo, FedTo, IsAt, is_head, was_asked}
+use Rattle.bg_http_read.specs.Streams.{waiting}
+use Rattle.bg_http_read.specs.declared.request_feed.RequestFeed.{RequestFeed}
+use Rattle.bg_http_read.specs.declared.request_progress.RequestStage.{RequestStage}
+use Rattle.bg_http_read.specs.declared.request_progress.RequestStage.TheVariants as part
+use Rattle.bg_http_read.specs.declared.request_step.RequestStep.{RequestStep}
+use Rattle.bg_http_read.specs.declared.request_step.RequestStep.TheVariants as step
+use Rattle.bg_http_read.proofs.FedRequests.{cut_off_lacks}
+
+-- a fault that is known is what is answered
+pub fed_err : (asked : Bool) (seen : List ℕ) (r : Result RequestStep RequestFault)
+    (feed : RequestFeed) (e : RequestFault) → IsErrAnd r (λ f. f ≡ e)
+    → IsRefusedAsked asked e seen → FedTo asked seen r feed
+fed_err asked seen (Ok at) feed e is refused = absurd is
+fed_err asked seen (Err f) feed e is refused =
+    subst (λ f. IsRefusedAsked asked f seen) (sym is) refused
+
+-- what is asked for is the same
+pub fed_asked : (one other : Bool) (seen : List ℕ) (r : Result RequestStep RequestFault)
+    (feed : RequestFeed) → one ≡ other → FedTo one seen r feed → FedTo other seen r feed
+fed_asked one other seen r feed same h = subst (λ asked. FedTo asked seen r feed) same h
+
+-- a head that is looked for was not owed anything yet
+head_unasked : (old : RequestStage) → is_head old ≡ true → was_asked old ≡ false
+head_unasked (part.Head end) h = refl
+head_unasked (part.Body p) h = cc
+head_unasked part.Done h = cc
+
+-- what came of the bytes that wait is what came of all that was fed
+pub advanced : (old : RequestStage) (seen left : List ℕ) (at : RequestStep) (feed : RequestFeed)
+    → waiting feed.intake ≡ left → AdvancesTo old seen left at feed.progress.stage
+    → FedTo (was_asked old) seen (Ok at) feed
+advanced old seen left (step.Whole request) feed waits h = h
+advanced old seen left step.Continue feed waits (head, owed, at, asked) = (
+  head_unasked old head,
+  owed,
+  subst (λ w. IsAt feed.progress.stage w seen) (sym waits) at,
+  asked,
+)
+advanced old seen left step.More feed waits (cut, at, asked) = (
+  cut_off_lacks (was_asked old) seen cut,
+  subst (λ w. IsAt feed.progress.stage w seen) (sym waits) at,
+  asked,
+)
+
+-- what holds whatever follows holds where nothing does
+pub read_here : (asked : Bool) (request : Request) (seen : List ℕ)
+    → IsReadAsked asked request seen → ReadsAsked asked request seen
+read_here asked request seen h = subst (ReadsAsked asked request) (append-nil seen) (h [])
+
+pub refused_here : (asked : Bool) (e : RequestFault) (seen : List ℕ)
+    → IsRefusedAsked asked e seen → FailsAsked asked seen e
+refused_here asked e seen h = subst (λ l. FailsAsked asked l e) (append-nil seen) (h [])
+
+pub ends_err : (asked : Bool) (seen : List ℕ) (r : Result Request RequestFault)
+    (e : RequestFault) → IsErrAnd r (λ f. f ≡ e) → IsRefusedAsked asked e seen
+    → EndsTo asked seen r
+ends_err asked seen (Ok request) e is refused = absurd is
+ends_err asked seen (Err f) e is refused =
+    subst (FailsAsked asked seen) (sym is) (refused_here asked e seen refused)
+
+pub advanced_whole : (old : RequestStage) (seen left : List ℕ) (at : RequestStep)
+    (feed : RequestFeed) (new : RequestStage) → is_whole at ≡ true
+    → AdvancesTo old seen left at new → FedTo (was_asked old) seen (Ok at) feed
+advanced_whole old seen left step.More feed new whole h = cc
+advanced_whole old seen left step.Continue feed new whole h = cc
+advanced_whole old seen left (step.Whole request) feed new whole h = h
+
+-- what came of an input that ends, by its parts
+pub ends_read : (asked : Bool) (seen : List ℕ) (r : Result Request RequestFault)
+    → EndsTo asked seen r → IfOk r (λ request. ReadsAsked asked request seen)
+ends_read asked seen (Ok request) h = h
+ends_read asked seen (Err e) h = tt
+
+pub ends_refused : (asked : Bool) (seen : List ℕ) (r : Result Request RequestFault)
+    → EndsTo asked seen r → IfErr r (FailsAsked asked seen)
+ends_refused asked seen (Ok request) h = tt
+ends_refused asked seen (Err e) h = h

@@ -1,0 +1,154 @@
+-- What was fed of a request, and what is still to be read of it.
+use Rattle.std.specs.Prelude.{◌≡◌, Bool, true, false, ℕ, List, [], drop, Option, Some, None, Result, Ok, Err, ⊤}
+use Rattle.httparse.specs.Grammar.{HasNoRequest}
+use Rattle.bg_http.specs.RequestRules.{owes_continue}
+use Rattle.bg_http.specs.declared.request.Request.{Request}
+use Rattle.bg_http.specs.declared.request_fault.RequestFault.{RequestFault}
+use Rattle.bg_http.specs.declared.request_fault.RequestFault.TheVariants as fault
+use Rattle.bg_http.specs.declared.request_rules.Framing.{Framing}
+use Rattle.bg_http.specs.declared.request_rules.Framing.TheVariants as framing
+use Rattle.bg_http_read.specs.Bodies.{Follows, KeepsLimit}
+use Rattle.bg_http_read.specs.HeadEnds.{after_bytes, is_over}
+use Rattle.bg_http_read.specs.Requests.{JudgedHead, most_body}
+use Rattle.bg_http_read.specs.RequestStates.{FailsAsked, IsReadAsked, IsRefusedAsked, LacksRequest, OwesContinue, ReadsAsked}
+use Rattle.bg_http_read.specs.Streams.{waiting}
+use Rattle.bg_http_read.specs.declared.head_end.HeadEnd.TheVariants as head_end
+use Rattle.bg_http_read.specs.declared.body.Body.{Body}
+use Rattle.bg_http_read.specs.declared.body.Stage.{Stage}
+use Rattle.bg_http_read.specs.declared.body.Stage.TheVariants as stage
+use Rattle.bg_http_read.specs.declared.request_body.RequestBody.{RequestBody}
+use Rattle.bg_http_read.specs.declared.request_feed.RequestFeed.{RequestFeed}
+use Rattle.bg_http_read.specs.declared.request_progress.RequestAdvance.{RequestAdvance}
+use Rattle.bg_http_read.specs.declared.request_progress.RequestStage.{RequestStage}
+use Rattle.bg_http_read.specs.declared.request_progress.RequestStage.TheVariants as part
+use Rattle.bg_http_read.specs.declared.request_step.RequestStep.{RequestStep}
+use Rattle.bg_http_read.specs.declared.request_step.RequestStep.TheVariants as step
+
+-- what comes first of a body
+abbrev pub first_stage : Framing → Stage
+first_stage framing.NoBody = stage.Length 0
+first_stage framing.Chunks = stage.Line
+first_stage (framing.Length size) = stage.Length size
+
+-- how many bytes a body may have
+abbrev pub most_of : Framing → ℕ
+most_of framing.NoBody = 0
+most_of framing.Chunks = most_body
+most_of (framing.Length size) = size
+
+-- nothing of the body that the framing names is there
+pub record StartsBody (named : Framing) (body : Body) : Type 0 where
+  pub stage_is : body.stage ≡ first_stage named
+  pub none : body.bytes.items ≡ []
+  pub limit_is : body.limit ≡ most_of named
+
+-- the head was found in the bytes, and what was to be read of those after it is what the body has
+-- still to read of those that wait
+pub record IsFedBody (request : RequestBody) (waits seen : List ℕ) : Type 0 where
+  pub after : List ℕ
+  pub found : JudgedHead seen request.head request.framing after
+  pub start : Body
+  pub starts : StartsBody request.framing start
+  pub follows : Follows start after request.body waits
+  pub limit : request.body.limit ≡ start.limit
+
+abbrev pub IsFedStage : RequestStage → List ℕ → List ℕ → Type 0
+IsFedStage (part.Head end) waits seen = seen ≡ waits
+IsFedStage (part.Body request) waits seen = IsFedBody request waits seen
+IsFedStage part.Done waits seen = ⊥
+
+abbrev pub IsOpenStage : RequestStage → Type 0
+IsOpenStage (part.Head end) = ⊤
+IsOpenStage (part.Body request) = KeepsLimit request.body
+IsOpenStage part.Done = ⊥
+
+-- what waits for the end of the head was seen
+abbrev pub IsSeen : RequestStage → List ℕ → Type 0
+IsSeen (part.Head end) waits = end ≡ after_bytes head_end.Blank waits
+IsSeen (part.Body request) waits = ⊤
+IsSeen part.Done waits = ⊤
+
+-- no head is whole of those that are looked for
+abbrev pub LacksHead : RequestStage → List ℕ → Type 0
+LacksHead (part.Head end) waits = HasNoRequest waits
+LacksHead (part.Body request) waits = ⊤
+LacksHead part.Done waits = ⊤
+
+-- these bytes were fed, of which some wait
+pub record IsAt (at : RequestStage) (waits seen : List ℕ) : Type 0 where
+  pub fed : IsFedStage at waits seen
+  pub ready : IsOpenStage at
+  pub sees : IsSeen at waits
+  pub lacks : LacksHead at waits
+
+-- bytes wait behind those that wait for the end of the head
+abbrev pub stage_seen : RequestStage → List ℕ → RequestStage
+stage_seen (part.Head end) bytes = part.Head (after_bytes end bytes)
+stage_seen (part.Body request) bytes = part.Body request
+stage_seen part.Done bytes = part.Done
+
+-- the head is looked for, and no empty line has come that may end it
+abbrev pub AwaitsHead : RequestStage → Type 0
+AwaitsHead (part.Head end) = is_over end ≡ false
+AwaitsHead (part.Body request) = ⊥
+AwaitsHead part.Done = ⊥
+
+abbrev pub is_head : RequestStage → Bool
+is_head (part.Head end) = true
+is_head (part.Body request) = false
+is_head part.Done = false
+
+-- `100 Continue` was asked for, where it is owed
+abbrev pub was_asked : RequestStage → Bool
+was_asked (part.Head end) = false
+was_asked (part.Body request) = owes_continue request.head request.framing
+was_asked part.Done = false
+
+-- these bytes were fed, one piece after the other
+abbrev pub IsFed : RequestFeed → List ℕ → Type 0
+IsFed feed seen = IsAt feed.progress.stage (waiting feed.intake) seen
+
+-- what came of bytes: a request; or the head, which is owed `100 Continue`; or more is needed
+abbrev pub AdvancesTo
+    : RequestStage → List ℕ → List ℕ → RequestStep → RequestStage → Type 0
+AdvancesTo old seen left (step.Whole request) new = IsReadAsked (was_asked old) request seen
+AdvancesTo old seen left step.Continue new =
+    (is_head old ≡ true) × OwesContinue seen × IsAt new left seen × (was_asked new ≡ true)
+AdvancesTo old seen left step.More new =
+    FailsAsked (was_asked old) seen fault.Closed × IsAt new left seen
+    × (was_asked new ≡ was_asked old)
+
+-- the same, or a fault
+abbrev pub Advances
+    : RequestStage → List ℕ → List ℕ → Result RequestAdvance RequestFault → RequestStage → Type 0
+Advances old seen bytes (Ok advance) new =
+    AdvancesTo old seen (drop advance.taken bytes) advance.step new
+Advances old seen bytes (Err named) new = IsRefusedAsked (was_asked old) named seen
+
+-- what came of all that was fed
+abbrev pub FedTo : Bool → List ℕ → Result RequestStep RequestFault → RequestFeed → Type 0
+FedTo asked seen (Ok (step.Whole request)) feed = IsReadAsked asked request seen
+FedTo asked seen (Ok step.Continue) feed =
+    (asked ≡ false) × OwesContinue seen × IsFed feed seen × (was_asked feed.progress.stage ≡ true)
+FedTo asked seen (Ok step.More) feed =
+    LacksRequest seen × IsFed feed seen × (was_asked feed.progress.stage ≡ asked)
+FedTo asked seen (Err named) feed = IsRefusedAsked asked named seen
+
+-- what came of an input that ends
+abbrev pub EndsTo : Bool → List ℕ → Result Request RequestFault → Type 0
+EndsTo asked seen (Ok request) = ReadsAsked asked request seen
+EndsTo asked seen (Err named) = FailsAsked asked seen named
+
+-- the body that goes into the request
+abbrev pub framed_body : Framing → List ℕ → Option (List ℕ)
+framed_body framing.NoBody bytes = None
+framed_body framing.Chunks bytes = Some bytes
+framed_body (framing.Length size) bytes = Some bytes
+
+-- the request has the parts of the head, and the body as far as it was fed
+pub record HasParts (request : Request) (of : RequestBody) : Type 0 where
+  pub method_is : request.method ≡ of.head.method
+  pub target_is : request.target ≡ of.head.target
+  pub minor_is : request.minor ≡ of.head.minor
+  pub fields_are : request.fields ≡ of.head.fields
+  pub body_is : request.body ≡ framed_body of.framing of.body.bytes.items

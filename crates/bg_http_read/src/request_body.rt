@@ -1,0 +1,70 @@
+//! A request whose head was found, and whose body is fed.
+ghost use Rattle.std.specs.Prelude.{◌≡◌, IfOk};
+ghost use Rattle.bg_http.specs.RequestRules.{owes_continue as owed};
+ghost use Rattle.bg_http_read.specs.RequestsFed.{HasParts, StartsBody};
+
+use crate::body::Body;
+use bg_http::{Framing, MOST_REQUEST_BODY, Request, RequestHead, owes_continue};
+use std::alloc::{AllocError, Global};
+
+/// A request whose head was found, and whose body is fed.
+#[derive(Drop)]
+pub(crate) struct RequestBody {
+    head: RequestHead,
+    framing: Framing,
+    pub(crate) body: Body,
+}
+
+impl RequestBody {
+    /// Nothing of the body is there; refused only where memory is.
+    pub(crate) fn new(
+        alloc: Global,
+        head: RequestHead,
+        framing: Framing,
+    ) -> Result<RequestBody, AllocError>
+        ensures head { IfOk result (λ part. part.head ≡ head) }
+        ensures framing { IfOk result (λ part. part.framing ≡ framing) }
+        ensures body { IfOk result (λ part. StartsBody framing part.body) }
+    {
+        let body = match framing {
+            Framing::NoBody => Body::of_length(alloc, 0)?,
+            Framing::Chunks => Body::of_chunks(alloc, MOST_REQUEST_BODY),
+            Framing::Length(size) => Body::of_length(alloc, size)?,
+        };
+        Ok(RequestBody {
+            head,
+            framing,
+            body,
+        })
+    }
+
+    /// Whether `100 Continue` is owed before the body is read.
+    pub(crate) fn owes_continue(&self) -> bool
+        ensures { result ≡ owed self.now.head self.now.framing }
+    {
+        owes_continue(&self.head, self.framing)
+    }
+
+    /// The request, with what was fed of its body.
+    pub(crate) fn into_request(self) -> Request
+        ensures { HasParts result self }
+    {
+        let RequestBody {
+            head,
+            framing,
+            body,
+        } = self;
+        let bytes = body.into_bytes();
+        let body = match framing {
+            Framing::NoBody => None,
+            Framing::Chunks | Framing::Length(_) => Some(bytes),
+        };
+        Request {
+            method: head.method,
+            target: head.target,
+            minor: head.minor,
+            fields: head.fields,
+            body,
+        }
+    }
+}

@@ -1,0 +1,106 @@
+//! How far a request is read, with the bytes that wait.
+ghost use Rattle.std.specs.Prelude.{◌≡◌, ◌++◌, [], false, List, ℕ, IfErr, IsFalse};
+ghost use Rattle.bg_http.specs.declared.request_fault.RequestFault.TheVariants as request_fault;
+ghost use Rattle.bg_http_read.specs.RequestStates.{is_of_stream};
+ghost use Rattle.bg_http_read.specs.RequestsFed.{EndsTo, FedTo, IsFed, IsFedStage, IsOpenStage};
+ghost use Rattle.bg_http_read.specs.RequestsFed.{IsSeen, was_asked};
+ghost use Rattle.bg_http_read.specs.Streams.{waiting};
+
+use crate::intake::{Intake, behind};
+use crate::request_progress::{RequestAdvance, RequestProgress};
+use crate::request_step::RequestStep;
+use bg_http::{Request, RequestFault};
+use std::alloc::Global;
+
+/// How far a request is read, with the bytes that wait. What its contracts say is of the bytes that
+/// were fed in all, which nothing keeps.
+#[derive(Drop)]
+pub(crate) struct RequestFeed {
+    /// What was fed and not yet taken.
+    intake: Intake,
+    progress: RequestProgress,
+}
+
+impl RequestFeed {
+    /// Nothing came.
+    pub(crate) fn new(alloc: Global) -> RequestFeed
+        ensures fed { IsFed result [] }
+        ensures asked { was_asked result.progress.stage ≡ false }
+    {
+        RequestFeed {
+            intake: Intake::new(alloc),
+            progress: RequestProgress::new(alloc),
+        }
+    }
+
+    /// Adds bytes of the input, and says what came of them.
+    pub(crate) fn feed(&mut self, bytes: &[u8]) -> Result<RequestStep, RequestFault>
+        requires { IsOpenStage self.old.progress.stage }
+        ensures answer { (seen : List ℕ) → IsFed self.old seen
+            → FedTo (was_asked self.old.progress.stage) (seen ++ bytes.now) result self.new }
+        ensures fault { IfErr result (λ fault. IsFalse (is_of_stream fault)) }
+    {
+        if self.intake.is_empty() {
+            return self.feed_first(bytes);
+        }
+        match self.intake.add(bytes) {
+            Ok(()) => self.look(bytes),
+            Err(_) => Err(RequestFault::OutOfMemory),
+        }
+    }
+
+    /// Adds bytes where none wait: what can be taken of them is copied no second time.
+    fn feed_first(&mut self, bytes: &[u8]) -> Result<RequestStep, RequestFault>
+        requires goes_on { IsOpenStage self.old.progress.stage }
+        requires empty { waiting self.old.intake ≡ [] }
+        ensures answer { (seen : List ℕ) → IsFed self.old seen
+            → FedTo (was_asked self.old.progress.stage) (seen ++ bytes.now) result self.new }
+        ensures fault { IfErr result (λ fault. IsFalse (is_of_stream fault)) }
+    {
+        let RequestAdvance { step, taken } = self.progress.advance(bytes)?;
+        if step.is_whole() {
+            return Ok(step);
+        }
+        match self.intake.add(behind(bytes, taken)) {
+            Ok(()) => Ok(step),
+            Err(_) => Err(RequestFault::OutOfMemory),
+        }
+    }
+
+    /// Looks at what waits, to which bytes were added, where it is worth while.
+    fn look(&mut self, bytes: &[u8]) -> Result<RequestStep, RequestFault>
+        requires { IsOpenStage self.old.progress.stage }
+        ensures answer { (before seen : List ℕ) → IsSeen self.old.progress.stage before
+            → waiting self.old.intake ≡ before ++ bytes.now
+            → IsFedStage self.old.progress.stage (waiting self.old.intake) seen
+            → FedTo (was_asked self.old.progress.stage) seen result self.new }
+        ensures fault { IfErr result (λ fault. IsFalse (is_of_stream fault)) }
+    {
+        self.progress.see(bytes);
+        if !self.progress.is_due(self.intake.get().len()) {
+            return Ok(RequestStep::More);
+        }
+        let RequestAdvance { step, taken } = self.progress.advance(self.intake.get())?;
+        self.intake.skip(taken);
+        Ok(step)
+    }
+
+    /// The request in an input that ends here.
+    pub(crate) fn end(self) -> Result<Request, RequestFault>
+        requires { IsOpenStage self.progress.stage }
+        ensures answer { (seen : List ℕ) → IsFed self seen
+            → EndsTo (was_asked self.progress.stage) seen result }
+        ensures read { IfErr result (λ fault. ¬ (fault ≡ request_fault.ReadFailed)) }
+        ensures write { IfErr result (λ fault. ¬ (fault ≡ request_fault.WriteFailed)) }
+    {
+        let RequestFeed {
+            intake,
+            mut progress,
+        } = self;
+        let RequestAdvance { step, taken: _ } = progress.advance(intake.get())?;
+        match step {
+            RequestStep::Whole(request) => Ok(request),
+            RequestStep::More | RequestStep::Continue => Err(RequestFault::Closed),
+        }
+    }
+}

@@ -1,0 +1,150 @@
+//! How far a request is read.
+ghost use Rattle.std.specs.Prelude.{◌≡◌, ◌≤◌, [], false, List, ℕ, IfErr, IfOk, IsFalse, drop, length};
+ghost use Rattle.bg_http_read.specs.Bodies.{KeepsLimit};
+ghost use Rattle.bg_http_read.specs.RequestStates.{is_of_stream};
+ghost use Rattle.bg_http_read.specs.RequestsFed.{Advances, AwaitsHead, IsAt, IsFedBody, IsFedStage};
+ghost use Rattle.bg_http_read.specs.RequestsFed.{IsOpenStage, stage_seen, was_asked};
+ghost use Rattle.bg_http.specs.RequestRules.{owes_continue as owed};
+ghost use Rattle.bg_http_read.specs.declared.head_end.HeadEnd.TheVariants as end;
+ghost use Rattle.bg_http_read.specs.declared.request_progress.RequestStage.{RequestStage as Stage};
+ghost use Rattle.bg_http_read.specs.declared.request_progress.RequestStage.TheVariants as part;
+
+use crate::head_end::HeadEnd;
+use crate::head_limits::MOST_HEAD;
+use crate::intake::behind;
+use crate::request_body::RequestBody;
+use crate::request_head::find_request_head;
+use crate::request_step::RequestStep;
+use bg_http::{RequestFault, judge_request};
+use std::alloc::Global;
+use std::mem;
+
+/// What of a request is looked for.
+#[derive(Drop)]
+pub(crate) enum RequestStage {
+    /// The head, of which the bytes that wait go so far.
+    Head(HeadEnd),
+    /// The body.
+    Body(RequestBody),
+    /// Nothing: an answer or a fault was given.
+    Done,
+}
+
+/// What came of bytes, and how many of them were taken.
+#[derive(Drop)]
+pub(crate) struct RequestAdvance {
+    pub(crate) step: RequestStep,
+    pub(crate) taken: usize,
+}
+
+/// How far a request is read.
+#[derive(Drop)]
+pub(crate) struct RequestProgress {
+    alloc: Global,
+    stage: RequestStage,
+}
+
+impl RequestProgress {
+    /// Nothing came.
+    pub(crate) fn new(alloc: Global) -> RequestProgress
+        ensures at { IsAt result.stage [] [] }
+        ensures asked { was_asked result.stage ≡ false }
+    {
+        RequestProgress {
+            alloc,
+            stage: RequestStage::Head(HeadEnd::Blank),
+        }
+    }
+
+    /// More bytes wait.
+    pub(crate) fn see(&mut self, bytes: &[u8])
+        ensures { self.new.stage ≡ stage_seen self.old.stage bytes.now }
+    {
+        if let RequestStage::Head(end) = &mut self.stage {
+            *end = end.after_all(bytes);
+        }
+    }
+
+    /// Whether it is worth looking at so many bytes that wait.
+    pub(crate) fn is_due(&self, count: usize) -> bool
+        ensures { IsFalse result → AwaitsHead self.now.stage }
+    {
+        match &self.stage {
+            RequestStage::Head(end) => end.is_over() || count >= MOST_HEAD,
+            RequestStage::Body(_) | RequestStage::Done => true,
+        }
+    }
+
+    /// Takes what it can of the bytes.
+    pub(crate) fn advance(&mut self, bytes: &[u8]) -> Result<RequestAdvance, RequestFault>
+        requires { IsOpenStage self.old.stage }
+        ensures fits { IfOk result (λ advance. advance.taken ≤ length bytes.now) }
+        ensures answer { (seen : List ℕ) → IsFedStage self.old.stage bytes.now seen
+            → Advances self.old.stage seen bytes.now result self.new.stage }
+        ensures fault { IfErr result (λ fault. IsFalse (is_of_stream fault)) }
+    {
+        match mem::replace(&mut self.stage, RequestStage::Done) {
+            RequestStage::Head(_) => self.advance_head(bytes),
+            RequestStage::Body(part) => self.advance_body(part, bytes, 0),
+            RequestStage::Done => Err(RequestFault::Bad),
+        }
+    }
+
+    /// Looks for the head in the bytes, judges it, and takes what it can of the body, unless
+    /// `100 Continue` is owed before.
+    fn advance_head(&mut self, bytes: &[u8]) -> Result<RequestAdvance, RequestFault>
+        ensures fits { IfOk result (λ advance. advance.taken ≤ length bytes.now) }
+        ensures answer { Advances (part.Head end.Blank) bytes.now bytes.now result self.new.stage }
+        ensures fault { IfErr result (λ fault. IsFalse (is_of_stream fault)) }
+    {
+        let Some((head, taken)) = find_request_head(self.alloc, bytes)? else {
+            self.stage = RequestStage::Head(HeadEnd::of(bytes));
+            return Ok(RequestAdvance {
+                step: RequestStep::More,
+                taken: 0,
+            });
+        };
+        let framing = judge_request(&head)?;
+        let Ok(part) = RequestBody::new(self.alloc, head, framing) else {
+            return Err(RequestFault::OutOfMemory);
+        };
+        if part.owes_continue() {
+            self.stage = RequestStage::Body(part);
+            return Ok(RequestAdvance {
+                step: RequestStep::Continue,
+                taken,
+            });
+        }
+        self.advance_body(part, bytes, taken)
+    }
+
+    /// Takes what it can of the body, which begins at a place in the bytes.
+    fn advance_body(
+        &mut self,
+        mut part: RequestBody,
+        bytes: &[u8],
+        at: usize,
+    ) -> Result<RequestAdvance, RequestFault>
+        requires within { KeepsLimit part.body }
+        requires place { at ≤ length bytes.now }
+        ensures fits { IfOk result (λ advance. advance.taken ≤ length bytes.now) }
+        ensures answer { (old : Stage) (seen : List ℕ)
+            → owed part.head part.framing ≡ was_asked old
+            → IsFedBody part (drop at bytes.now) seen
+            → Advances old seen bytes.now result self.new.stage }
+        ensures fault { IfErr result (λ fault. IsFalse (is_of_stream fault)) }
+    {
+        let taken = at + part.body.take_from(behind(bytes, at))?;
+        if part.body.is_whole() {
+            return Ok(RequestAdvance {
+                step: RequestStep::Whole(part.into_request()),
+                taken,
+            });
+        }
+        self.stage = RequestStage::Body(part);
+        Ok(RequestAdvance {
+            step: RequestStep::More,
+            taken,
+        })
+    }
+}
