@@ -3,7 +3,8 @@
 #
 # `bg_tests_refused_memory` makes the calls of the libraries that take memory, and asks again where one was refused:
 # whichever request is refused, it writes the very same, and each call that it makes was refused in some run. Of the rows
-# that it plays, each request leaves and the seats are gathered while all requests are refused.
+# that it plays, each request leaves and the seats are gathered while all requests are refused; so does the request of a
+# client that it serves leave, which enters where the history has no room for it.
 #
 # `bg_switch` on each row of rows/ ends with `OutOfMemory` on standard error, or answers one line by `OutOfMemory` and
 # all others as without that line, or does as ever, since std's `collect` goes on without the room that it asks for

@@ -1,12 +1,12 @@
 //! The calls of `bg_http` and `bg_http_read`.
 
 use crate::asking::{Subject, change, made, made_again, show};
+use crate::line::Line;
 use crate::stop::Stop;
-use bg_http::{Bytes, Duplex, Fields, Request, Response};
+use bg_http::{Bytes, Fields, Request, Response};
 use bg_http_read::{read_request, read_response};
 use std::alloc::Global;
-use std::io::{Read, Write};
-use std::{fmt, io};
+use std::fmt;
 
 /// A request whose body comes in chunks, with a trailer after them.
 const REQUEST: &str =
@@ -15,38 +15,6 @@ const REQUEST: &str =
 /// An interim response, and one whose body has a length.
 const RESPONSE: &str =
     "HTTP/1.1 103 Early Hints\r\nA: b\r\n\r\nHTTP/1.1 200 OK\r\nB: c\r\nContent-Length: 3\r\n\r\none";
-
-/// The connection of a client that sent this and reads nothing.
-#[derive(Drop)]
-struct Line<'a> {
-    input: &'a [u8],
-}
-
-impl Read for Line<'_> {
-    fn read(&mut self, buf: &mut [u8]) -> io::Result<usize> {
-        self.input.read(buf)
-    }
-}
-
-impl Write for Line<'_> {
-    fn write(&mut self, buf: &[u8]) -> io::Result<usize> {
-        Ok(buf.len())
-    }
-
-    fn flush(&mut self) -> io::Result<()> {
-        Ok(())
-    }
-}
-
-impl Duplex for Line<'_> {
-    fn receive(&mut self, buf: &mut [u8]) -> io::Result<usize> {
-        self.read(buf)
-    }
-
-    fn send(&mut self, bytes: &[u8]) -> io::Result<()> {
-        self.write_all(bytes)
-    }
-}
 
 /// Fields, which are displayed whole.
 #[derive(Drop)]

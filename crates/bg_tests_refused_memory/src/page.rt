@@ -2,7 +2,8 @@
 ghost use Rattle.std.specs.Prelude.{◌≤◌};
 
 use std::fmt::{Display, Write};
-use std::{fmt, str};
+use std::io::ErrorKind;
+use std::{fmt, io, str};
 
 /// The most bytes of a text.
 const ROOM: usize = 4096;
@@ -16,12 +17,17 @@ pub struct Page {
 }
 
 impl Page {
-    /// What the value is displayed as. An error where that is longer than a page.
-    pub fn of<S: Display>(value: &S) -> Result<Page, fmt::Error> {
-        let mut page = Page {
+    /// A page without a text.
+    pub fn new() -> Page {
+        Page {
             bytes: [0; 4096],
             length: 0,
-        };
+        }
+    }
+
+    /// What the value is displayed as. An error where that is longer than a page.
+    pub fn of<S: Display>(value: &S) -> Result<Page, fmt::Error> {
+        let mut page = Page::new();
         write!(page, "{value}")?;
         Ok(page)
     }
@@ -29,6 +35,17 @@ impl Page {
     /// The text's bytes.
     pub fn as_slice(&self) -> &[u8] {
         &self.bytes[..self.length]
+    }
+
+    /// Appends bytes to the text, where there is room for them, and says whether there is.
+    fn append(&mut self, bytes: &[u8]) -> bool {
+        if bytes.len() > ROOM - self.length {
+            return false;
+        }
+        let end = self.length + bytes.len();
+        self.bytes[self.length..end].copy_from_slice(bytes);
+        self.length = end;
+        true
     }
 }
 
@@ -43,13 +60,24 @@ impl Display for Page {
 
 impl Write for Page {
     fn write_str(&mut self, text: &str) -> fmt::Result {
-        let bytes = text.as_bytes();
-        if bytes.len() > ROOM - self.length {
-            return Err(fmt::Error);
+        if self.append(text.as_bytes()) {
+            Ok(())
+        } else {
+            Err(fmt::Error)
         }
-        let end = self.length + bytes.len();
-        self.bytes[self.length..end].copy_from_slice(bytes);
-        self.length = end;
+    }
+}
+
+impl io::Write for Page {
+    fn write(&mut self, bytes: &[u8]) -> io::Result<usize> {
+        if self.append(bytes) {
+            Ok(bytes.len())
+        } else {
+            Err(io::Error::from(ErrorKind::WriteZero))
+        }
+    }
+
+    fn flush(&mut self) -> io::Result<()> {
         Ok(())
     }
 }

@@ -2,8 +2,11 @@
 
 use bg_audit::AuditFault;
 use bg_book::{ControlFault, EnterFault, OpenFault, Reply, RunFault};
+use bg_command_line::OrderFault;
 use bg_http::{RequestFault, ResponseFault};
+use bg_operator::LineFault;
 use bg_revisions::RevisionFault;
+use bg_script::RunEnd;
 use bg_strategy::StrategyFault;
 use std::alloc::AllocError;
 use std::{fmt, io};
@@ -120,6 +123,33 @@ impl From<AuditFault> for Stop {
     fn from(fault: AuditFault) -> Stop {
         match fault {
             AuditFault::OutOfMemory => Stop::OutOfMemory,
+        }
+    }
+}
+
+impl From<OrderFault> for Stop {
+    fn from(fault: OrderFault) -> Stop {
+        match fault {
+            OrderFault::OutOfMemory => Stop::OutOfMemory,
+            OrderFault::Words(_) => Stop::OtherFault,
+        }
+    }
+}
+
+impl From<LineFault> for Stop {
+    fn from(fault: LineFault) -> Stop {
+        match fault {
+            LineFault::OutOfMemory => Stop::OutOfMemory,
+            _ => Stop::OtherFault,
+        }
+    }
+}
+
+impl From<RunEnd> for Stop {
+    fn from(end: RunEnd) -> Stop {
+        match end {
+            RunEnd::OutOfMemory => Stop::OutOfMemory,
+            _ => Stop::OtherFault,
         }
     }
 }

@@ -1,0 +1,229 @@
+//! The call of `bg_forward`: a client is served in memory, before a book whose history has no room for its request.
+ghost use Rattle.std.specs.Prelude.{◌≡◌, ⊤};
+ghost use Rattle.bg_rollout.specs.Gathering.{indices};
+ghost use Rattle.bg_ledger.specs.Blanks.{AreAllFor};
+
+use crate::asking::{compare, made, made_again, refuse_all, refuse_none, say_made, say_refused};
+use crate::desks::available;
+use crate::line::Line;
+use crate::page::Page;
+use crate::state::State;
+use crate::stop::Stop;
+use crate::strategies::base_strategy;
+use bg_book::laws::{lent, same_order};
+use bg_book::{Book, Desk, EnterFault, GoOn, Left, Limits, Question, Ticket};
+use bg_forward::{Dial, Door, End, Exchange, Gate, serve_in_memory};
+use bg_ledger::{Blanks, Names, Seat};
+use bg_revisions::Service;
+use bg_rollout::{MOST_ENTRIES, PLACES_OF_A_REQUEST};
+use bg_strategy::Strategy;
+use std::marker::Brand;
+use std::sync::Wait;
+use std::{fmt, io};
+
+/// So many requests find room that the first event took, and leave none for one more.
+const REQUESTS: u64 = (MOST_ENTRIES - 1 - PLACES_OF_A_REQUEST) / 2 + 1;
+
+const REQUEST: &str = "GET /a HTTP/1.1\r\nHost: x\r\n\r\n";
+
+const RESPONSE: &str = "HTTP/1.1 200 OK\r\nContent-Length: 3\r\n\r\none";
+
+const BEFORE: &str = "serve_in_memory before a request enters";
+
+const ENTERING: &str = "serve_in_memory where a request enters";
+
+const INSIDE: &str = "serve_in_memory once a request has entered";
+
+/// A door that has all memory refused where a request leaves, and tells where a request is refused for want of memory.
+#[derive(Drop)]
+struct Watched<'a, N: Names, R> {
+    rt: &'a R,
+    door: Door<'a, N, R>,
+}
+
+impl<N: Names, R: Wait + Eprint> Gate<N> for Watched<'_, N, R> {
+    fn enter(&self, seat: &mut Seat<N>, service: Service) -> Result<Ticket, EnterFault> {
+        let answer = self.door.enter(seat, service);
+        if answer == Err(EnterFault::OutOfMemory) {
+            let _ = say_refused(self.rt, ENTERING);
+        }
+        answer
+    }
+
+    fn may_go_on(&self, seat: &mut Seat<N>) -> GoOn {
+        self.door.may_go_on(seat)
+    }
+
+    fn leave(&self, seat: &mut Seat<N>) -> Left {
+        let _ = refuse_all(self.rt);
+        let left = self.door.leave(seat);
+        let _ = refuse_none(self.rt);
+        left
+    }
+}
+
+/// An endpoint at every port, which gives the same response.
+#[derive(Drop)]
+struct Endpoint;
+
+impl Dial for Endpoint {
+    type Stream = Line<'static>;
+
+    fn dial(&self, _port: u16) -> io::Result<Line<'static>> {
+        Ok(Line {
+            input: RESPONSE.as_bytes(),
+        })
+    }
+}
+
+/// What a book answers of itself.
+#[derive(Drop)]
+struct Whole;
+
+impl Question<Result<Page, fmt::Error>> for Whole {
+    ghost gives = { λ _ _ _. ⊤ };
+
+    fn ask<N: Names>(self, book: &Book<N>) -> Result<Page, fmt::Error> {
+        Page::of(&State { book, seats: &[] })
+    }
+}
+
+pub fn make_calls<R: AllocGlobal + Print + Eprint + Wait>(rt: &R) -> Result<(), Stop> {
+    let strategy = base_strategy(rt)?;
+    match work::<Brand, R>(rt, &strategy, Blanks::new()) {
+        Ok(end) => end,
+        Err(Stop::OutOfMemory) => {
+            say_refused(rt, "Book::open")?;
+            work::<Brand, R>(rt, &strategy, Blanks::new())?
+        }
+        Err(stop) => Err(stop),
+    }
+}
+
+/// Opens a book, serves at its seat, and ends the book. The outer error is that of the opening.
+fn work<N: Names, R: AllocGlobal + Print + Eprint + Wait>(
+    rt: &R,
+    strategy: &Strategy,
+    blanks: Blanks,
+) -> Result<Result<(), Stop>, Stop>
+    requires blanks { AreAllFor N.Names blanks }
+    requires seats { N.seats ≡ 1 }
+{
+    lent();
+    let (book, mut seats) = Book::<N>::open(
+        rt.alloc(),
+        strategy,
+        "v1",
+        &[9001, 9002],
+        1,
+        Limits::usual(),
+        blanks,
+    )?;
+    let desk = Desk::new(book);
+    let end = serve_first(rt, &desk, seats.as_mut_slice());
+    let _history = desk.into_book().close(seats);
+    Ok(end)
+}
+
+/// Serves at the first of the seats.
+fn serve_first<N: Names, R: AllocGlobal + Print + Eprint + Wait>(
+    rt: &R,
+    desk: &Desk<N>,
+    seats: &mut [Seat<N>],
+) -> Result<(), Stop>
+    ensures { indices seats.new ≡ indices seats.old }
+{
+    same_order();
+    say_made(rt, "Book::open")?;
+    let _outcomes = match made(rt, "Desk::control", record(rt, desk))? {
+        Some(outcomes) => outcomes,
+        None => made_again(rt, "Desk::control", record(rt, desk))?,
+    };
+    if seats.is_empty() {
+        return Err(Stop::OtherFault);
+    }
+    serve_at(rt, desk, &mut seats[0])
+}
+
+/// Tells that the first revision has its endpoints.
+fn record<N: Names, R: Wait>(rt: &R, desk: &Desk<N>) -> Result<u64, Stop> {
+    Ok(desk.control(rt, &available())?)
+}
+
+/// Serves a client at a seat, and another one where the first was refused for want of memory.
+fn serve_at<N: Names, R: AllocGlobal + Print + Eprint + Wait>(
+    rt: &R,
+    desk: &Desk<N>,
+    seat: &mut Seat<N>,
+) -> Result<(), Stop>
+    ensures { seat.new.index ≡ seat.old.index }
+{
+    fill(rt, desk, seat)?;
+    let before = desk.look(rt, Whole)?;
+    let mut exchange = serve(rt, desk, seat)?;
+    if matches!(exchange.served.end, End::Refused(503) | End::WriteFailed) {
+        if exchange.served.entered.is_some() {
+            say_refused(rt, INSIDE)?;
+        } else {
+            say_refused(rt, BEFORE)?;
+            compare(rt, BEFORE, &before, &desk.look(rt, Whole)?)?;
+        }
+        exchange = serve(rt, desk, seat)?;
+    }
+    for name in [BEFORE, ENTERING, INSIDE] {
+        say_made(rt, name)?;
+    }
+    println!(rt; "{:?} {:?}", exchange.served.end, exchange.written)?;
+    Ok(())
+}
+
+/// Lets requests enter and leave until there is no room for one more.
+fn fill<N: Names, R: Wait>(rt: &R, desk: &Desk<N>, seat: &mut Seat<N>) -> Result<(), Stop>
+    ensures { seat.new.index ≡ seat.old.index }
+{
+    for _ in 0..REQUESTS {
+        pass_once(rt, desk, seat)?;
+    }
+    Ok(())
+}
+
+/// Lets a request enter at a seat that is out, and leave.
+fn pass_once<N: Names, R: Wait>(rt: &R, desk: &Desk<N>, seat: &mut Seat<N>) -> Result<(), Stop>
+    ensures { seat.new.index ≡ seat.old.index }
+{
+    if seat.is_in() {
+        return Err(Stop::OtherFault);
+    }
+    let _ticket = desk.enter(rt, seat, Service::Active)?;
+    let _left = desk.leave(rt, seat);
+    Ok(())
+}
+
+/// Serves a client at a seat that is out. Standard output says so where the seat is not what it has to be then.
+fn serve<N: Names, R: AllocGlobal + Print + Eprint + Wait>(
+    rt: &R,
+    desk: &Desk<N>,
+    seat: &mut Seat<N>,
+) -> Result<Exchange, Stop>
+    ensures { seat.new.index ≡ seat.old.index }
+{
+    if seat.is_in() {
+        return Err(Stop::OtherFault);
+    }
+    let calls = seat.calls();
+    let gate = Watched {
+        rt,
+        door: Door::new(rt, desk),
+    };
+    let input = REQUEST.as_bytes();
+    let exchange = serve_in_memory(rt.alloc(), &gate, seat, Service::Active, input, &Endpoint);
+    let made = if exchange.served.entered.is_some() {
+        2
+    } else {
+        0
+    };
+    if seat.is_in() || seat.calls() != calls.saturating_add(made) {
+        println!(rt; "changed: a seat at which a client was served")?;
+    }
+    Ok(exchange)
+}

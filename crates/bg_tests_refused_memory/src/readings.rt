@@ -1,0 +1,62 @@
+//! The calls that read what people write: words, a line and a strategy.
+
+use crate::asking::{made, made_again, show};
+use crate::page::Page;
+use crate::stop::Stop;
+use bg_command_line::{Order, order};
+use bg_operator::{Command, parse_line};
+use bg_script::check;
+use std::alloc::Global;
+
+const STRATEGY: &str =
+    "{\"spec\": {\"replicas\": 2, \"strategy\": {\"blueGreen\": {\"activeService\": \"web\"}}}}";
+
+pub fn make_calls<R: AllocGlobal + Print + Eprint>(rt: &R) -> Result<(), Stop> {
+    let order = make_order(rt)?;
+    println!(rt; "{order:?}")?;
+    let command = make_command(rt)?;
+    println!(rt; "{command:?}")?;
+    let settings = make_settings(rt)?;
+    show(rt, &settings)
+}
+
+fn make_order<R: AllocGlobal + Print + Eprint>(rt: &R) -> Result<Order, Stop> {
+    let alloc = rt.alloc();
+    match made(rt, "order", new_order(alloc))? {
+        Some(order) => Ok(order),
+        None => made_again(rt, "order", new_order(alloc)),
+    }
+}
+
+fn new_order(alloc: Global) -> Result<Order, Stop> {
+    Ok(order(alloc, &["bg_switch", "replay", "--seats", "2"])?)
+}
+
+fn make_command<R: AllocGlobal + Print + Eprint>(rt: &R) -> Result<Command, Stop> {
+    let alloc = rt.alloc();
+    match made(rt, "parse_line", new_command(alloc))? {
+        Some(command) => Ok(command),
+        None => made_again(rt, "parse_line", new_command(alloc)),
+    }
+}
+
+fn new_command(alloc: Global) -> Result<Command, Stop> {
+    Ok(parse_line(alloc, b"deploy v2 9101 9102")?)
+}
+
+fn make_settings<R: AllocGlobal + Print + Eprint>(rt: &R) -> Result<Page, Stop> {
+    let alloc = rt.alloc();
+    match made(rt, "check", new_settings(alloc))? {
+        Some(settings) => Ok(settings),
+        None => made_again(rt, "check", new_settings(alloc)),
+    }
+}
+
+/// What a strategy means.
+fn new_settings(alloc: Global) -> Result<Page, Stop> {
+    let mut settings = Page::new();
+    match check(alloc, &mut STRATEGY.as_bytes(), &mut settings)? {
+        0 => Ok(settings),
+        _ => Err(Stop::OtherFault),
+    }
+}
