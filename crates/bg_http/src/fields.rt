@@ -80,17 +80,6 @@ impl Fields {
         }
     }
 
-    /// No field, with room for `count` of them taken at once; refused only where memory is.
-    pub fn with_room(alloc: Global, count: usize) -> Result<Fields, AllocError>
-        ensures { IfOk result (λ f. f ≡ []) }
-    {
-        let places = Vec::with_capacity(alloc, count)?;
-        Ok(Fields {
-            text: Vec::new(alloc),
-            places,
-        })
-    }
-
     /// The fields of a text that `httparse` found. The text is copied once, up to the end of the
     /// last field; it is refused only where memory is.
     pub fn of_spans(alloc: Global, text: &[u8], spans: &[HeaderSpan]) -> Result<Fields, AllocError>
