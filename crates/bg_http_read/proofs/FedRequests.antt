@@ -41,7 +41,7 @@ use Rattle.bg_http_read.proofs.RequestHeadsFound.{request_head_fails_more, reque
 use Rattle.bg_http_read.proofs.RequestOrFault.{request_or_fault}
 
 -- a head that is judged stays so, whatever follows
-judged_more : (input more : List ℕ) (head : RequestHead) (named : Framing) (after : List ℕ)
+pub judged_more : (input more : List ℕ) (head : RequestHead) (named : Framing) (after : List ℕ)
     → JudgedHead input head named after → JudgedHead (input ++ more) head named (after ++ more)
 judged_more input more head named after h =
     record { reads = request_head_more input more head after h.reads; judged = h.judged }

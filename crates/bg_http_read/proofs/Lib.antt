@@ -20,6 +20,7 @@ pub mod OneResponseFault
 pub mod RequestHeadLoop
 pub mod RequestHeadsFound
 pub mod RequestOrFault
+pub mod RequestPieces
 pub mod RequestSteps
 pub mod RequestsRead
 pub mod RequestBodies

@@ -1,7 +1,7 @@
 -- An input that is read in pieces from a stream.
 use Rattle.std.proofs.Common.{◌≡◌, ℕ, List, [], ◌++◌, sym, ◌∙◌, ap, append_assoc, subst, Option, Some, None, IfSome, IfOk, IfErr, Result, Ok, Err, refl}
 use Rattle.std.proofs.lemmas.List.{append-nil}
-use Rattle.std.specs.Io.KnownBytes.{Consumes, IsAtEnd}
+use Rattle.std.specs.Io.KnownBytes.{Consumes, IsAtEnd, Keeps}
 use Rattle.bg_http_read.specs.BodiesRead.{Leaves}
 
 -- of the input these bytes came, and then comes the rest
@@ -59,3 +59,11 @@ pub ended_err : {T E : Type 0} (P : E → List ℕ → Type 0) (r : Result T E) 
 ended_err P (Ok x) seen first left next h k end p = tt
 ended_err P (Err e) seen first left next h k end p =
     ended_input (P e) seen first left next h k end p
+
+-- nothing more came
+pub came_kept : (seen : List ℕ) (first left next : Option (List ℕ)) → Leaves (Came seen) first left
+    → Keeps left next → Leaves (Came seen) first next
+came_kept seen None left next h k = tt
+came_kept seen (Some i) None next h k = absurd h
+came_kept seen (Some i) (Some r) None h k = absurd k
+came_kept seen (Some i) (Some r) (Some q) h k = subst (λ l. i ≡ seen ++ l) (sym k) h

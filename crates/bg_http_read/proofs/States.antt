@@ -1,5 +1,6 @@
 -- What the parsers stand for, by its parts.
-use Rattle.std.proofs.Common.{◌≡◌, Bool, ℕ, List}
+use Rattle.std.proofs.Common.{◌≡◌, Bool, ℕ, List, [], ◌++◌, refl}
+use Rattle.std.proofs.lemmas.List.{append-nil}
 use Rattle.bg_http.specs.declared.request.Request.{Request}
 use Rattle.bg_http_read.specs.RequestStates.{RequestState}
 use Rattle.bg_http_read.specs.ResponseStates.{ResponseState}
@@ -20,3 +21,10 @@ pub same_request : (seen came : List ℕ) (asked owed : Bool) (is_open was : Boo
     → asked ≡ owed → is_open ≡ was
     → request_state seen asked is_open ≡ request_state came owed was
 same_request seen came asked owed is_open was h k e = cc
+
+-- where nothing came, nothing changes
+pub request_as_it_was : (state : RequestState)
+    → request_state (state.seen ++ []) state.asked state.is_open ≡ state
+request_as_it_was state =
+    same_request (state.seen ++ []) state.seen state.asked state.asked state.is_open state.is_open
+    (append-nil state.seen) refl refl

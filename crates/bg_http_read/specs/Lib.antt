@@ -6,6 +6,7 @@ pub mod HeadEnds
 pub mod HeadFaults
 pub mod Laws
 pub mod RequestHeads
+pub mod RequestPieces
 pub mod RequestStates
 pub mod Requests
 pub mod RequestsFed

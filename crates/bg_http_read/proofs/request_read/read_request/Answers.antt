@@ -1,92 +1,146 @@
-use Rattle.std.proofs.Common.{subst, IfSome, inl, inr, List, ℕ}
-use Rattle.bg_http.specs.RequestRules.{owes_continue}
-use Rattle.bg_http_read.specs.Requests.{HeadRefused, RequestFails, AnswersHead, JudgedHead}
-use Rattle.bg_http_read.specs.Streams.{to_come, waiting}
-use Rattle.bg_http_read.proofs.RequestsRead.{head_refused, write_failed, judged_kept, kept_to_come, body_lacks, judged_begins, wrote_for, continue_kept, nothing_waits}
+use Rattle.std.proofs.Common.{rules, arith, length, refl, [], ◌++◌, ◌<◌, ap, subst, sym, take}
+use Rattle.std.proofs.KnownBytes.{Keeps-refl}
+use Rattle.std.specs.Io.KnownBytes.{Consumes}
+use Rattle.bg_http_read.specs.BodiesRead.{Leaves}
+use Rattle.bg_http_read.specs.Requests.{WritesContinue}
+use Rattle.bg_http_read.specs.RequestPieces.{OwesIf}
+use Rattle.bg_http_read.specs.RequestStates.{ReadsAsked}
+use Rattle.bg_http_read.proofs.Pieces.{Came, came_kept, none_came, piece_came, whole_input}
+use Rattle.bg_http_read.proofs.RequestPieces.{ended_fault, ended_wrote, piece_fault, piece_wrote, request_of, wrote_reading, wrote_request, writes_kept}
 use Rattle.bg_http_read.proofs.request_read.read_request.Goals as goal
 
-pub returns-in-Ok-read_request_body-clause-written :
-    goal.returns-in-Ok-read_request_body-clause-written
-returns-in-Ok-read_request_body-clause-written g c =
-    let head = c.in-Ok.found.0 in
-    let framing = c.in-Ok.found.1 in
-    let left = g.S.Read.remaining c.args.stream.now in
-    let first = to_come c.new-intake.result left in
-    let second = to_come c.read_judged_head.new.intake (g.S.Read.remaining c.read_judged_head.new.stream) in
+pub loop-init : goal.loop-init
+loop-init g c =
+    let first = g.S.Read.remaining c.args.stream.now in
+    let written = g.S.Write.contents c.args.stream.now in
     record {
-      head = head;
-      framing = framing;
-      begins = subst (λ f. IfSome f (λ i. (after : List ℕ) × JudgedHead i head framing after))
-          (nothing_waits (waiting c.new-intake.result) left c.new-intake.ensures)
-          (judged_begins first second head framing c.in-Ok.ensures.head);
-      wrote = continue_kept (owes_continue head framing) (g.S.Write.contents c.args.stream.now)
-          (g.S.Write.contents c.read_judged_head.new.stream) (g.S.Write.contents c.answer_expectation.new.stream)
-          (g.S.Write.contents c.read_request_body.new.stream) c.read_judged_head.ensures.kept
-          c.in-Ok-answer_expectation.ensures.written c.read_request_body.ensures.kept;
+      came = subst (λ p. Leaves (Came p.seen) first first) (sym c.new-parser.ensures) (none_came first);
+      goes_on = ap (λ p. p.is_open) c.new-parser.ensures;
+      wrote = subst (λ p. WritesContinue p.asked written written) (sym c.new-parser.ensures) (Keeps-refl written);
+      owed = subst (λ p. OwesIf p.asked p.seen) (sym c.new-parser.ensures) (λ is. cc);
+      size = refl;
     }
 
-pub returns-in-Err-clause-fault : goal.returns-in-Err-clause-fault
-returns-in-Err-clause-fault g c =
-    let left = g.S.Read.remaining c.args.stream.now in
-    let first = to_come c.new-intake.result left in
-    subst (λ f. IfSome f (λ i. RequestFails i c.in-Err.fault))
-    (nothing_waits (waiting c.new-intake.result) left c.new-intake.ensures)
-    (head_refused first c.in-Err.fault c.in-Err.ensures.fault)
-
-pub returns-in-Err-clause-written : goal.returns-in-Err-clause-written
-returns-in-Err-clause-written g c =
-    let left = g.S.Read.remaining c.args.stream.now in
-    let refused = subst (λ f. IfSome f (λ i. HeadRefused i c.in-Err.fault))
-    (nothing_waits (waiting c.new-intake.result) left c.new-intake.ensures) c.in-Err.ensures.fault in
-    wrote_for left (g.S.Write.contents c.args.stream.now) (g.S.Write.contents c.read_judged_head.new.stream)
-    c.in-Err.fault (inl (c.in-Err.ensures.kept, refused))
-
-pub returns-in-Err-answer_expectation-clause-fault :
-    goal.returns-in-Err-answer_expectation-clause-fault
-returns-in-Err-answer_expectation-clause-fault g c =
-    let left = g.S.Read.remaining c.args.stream.now in
-    let first = to_come c.new-intake.result left in
-    let second = to_come c.read_judged_head.new.intake (g.S.Read.remaining c.read_judged_head.new.stream) in
-    let fault = c.in-Err-answer_expectation.ensures.fault in
-    subst (λ f. IfSome f (λ i. RequestFails i c.in-Err-answer_expectation.fault))
-    (nothing_waits (waiting c.new-intake.result) left c.new-intake.ensures)
-    (write_failed first second c.in-Ok.found.0 c.in-Ok.found.1 c.in-Err-answer_expectation.fault
-    c.in-Ok.ensures.head fault.0 fault.1)
-
-pub returns-clause-fault : goal.returns-clause-fault
-returns-clause-fault g c =
-    let head = c.in-Ok.found.0 in
-    let framing = c.in-Ok.found.1 in
-    let e = c.in-Err-read_request_body.fault in
-    let left = g.S.Read.remaining c.args.stream.now in
-    let first = to_come c.new-intake.result left in
-    let w = waiting c.read_judged_head.new.intake in
-    let second = to_come c.read_judged_head.new.intake (g.S.Read.remaining c.read_judged_head.new.stream) in
-    let third = to_come c.read_judged_head.new.intake (g.S.Read.remaining c.answer_expectation.new.stream) in
-    let kept = kept_to_come w (g.S.Read.remaining c.read_judged_head.new.stream) (g.S.Read.remaining c.answer_expectation.new.stream) c.answer_expectation.ensures.left in
-    let judged = judged_kept first second third head framing c.in-Ok.ensures.head kept in
-    subst (λ f. IfSome f (λ i. RequestFails i e))
-    (nothing_waits (waiting c.new-intake.result) left c.new-intake.ensures)
-    (body_lacks first third head framing e judged c.in-Err-read_request_body.ensures.fault)
+pub returns-in_default-clause-written : goal.returns-in_default-clause-written
+returns-in_default-clause-written g c =
+    let written = g.S.Write.contents c.args.stream.now in
+    let before = g.S.Write.contents c.read_piece.new.stream in
+    let wrote = writes_kept c.loop.parser.asked written (g.S.Write.contents c.loop.stream) before c.loop.invariant.wrote c.read_piece.ensures.kept in
+    wrote_reading c.loop.parser.asked c.loop.parser.seen (g.S.Read.remaining c.args.stream.now) (g.S.Read.remaining c.loop.stream)
+    written before c.loop.invariant.came c.loop.invariant.owed wrote
 
 pub returns-clause-written : goal.returns-clause-written
 returns-clause-written g c =
-    let head = c.in-Ok.found.0 in
-    let framing = c.in-Ok.found.1 in
-    let left = g.S.Read.remaining c.args.stream.now in
-    let first = to_come c.new-intake.result left in
-    let second = to_come c.read_judged_head.new.intake (g.S.Read.remaining c.read_judged_head.new.stream) in
-    let old = g.S.Write.contents c.args.stream.now in
-    let new = g.S.Write.contents c.read_request_body.new.stream in
-    let answers : AnswersHead left old new = record {
-      head = head;
-      framing = framing;
-      begins = subst (λ f. IfSome f (λ i. (after : List ℕ) × JudgedHead i head framing after))
-          (nothing_waits (waiting c.new-intake.result) left c.new-intake.ensures)
-          (judged_begins first second head framing c.in-Ok.ensures.head);
-      wrote = continue_kept (owes_continue head framing) old
-          (g.S.Write.contents c.read_judged_head.new.stream) (g.S.Write.contents c.answer_expectation.new.stream)
-          new c.read_judged_head.ensures.kept
-          c.in-Ok-answer_expectation.ensures.written c.read_request_body.ensures.kept;
-    } in
-    wrote_for left old new c.in-Err-read_request_body.fault (inr answers)
+    wrote_reading c.loop.parser.asked c.loop.parser.seen (g.S.Read.remaining c.args.stream.now) (g.S.Read.remaining c.loop.stream)
+    (g.S.Write.contents c.args.stream.now) (g.S.Write.contents c.loop.stream) c.loop.invariant.came c.loop.invariant.owed c.loop.invariant.wrote
+
+pub returns-then-count-eq0-clause-fault : goal.returns-then-count-eq0-clause-fault
+returns-then-count-eq0-clause-fault g c =
+    let first = g.S.Read.remaining c.args.stream.now in
+    let left = g.S.Read.remaining c.loop.stream in
+    let next = g.S.Read.remaining c.read_piece.new.stream in
+    let seen = c.loop.parser.seen in
+    let asked = c.loop.parser.asked in
+    let none = subst (λ n. Consumes left next (take n c.read_piece.new.piece)) c.if-count-eq0.true c.in-Some.ensures.bytes in
+    let size : 0 < length c.loop.piece = omega (arith, c.loop.invariant.size) in
+    let end = c.in-Some.ensures.end c.if-count-eq0.true size in
+    ended_fault asked seen first left next c.end.result c.loop.invariant.came none end c.end.ensures.refused
+
+pub returns-then-count-eq0-clause-written : goal.returns-then-count-eq0-clause-written
+returns-then-count-eq0-clause-written g c =
+    let first = g.S.Read.remaining c.args.stream.now in
+    let left = g.S.Read.remaining c.loop.stream in
+    let next = g.S.Read.remaining c.read_piece.new.stream in
+    let seen = c.loop.parser.seen in
+    let asked = c.loop.parser.asked in
+    let none = subst (λ n. Consumes left next (take n c.read_piece.new.piece)) c.if-count-eq0.true c.in-Some.ensures.bytes in
+    let size : 0 < length c.loop.piece = omega (arith, c.loop.invariant.size) in
+    let end = c.in-Some.ensures.end c.if-count-eq0.true size in
+    let written = g.S.Write.contents c.args.stream.now in
+    let before = g.S.Write.contents c.read_piece.new.stream in
+    let wrote = writes_kept c.loop.parser.asked written (g.S.Write.contents c.loop.stream) before c.loop.invariant.wrote c.read_piece.ensures.kept in
+    ended_wrote asked seen first left next written before c.end.result c.loop.invariant.came none end wrote
+    c.end.ensures.request c.end.ensures.refused
+
+pub returns-in-Ok-Some-clause-request : goal.returns-in-Ok-Some-clause-request
+returns-in-Ok-Some-clause-request g c =
+    let first = g.S.Read.remaining c.args.stream.now in
+    let left = g.S.Read.remaining c.loop.stream in
+    let next = g.S.Read.remaining c.read_piece.new.stream in
+    let written = g.S.Write.contents c.args.stream.now in
+    let before = g.S.Write.contents c.read_piece.new.stream in
+    let wrote = writes_kept c.loop.parser.asked written (g.S.Write.contents c.loop.stream) before c.loop.invariant.wrote c.read_piece.ensures.kept in
+    let bytes = take c.in-Some.count c.read_piece.new.piece in
+    let seen = c.loop.parser.seen ++ bytes in
+    let came = piece_came c.loop.parser.seen bytes first left next c.loop.invariant.came c.in-Some.ensures.bytes in
+    let answer = rw c.in-Ok-Some.field-0-is at c.in-Ok-Some.ensures.answer written wrote c.loop.invariant.owed in
+    request_of answer.0 first c.in-Ok-Some.request
+    (whole_input (ReadsAsked answer.0 c.in-Ok-Some.request) seen first next came answer.1)
+
+pub returns-in-Ok-Some-clause-written : goal.returns-in-Ok-Some-clause-written
+returns-in-Ok-Some-clause-written g c =
+    let first = g.S.Read.remaining c.args.stream.now in
+    let left = g.S.Read.remaining c.loop.stream in
+    let next = g.S.Read.remaining c.read_piece.new.stream in
+    let written = g.S.Write.contents c.args.stream.now in
+    let before = g.S.Write.contents c.read_piece.new.stream in
+    let wrote = writes_kept c.loop.parser.asked written (g.S.Write.contents c.loop.stream) before c.loop.invariant.wrote c.read_piece.ensures.kept in
+    let bytes = take c.in-Some.count c.read_piece.new.piece in
+    let seen = c.loop.parser.seen ++ bytes in
+    let came = piece_came c.loop.parser.seen bytes first left next c.loop.invariant.came c.in-Some.ensures.bytes in
+    let now = g.S.Write.contents c.feed_piece.new.stream in
+    let answer = rw c.in-Ok-Some.field-0-is at c.in-Ok-Some.ensures.answer written wrote c.loop.invariant.owed in
+    wrote_request answer.0 (seen ++ []) first written now c.in-Ok-Some.request (answer.1 [])
+    (whole_input (ReadsAsked answer.0 c.in-Ok-Some.request) seen first next came answer.1) answer.2
+
+pub returns-in-Err-clause-fault : goal.returns-in-Err-clause-fault
+returns-in-Err-clause-fault g c =
+    let first = g.S.Read.remaining c.args.stream.now in
+    let left = g.S.Read.remaining c.loop.stream in
+    let next = g.S.Read.remaining c.read_piece.new.stream in
+    let written = g.S.Write.contents c.args.stream.now in
+    let before = g.S.Write.contents c.read_piece.new.stream in
+    let wrote = writes_kept c.loop.parser.asked written (g.S.Write.contents c.loop.stream) before c.loop.invariant.wrote c.read_piece.ensures.kept in
+    let bytes = take c.in-Some.count c.read_piece.new.piece in
+    let seen = c.loop.parser.seen ++ bytes in
+    let came = piece_came c.loop.parser.seen bytes first left next c.loop.invariant.came c.in-Some.ensures.bytes in
+    let now = g.S.Write.contents c.feed_piece.new.stream in
+    piece_fault seen first next written now c.in-Err.fault c.feed_piece.new.parser came
+    (c.in-Err.ensures.answer written wrote c.loop.invariant.owed)
+
+pub returns-in-Err-clause-written : goal.returns-in-Err-clause-written
+returns-in-Err-clause-written g c =
+    let first = g.S.Read.remaining c.args.stream.now in
+    let left = g.S.Read.remaining c.loop.stream in
+    let next = g.S.Read.remaining c.read_piece.new.stream in
+    let written = g.S.Write.contents c.args.stream.now in
+    let before = g.S.Write.contents c.read_piece.new.stream in
+    let wrote = writes_kept c.loop.parser.asked written (g.S.Write.contents c.loop.stream) before c.loop.invariant.wrote c.read_piece.ensures.kept in
+    let bytes = take c.in-Some.count c.read_piece.new.piece in
+    let seen = c.loop.parser.seen ++ bytes in
+    let came = piece_came c.loop.parser.seen bytes first left next c.loop.invariant.came c.in-Some.ensures.bytes in
+    let now = g.S.Write.contents c.feed_piece.new.stream in
+    piece_wrote seen first next written now c.in-Err.fault c.feed_piece.new.parser came
+    (c.in-Err.ensures.answer written wrote c.loop.invariant.owed)
+
+pub loop-preserved : goal.loop-preserved
+loop-preserved g c =
+    let first = g.S.Read.remaining c.args.stream.now in
+    let left = g.S.Read.remaining c.loop.stream in
+    let next = g.S.Read.remaining c.read_piece.new.stream in
+    let written = g.S.Write.contents c.args.stream.now in
+    let before = g.S.Write.contents c.read_piece.new.stream in
+    let wrote = writes_kept c.loop.parser.asked written (g.S.Write.contents c.loop.stream) before c.loop.invariant.wrote c.read_piece.ensures.kept in
+    let bytes = take c.in-Some.count c.read_piece.new.piece in
+    let seen = c.loop.parser.seen ++ bytes in
+    let came = piece_came c.loop.parser.seen bytes first left next c.loop.invariant.came c.in-Some.ensures.bytes in
+    let answer = rw c.in-Ok-None.field-0-is at c.in-Ok-None.ensures.answer written wrote c.loop.invariant.owed in
+    let parser = c.feed_piece.new.parser in
+    record {
+      came = came_kept parser.seen first next (g.S.Read.remaining c.feed_piece.new.stream)
+          (subst (λ l. Leaves (Came l) first next) (sym answer.0) came) c.feed_piece.ensures.left;
+      goes_on = answer.1;
+      wrote = answer.2;
+      owed = subst (OwesIf parser.asked) (sym answer.0) answer.3;
+      size = search rules;
+    }
