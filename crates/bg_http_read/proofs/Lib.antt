@@ -5,7 +5,6 @@ pub mod DataSteps
 pub mod FaultStays
 pub mod FedRequests
 pub mod FedResponses
-pub mod Filled
 pub mod FramedBodies
 pub mod Fronts
 pub mod HeadLengths
@@ -17,7 +16,6 @@ pub mod LineSteps
 pub mod OneFailure
 pub mod OneFault
 pub mod OneResponseFault
-pub mod RequestHeadLoop
 pub mod RequestHeadsFound
 pub mod RequestOrFault
 pub mod RequestPieces

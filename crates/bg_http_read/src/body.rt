@@ -1,14 +1,13 @@
 //! A body, which is fed the bytes as they come.
-ghost use Rattle.std.specs.Prelude.{◌≡◌, ◌<◌, ◌≤◌, ◌++◌, [], IfOk, IfErr, IsFalse, OnErr, OnOk, drop, length};
+ghost use Rattle.std.specs.Prelude.{◌≡◌, ◌<◌, ◌≤◌, [], IfOk, IfErr, IsFalse, OnErr, OnOk, drop, length};
 ghost use Rattle.bg_http_read.specs.Bodies.{Fails, Follows, KeepsLimit, Refuses, Takes, Unchanged};
 ghost use Rattle.bg_http_read.specs.Bodies.{can_end, is_whole};
 ghost use Rattle.bg_http_read.specs.BodyFaults.{cut};
-ghost use Rattle.bg_http_read.specs.Streams.{waiting};
 ghost use Rattle.bg_http_read.specs.declared.body.Stage.TheVariants as stage;
 
 use crate::body_fault::BodyFault;
 use crate::chunk_lines::find_line;
-use crate::intake::{Intake, behind};
+use crate::intake::behind;
 use crate::trailers::find_trailers;
 use bg_http::Bytes;
 use std::alloc::{AllocError, Global};
@@ -131,45 +130,6 @@ impl Body {
             }
             at += count;
         }
-    }
-
-    /// Takes all that is its own of the bytes that wait, and tells whether it is whole. Where it
-    /// isn't, it needs more than these; one that goes to the end of the input has taken them all.
-    pub(crate) fn take_waiting(&mut self, intake: &mut Intake) -> Result<bool, BodyFault>
-        requires { KeepsLimit self.old }
-        ensures taken { OnOk result
-            (Follows self.old (waiting intake.old) self.new (waiting intake.new)) }
-        ensures whole { IfOk result (λ whole. whole ≡ is_whole self.new.stage) }
-        ensures wants { OnOk result (IsFalse (can_end self.new.stage)
-            → Fails self.old cut (waiting intake.old)) }
-        ensures empty { OnOk result (self.new.stage ≡ stage.ToTheEnd → waiting intake.new ≡ []) }
-        ensures refused { IfErr result (λ fault. Refuses self.old (waiting intake.old) fault) }
-        ensures within { KeepsLimit self.new }
-        ensures limit { self.new.limit ≡ self.old.limit }
-    {
-        let count = self.take_from(intake.get())?;
-        intake.skip(count);
-        Ok(self.is_whole())
-    }
-
-    /// Takes what is its own of bytes behind those that wait. Where none wait, what it takes is
-    /// copied no second time; what it leaves waits.
-    pub(crate) fn take_piece(&mut self, bytes: &[u8], intake: &mut Intake) -> Result<(), BodyFault>
-        requires { KeepsLimit self.old }
-        ensures taken { OnOk result
-            (Follows self.old (waiting intake.old ++ bytes.now) self.new (waiting intake.new)) }
-        ensures refused { IfErr result (λ fault.
-            Refuses self.old (waiting intake.old ++ bytes.now) fault) }
-        ensures within { KeepsLimit self.new }
-        ensures limit { self.new.limit ≡ self.old.limit }
-    {
-        if !intake.is_empty() {
-            intake.add(bytes)?;
-            return Ok(());
-        }
-        let taken = self.take_from(bytes)?;
-        intake.add(behind(bytes, taken))?;
-        Ok(())
     }
 
     /// Takes bytes of the front, as many as it says; none where it needs more than these, or is

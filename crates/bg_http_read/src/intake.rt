@@ -1,34 +1,15 @@
 //! Bytes that were read from a stream and not yet taken.
-ghost use Rattle.std.specs.Prelude.{◌≡◌, ◌<◌, ◌≤◌, ◌++◌, [], IfOk, IfSome, IsFalse, IsTrue, OnErr, OnOk};
+ghost use Rattle.std.specs.Prelude.{◌≡◌, ◌<◌, ◌≤◌, ◌++◌, [], IfSome, IsTrue, OnErr, OnOk};
 ghost use Rattle.std.specs.Prelude.{drop, length, take};
 ghost use Rattle.std.specs.Io.KnownBytes.{Consumes, IsAtEnd, Keeps};
-ghost use Rattle.bg_http_read.specs.Streams.{to_come, waiting};
+ghost use Rattle.bg_http_read.specs.Streams.{waiting};
 
-use bg_http::{Duplex, MOST_TURNS, ResponseFault};
+use bg_http::{Duplex, MOST_TURNS};
 use std::alloc::{AllocError, Global};
 use std::io::{ErrorKind, Read};
 
 /// How many bytes are asked for at once.
 pub(crate) const PIECE: usize = 8192;
-
-/// Why no more bytes come.
-#[derive(Clone, Copy, PartialEq, Eq, Debug, Drop)]
-pub(crate) enum IntakeFault {
-    /// A read failed.
-    ReadFailed,
-    /// Memory was refused.
-    OutOfMemory,
-}
-
-impl From<AllocError> for IntakeFault {
-    ghost use Rattle.bg_http_read.specs.declared.intake.IntakeFault.TheVariants.{OutOfMemory};
-
-    ghost from_gives = { λ _ e. e ≡ OutOfMemory };
-
-    fn from(_: AllocError) -> IntakeFault {
-        IntakeFault::OutOfMemory
-    }
-}
 
 /// One read, tried again where it was interrupted; how many bytes it gave, none where it failed.
 pub(crate) fn read_piece<S: Duplex>(stream: &mut S, piece: &mut [u8]) -> Option<usize>
@@ -127,40 +108,5 @@ impl Intake {
     {
         self.compact();
         self.bytes.extend_from_slice(bytes)
-    }
-
-    /// Reads the next bytes of the stream into the front of `piece` and adds them; how many there
-    /// were, none at its end.
-    pub(crate) fn fill<S: Duplex>(
-        &mut self,
-        stream: &mut S,
-        piece: &mut [u8],
-    ) -> Result<usize, IntakeFault>
-        requires { 0 < length piece.old }
-        ensures fits { IfOk result (λ count. count ≤ length piece.new) }
-        ensures to_come { OnOk result (Keeps (to_come self.old (S.remaining stream.old))
-            (to_come self.new (S.remaining stream.new))) }
-        ensures end { IfOk result (λ count. count ≡ 0
-            → (waiting self.new ≡ waiting self.old) × IsAtEnd (S.remaining stream.new)) }
-        ensures kept { Keeps (S.contents stream.old) (S.contents stream.new) }
-    {
-        let Some(count) = read_piece(stream, piece) else {
-            return Err(IntakeFault::ReadFailed);
-        };
-        self.add(&piece[..count])?;
-        Ok(count)
-    }
-}
-
-impl From<IntakeFault> for ResponseFault {
-    ghost use Rattle.bg_http_read.specs.BodiesRead.{of_machine};
-
-    ghost from_gives = { λ fault e. e ≡ of_machine fault };
-
-    fn from(fault: IntakeFault) -> ResponseFault {
-        match fault {
-            IntakeFault::ReadFailed => ResponseFault::ReadFailed,
-            IntakeFault::OutOfMemory => ResponseFault::OutOfMemory,
-        }
     }
 }

@@ -4,7 +4,6 @@
 
 mod body;
 mod body_fault;
-mod body_read;
 mod chunk_lines;
 mod final_head;
 mod head_end;
@@ -17,7 +16,6 @@ mod one_way;
 mod request_body;
 mod request_feed;
 mod request_head;
-mod request_head_read;
 mod request_parser;
 mod request_progress;
 mod request_read;
