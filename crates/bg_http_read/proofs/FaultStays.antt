@@ -6,13 +6,11 @@ use Rattle.bg_http.specs.declared.request_rules.Framing.{Framing}
 use Rattle.bg_http.specs.declared.request_rules.Framing.TheVariants as framing
 use Rattle.bg_http.specs.declared.request_fault.RequestFault.{RequestFault}
 use Rattle.bg_http.specs.declared.request_fault.RequestFault.TheVariants as fault
-use Rattle.bg_http.specs.declared.response_fault.ResponseFault.{ResponseFault}
-use Rattle.bg_http.specs.declared.response_fault.ResponseFault.TheVariants as read
-use Rattle.bg_http_read.specs.declared.head_fault.HeadFault.TheVariants as head_fault
+use Rattle.bg_http_read.specs.declared.message_fault.MessageFault.TheVariants as message_fault
 use Rattle.bg_http_read.specs.BodyFaults.{Failure, malformed, large, cut, LineFails, LineEndFails, TrailersFail, FailsAt, at_line, at_size, after_data, at_trailers, ChunksFail, LengthFails}
 use Rattle.bg_http_read.specs.Chunks.{ReadsChunk, Leads}
 use Rattle.bg_http_read.specs.HeadFaults.{RequestHeadFails}
-use Rattle.bg_http_read.specs.Requests.{FramedBodyFails, RequestBodyFails, RequestFails, as_request}
+use Rattle.bg_http_read.specs.Requests.{FramedBodyFails, RequestBodyFails, RequestFails}
 use Rattle.bg_http_read.proofs.ChunkLines.{line_more, malformed_line_more}
 use Rattle.bg_http_read.proofs.InterimOrder.{compare}
 use Rattle.bg_http_read.proofs.RequestHeadsFound.{request_head_more, request_head_fails_more}
@@ -138,15 +136,18 @@ body_stays named input more fault.TooLarge whole h =
     framed_stays large named input more other_failure.1 h
 body_stays named input more fault.OutOfMemory whole h = tt
 
-head_stays : (input more : List ℕ) (e : ResponseFault) → (as_request e ≡ fault.Closed → ⊥)
+head_stays : (input more : List ℕ) (e : RequestFault) → (e ≡ fault.Closed → ⊥)
     → RequestHeadFails input e → RequestHeadFails (input ++ more) e
-head_stays input more read.ReadFailed whole h = tt
-head_stays input more read.HeadTooLarge whole h =
-    request_head_fails_more input more head_fault.TooLarge h
-head_stays input more read.Bad whole h = request_head_fails_more input more head_fault.Bad h
-head_stays input more read.TooLarge whole h = h
-head_stays input more read.Closed whole h = absurd (whole refl)
-head_stays input more read.OutOfMemory whole h = tt
+head_stays input more fault.ReadFailed whole h = tt
+head_stays input more fault.WriteFailed whole h = h
+head_stays input more fault.HeadTooLarge whole h =
+    request_head_fails_more input more message_fault.HeadTooLarge h
+head_stays input more fault.Bad whole h =
+    request_head_fails_more input more message_fault.Bad h
+head_stays input more fault.Closed whole h = absurd (whole refl)
+head_stays input more fault.NotDone whole h = h
+head_stays input more fault.TooLarge whole h = h
+head_stays input more fault.OutOfMemory whole h = tt
 
 pub fault_stays : (input more : List ℕ) (e : RequestFault) → (e ≡ fault.Closed → ⊥)
     → RequestFails input e → RequestFails (input ++ more) e
@@ -156,8 +157,7 @@ fault_stays input more e whole (inl (inl h)) = inl (inl (record {
   reads = request_head_more input more h.head h.after h.reads;
   judged = h.judged;
 }))
-fault_stays input more e whole (inl (inr (of, is, h))) =
-    inl (inr (of, is, head_stays input more of (λ closed. whole (is ∙ closed)) h))
+fault_stays input more e whole (inl (inr h)) = inl (inr (head_stays input more e whole h))
 fault_stays input more e whole (inr (inl h)) = inr (inl (record {
   head = h.head;
   framing = h.framing;

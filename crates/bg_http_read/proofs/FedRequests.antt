@@ -10,24 +10,22 @@ use Rattle.bg_http.specs.declared.request_fault.RequestFault.{RequestFault}
 use Rattle.bg_http.specs.declared.request_fault.RequestFault.TheVariants as fault
 use Rattle.bg_http.specs.declared.request_rules.Framing.{Framing}
 use Rattle.bg_http.specs.declared.request_rules.Framing.TheVariants as framing
-use Rattle.bg_http.specs.declared.response_fault.ResponseFault.TheVariants as read
 use Rattle.bg_http_read.specs.Bodies.{Follows, KeepsLimit, Reads, Fails, Refuses, announced, can_end, is_whole}
-use Rattle.bg_http_read.specs.BodiesRead.{read_fault}
 use Rattle.bg_http_read.specs.BodyFaults.{Failure, malformed, large, cut}
 use Rattle.bg_http_read.specs.HeadEnds.{after_bytes, is_over}
-use Rattle.bg_http_read.specs.HeadFaults.{RequestHeadFails, of_head}
+use Rattle.bg_http_read.specs.HeadFaults.{RequestHeadFails}
+use Rattle.bg_http_read.specs.MessageFaults.{as_request}
 use Rattle.bg_http_read.specs.RequestHeads.{ReadsRequestHead, RequestHeadIsCut}
-use Rattle.bg_http_read.specs.Requests.{FramedBodyFails, JudgedHead, ReadsRequestBody, RequestBodyFails, RequestFails, as_request}
+use Rattle.bg_http_read.specs.Requests.{FramedBodyFails, JudgedHead, ReadsRequestBody, RequestBodyFails, RequestFails}
 use Rattle.bg_http_read.specs.RequestStates.{FailsAsked, IsReadAsked, IsRefusedAsked, LacksRequest, OwesContinue}
 use Rattle.bg_http_read.specs.RequestsFed.{Advances, AdvancesTo, AwaitsHead, HasParts, IsAt, IsFedBody, IsFedStage, IsOpenStage, IsSeen, LacksHead, StartsBody, first_stage, framed_body, is_head, most_of, stage_seen, was_asked}
 use Rattle.bg_http_read.specs.declared.body.Body.{Body}
 use Rattle.bg_http_read.specs.declared.body.Stage.{Stage}
 use Rattle.bg_http_read.specs.declared.body.Stage.TheVariants as stage
-use Rattle.bg_http_read.specs.declared.body_fault.BodyFault.{BodyFault}
-use Rattle.bg_http_read.specs.declared.body_fault.BodyFault.TheVariants as body_fault
 use Rattle.bg_http_read.specs.declared.head_end.HeadEnd.{HeadEnd}
 use Rattle.bg_http_read.specs.declared.head_end.HeadEnd.TheVariants as head_end
-use Rattle.bg_http_read.specs.declared.head_fault.HeadFault.{HeadFault}
+use Rattle.bg_http_read.specs.declared.message_fault.MessageFault.{MessageFault}
+use Rattle.bg_http_read.specs.declared.message_fault.MessageFault.TheVariants as message_fault
 use Rattle.bg_http_read.specs.declared.request_body.RequestBody.{RequestBody}
 use Rattle.bg_http_read.specs.declared.request_progress.RequestAdvance.{RequestAdvance}
 use Rattle.bg_http_read.specs.declared.request_progress.RequestStage.{RequestStage}
@@ -149,16 +147,17 @@ framed p waits seen more failure h fails =
     framed_fails p.framing h.start h.starts failure (h.after ++ more)
     (h.follows.fails failure more fails)
 
-pub fed_refused : (p : RequestBody) (waits seen : List ℕ) (e : BodyFault) (asked : Bool)
+pub fed_refused : (p : RequestBody) (waits seen : List ℕ) (e : MessageFault) (asked : Bool)
     → IsFedBody p waits seen → owes_continue p.head p.framing ≡ asked → Refuses p.body waits e
-    → IsRefusedAsked asked (as_request (read_fault e)) seen
-fed_refused p waits seen body_fault.Bad asked h owes refused more =
+    → IsRefusedAsked asked (as_request e) seen
+fed_refused p waits seen message_fault.Bad asked h owes refused more =
     fed_fails p waits seen more fault.Bad asked h owes
     (framed p waits seen more malformed h (refused more))
-fed_refused p waits seen body_fault.TooLarge asked h owes refused more =
+fed_refused p waits seen message_fault.HeadTooLarge asked h owes refused more = absurd refused
+fed_refused p waits seen message_fault.TooLarge asked h owes refused more =
     fed_fails p waits seen more fault.TooLarge asked h owes
     (framed p waits seen more large h (refused more))
-fed_refused p waits seen body_fault.OutOfMemory asked h owes refused more =
+fed_refused p waits seen message_fault.OutOfMemory asked h owes refused more =
     fed_fails p waits seen more fault.OutOfMemory asked h owes tt
 
 -- the body is cut off
@@ -171,9 +170,9 @@ fed_cut_off p waits seen asked h owes fails =
     (framed p waits seen [] cut h (subst (Fails p.body cut) (sym (append-nil waits)) fails)))
 
 -- there is no head
-pub head_refused : (seen : List ℕ) (e : HeadFault) → RequestHeadFails seen (of_head e)
-    → IsRefusedAsked false (as_request (of_head e)) seen
-head_refused seen e h more = inl (inr (of_head e, refl, request_head_fails_more seen more e h), refl)
+pub head_refused : (seen : List ℕ) (e : MessageFault) → RequestHeadFails seen (as_request e)
+    → IsRefusedAsked false (as_request e) seen
+head_refused seen e h more = inl (inr (request_head_fails_more seen more e h), refl)
 
 -- the head breaks a rule
 pub rule_refused : (seen after : List ℕ) (head : RequestHead) (e : RequestFault)
@@ -190,11 +189,11 @@ rule_refused seen after head e reads broken more = inl (
 
 -- the head is cut off
 pub head_cut_off : (seen : List ℕ) → RequestHeadIsCut seen → FailsAsked false seen fault.Closed
-head_cut_off seen h = inl (inr (read.Closed, refl, h), refl)
+head_cut_off seen h = inl (inr h, refl)
 
 -- of memory nothing is said
 no_memory : (input : List ℕ) → FailsAsked false input fault.OutOfMemory
-no_memory input = inl (inr (read.OutOfMemory, refl, tt), refl)
+no_memory input = inl (inr tt, refl)
 
 pub memory_refused : (s : RequestStage) (waits seen : List ℕ) → IsFedStage s waits seen
     → IsRefusedAsked (was_asked s) fault.OutOfMemory seen

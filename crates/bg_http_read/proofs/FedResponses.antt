@@ -1,5 +1,5 @@
 -- What a response's parser answers, by what it was fed.
-use Rattle.std.proofs.Common.{◌≡◌, ◌⊎◌, Bool, true, false, ℕ, ◌==◌, ◌≤◌, List, [], ◌++◌, length, refl, ap, sym, ◌∙◌, arith, subst, inl, inr, Option, Some, None, Result, Ok, Err, IfNone, IfSome, IsErrAnd}
+use Rattle.std.proofs.Common.{◌≡◌, ◌⊎◌, Bool, true, false, ℕ, ◌==◌, ◌≤◌, List, [], ◌++◌, length, refl, ap, sym, ◌∙◌, arith, subst, inl, inr, Option, Some, None, Result, Ok, Err, IfNone, IfOk, IfSome, IsErrAnd}
 use Rattle.std.proofs.lemmas.List.{append-nil}
 use Rattle.bg_http.specs.declared.request.Request.{Request}
 use Rattle.bg_http.specs.declared.response.Response.{Response}
@@ -9,17 +9,17 @@ use Rattle.bg_http.specs.declared.response_fault.ResponseFault.TheVariants as fa
 use Rattle.bg_http.specs.declared.response_rules.ResponseFraming.{ResponseFraming}
 use Rattle.bg_http.specs.declared.response_rules.ResponseFraming.TheVariants as framing
 use Rattle.bg_http_read.specs.Bodies.{Follows, KeepsLimit, Reads, Fails, Refuses, can_end, is_whole}
-use Rattle.bg_http_read.specs.BodiesRead.{read_fault}
 use Rattle.bg_http_read.specs.BodyFaults.{Failure, malformed, large, cut}
 use Rattle.bg_http_read.specs.Responses.{AfterInterim, IsFinalHead, SkipsInterim, FramedResponseBodyFails, ReadsResponse, ReadsResponseBody, ResponseBodyFails, ResponseFails, length_of_response, most_response_body, no_body}
 use Rattle.bg_http_read.specs.ResponsesFed.{Advances, AdvancesTo, AwaitsHead, IsSeen, Starts, stage_seen, HasParts, IsFed, IsFedBody, IsFedStage, IsOpen, IsOpenStage, StartsBody, WantsBody, WantsStage, first_stage, most_of}
-use Rattle.bg_http_read.specs.ResponseStates.{LacksResponse, GoesToTheEnd, IsRead, IsRefused, NeedsMore}
+use Rattle.bg_http_read.specs.ResponseStates.{LacksResponse, GoesToTheEnd, IsRead, IsRefused, NeedsMore, ResponseState, asks_more}
 use Rattle.bg_http_read.specs.Streams.{waiting}
 use Rattle.bg_http_read.specs.declared.body.Body.{Body}
 use Rattle.bg_http_read.specs.declared.body.Stage.{Stage}
 use Rattle.bg_http_read.specs.declared.body.Stage.TheVariants as stage
-use Rattle.bg_http_read.specs.declared.body_fault.BodyFault.{BodyFault}
-use Rattle.bg_http_read.specs.declared.body_fault.BodyFault.TheVariants as body_fault
+use Rattle.bg_http_read.specs.MessageFaults.{as_response}
+use Rattle.bg_http_read.specs.declared.message_fault.MessageFault.{MessageFault}
+use Rattle.bg_http_read.specs.declared.message_fault.MessageFault.TheVariants as message_fault
 use Rattle.bg_http_read.specs.declared.response_body.ResponseBody.{ResponseBody}
 use Rattle.bg_http_read.specs.declared.response_feed.ResponseFeed.{ResponseFeed}
 use Rattle.bg_http_read.specs.declared.response_progress.Advance.{Advance}
@@ -30,6 +30,7 @@ use Rattle.httparse.specs.Grammar.{HasNoResponse}
 use Rattle.bg_http_read.proofs.HeadsOver.{after_bytes-append, no_response_yet}
 use Rattle.bg_http_read.proofs.InterimOrder.{IsInterim, in_order, final_or_interim}
 use Rattle.bg_http_read.proofs.ResponseOrFault.{response_or_fault}
+use Rattle.bg_http_read.proofs.States.{response_state, same_response}
 use Rattle.bg_http_read.specs.declared.response_progress.ResponseStage.{ResponseStage}
 use Rattle.bg_http_read.specs.declared.response_progress.ResponseStage.TheVariants as part
 use Rattle.bg_http_read.proofs.BodyLoop.{end_reads, follows_behind, follows_both, follows_itself, whole_reads}
@@ -171,16 +172,17 @@ framed request p waits seen more failure h fails =
     framed_fails p.framing h.start h.starts failure (h.after ++ more)
     (h.follows.fails failure more fails)
 
-pub fed_refused : (request : Request) (p : ResponseBody) (waits seen : List ℕ) (e : BodyFault)
+pub fed_refused : (request : Request) (p : ResponseBody) (waits seen : List ℕ) (e : MessageFault)
     → IsFedBody request p waits seen → Refuses p.body waits e
-    → IsRefused request (read_fault e) seen
-fed_refused request p waits seen body_fault.Bad h refused more =
+    → IsRefused request (as_response e) seen
+fed_refused request p waits seen message_fault.Bad h refused more =
     fed_fails request p waits seen more fault.Bad h
     (framed request p waits seen more malformed h (refused more))
-fed_refused request p waits seen body_fault.TooLarge h refused more =
+fed_refused request p waits seen message_fault.HeadTooLarge h refused more = absurd refused
+fed_refused request p waits seen message_fault.TooLarge h refused more =
     fed_fails request p waits seen more fault.TooLarge h
     (framed request p waits seen more large h (refused more))
-fed_refused request p waits seen body_fault.OutOfMemory h refused more =
+fed_refused request p waits seen message_fault.OutOfMemory h refused more =
     memory_refuses request seen more
 
 -- the body is cut off
@@ -374,3 +376,18 @@ pub read_here : (request : Request) (response : Response) (seen : List ℕ)
     → IsRead request response seen → ReadsResponse request response seen
 read_here request response seen h =
     subst (ReadsResponse request response) (append-nil seen) (h [])
+
+-- where more is needed, only more bytes came
+pub fed_more : (state : ResponseState) (seen came : List ℕ)
+    (r : Result (Option Response) ResponseFault) (feed : ResponseFeed) (is_open : Bool)
+    → came ≡ seen → is_open ≡ asks_more r → state.is_open ≡ true
+    → IfOk r (λ found. IfNone found (IsFed feed state.request seen × NeedsMore state.request seen))
+    → IfOk r (λ found. IfNone found
+    ((response_state feed.progress.request.now came is_open ≡ record state { seen = seen })
+    × NeedsMore state.request seen))
+fed_more state seen came (Ok None) feed is_open same goes was h = (
+  same_response feed.progress.request.now state.request came seen is_open state.is_open h.0.request_is same (goes ∙ sym was),
+  h.1,
+)
+fed_more state seen came (Ok (Some response)) feed is_open same goes was h = tt
+fed_more state seen came (Err e) feed is_open same goes was h = tt

@@ -7,11 +7,12 @@ use Rattle.bg_http.specs.declared.response_fault.ResponseFault.{ResponseFault}
 use Rattle.bg_http.specs.declared.response_fault.ResponseFault.TheVariants as fault
 use Rattle.bg_http.specs.declared.response_rules.ResponseFraming.{ResponseFraming}
 use Rattle.bg_http.specs.declared.response_rules.ResponseFraming.TheVariants as framing
-use Rattle.bg_http_read.specs.HeadFaults.{ResponseHeadFails, of_head}
+use Rattle.bg_http_read.specs.HeadFaults.{ResponseHeadFails}
+use Rattle.bg_http_read.specs.MessageFaults.{as_response}
 use Rattle.bg_http_read.specs.ResponseHeads.{ReadsResponseHead}
 use Rattle.bg_http_read.specs.Responses.{AfterInterim, IsFinalHead, JudgedResponse, ResponseFails, SkipsInterim, names_another, breaks_rule, no_head, many_interim}
 use Rattle.bg_http_read.specs.ResponseStates.{IsRefused}
-use Rattle.bg_http_read.specs.declared.head_fault.HeadFault.{HeadFault}
+use Rattle.bg_http_read.specs.declared.message_fault.MessageFault.{MessageFault}
 use Rattle.bg_http_read.proofs.ResponseHeadsFound.{response_head_more, response_head_fails_more}
 
 -- a head that is judged stays so, whatever follows
@@ -72,9 +73,9 @@ rule_refuses request count input before after head e few skips reads broken more
 })
 
 -- no head can come
-pub head_refuses : (request : Request) (count : ℕ) (input before : List ℕ) (e : HeadFault)
-    → count ≤ 16 → SkipsInterim request count input before → ResponseHeadFails before (of_head e)
-    → IsRefused request (of_head e) input
+pub head_refuses : (request : Request) (count : ℕ) (input before : List ℕ) (e : MessageFault)
+    → count ≤ 16 → SkipsInterim request count input before → ResponseHeadFails before (as_response e)
+    → IsRefused request (as_response e) input
 head_refuses request count input before e few skips fails more = no_head (record {
   count = count;
   few = few;

@@ -7,13 +7,11 @@ use Rattle.bg_http.specs.declared.request_rules.Framing.{Framing}
 use Rattle.bg_http.specs.declared.request_rules.Framing.TheVariants as framing
 use Rattle.bg_http.specs.declared.request_fault.RequestFault.{RequestFault}
 use Rattle.bg_http.specs.declared.request_fault.RequestFault.TheVariants as fault
-use Rattle.bg_http.specs.declared.response_fault.ResponseFault.{ResponseFault}
-use Rattle.bg_http.specs.declared.response_fault.ResponseFault.TheVariants as read
 use Rattle.bg_http_read.specs.BodyFaults.{Failure, malformed, large, cut}
 use Rattle.bg_http_read.specs.HeadFaults.{RequestHeadFails}
 use Rattle.bg_http_read.specs.Laws.{is_of_machine, EndsInManyTrailers, EndsInWrongTarget, IsUndecided}
 use Rattle.bg_http_read.specs.RequestHeads.{RequestHeadIsMalformed, RequestHeadIsLarge, RequestHeadIsCut}
-use Rattle.bg_http_read.specs.Requests.{HeadRefused, BodyRefused, FramedBodyFails, RequestBodyFails, RequestFails, as_request}
+use Rattle.bg_http_read.specs.Requests.{HeadRefused, BodyRefused, FramedBodyFails, RequestBodyFails, RequestFails}
 use Rattle.bg_http_read.proofs.RequestOrFault.{one_request_head, head_or_fault}
 use Rattle.bg_http_read.proofs.OneFailure.{one_body_failure, one_length_failure}
 
@@ -48,31 +46,38 @@ malformed_or_cut input never (few, none, may) =
     let same = take_all 16384 input (omega (arith, few)) in
     malformed_or_begun (take 16384 input) never (subst grammar.MayBecomeRequest (sym same) may)
 
-one_head_fault : (input : List ℕ) (one other : ResponseFault) → RequestHeadFails input one
-    → RequestHeadFails input other → is_of_machine (as_request one) ≡ false
-    → is_of_machine (as_request other) ≡ false
-    → (as_request one ≡ as_request other) ⊎ EndsInWrongTarget (take 16384 input)
-one_head_fault input read.ReadFailed other h k isnt neither = of_both fault.ReadFailed refl isnt
-one_head_fault input read.TooLarge other h k isnt neither = absurd h
-one_head_fault input read.OutOfMemory other h k isnt neither = of_both fault.OutOfMemory refl isnt
-one_head_fault input read.HeadTooLarge read.ReadFailed h k isnt neither = of_both fault.ReadFailed refl neither
-one_head_fault input read.HeadTooLarge read.HeadTooLarge h k isnt neither = inl refl
-one_head_fault input read.HeadTooLarge read.Bad h k isnt neither = inr (large_or_malformed input h k)
-one_head_fault input read.HeadTooLarge read.TooLarge h k isnt neither = absurd k
-one_head_fault input read.HeadTooLarge read.Closed h k isnt neither = absurd (large_or_cut input h k)
-one_head_fault input read.HeadTooLarge read.OutOfMemory h k isnt neither = of_both fault.OutOfMemory refl neither
-one_head_fault input read.Bad read.ReadFailed h k isnt neither = of_both fault.ReadFailed refl neither
-one_head_fault input read.Bad read.HeadTooLarge h k isnt neither = inr (large_or_malformed input k h)
-one_head_fault input read.Bad read.Bad h k isnt neither = inl refl
-one_head_fault input read.Bad read.TooLarge h k isnt neither = absurd k
-one_head_fault input read.Bad read.Closed h k isnt neither = inr (malformed_or_cut input h k)
-one_head_fault input read.Bad read.OutOfMemory h k isnt neither = of_both fault.OutOfMemory refl neither
-one_head_fault input read.Closed read.ReadFailed h k isnt neither = of_both fault.ReadFailed refl neither
-one_head_fault input read.Closed read.HeadTooLarge h k isnt neither = absurd (large_or_cut input k h)
-one_head_fault input read.Closed read.Bad h k isnt neither = inr (malformed_or_cut input k h)
-one_head_fault input read.Closed read.TooLarge h k isnt neither = absurd k
-one_head_fault input read.Closed read.Closed h k isnt neither = inl refl
-one_head_fault input read.Closed read.OutOfMemory h k isnt neither = of_both fault.OutOfMemory refl neither
+one_head_fault : (input : List ℕ) (one other : RequestFault) → RequestHeadFails input one
+    → RequestHeadFails input other → is_of_machine one ≡ false → is_of_machine other ≡ false
+    → (one ≡ other) ⊎ EndsInWrongTarget (take 16384 input)
+one_head_fault input fault.ReadFailed other h k isnt neither = of_both fault.ReadFailed refl isnt
+one_head_fault input fault.OutOfMemory other h k isnt neither = of_both fault.OutOfMemory refl isnt
+one_head_fault input fault.WriteFailed other h k isnt neither = absurd h
+one_head_fault input fault.NotDone other h k isnt neither = absurd h
+one_head_fault input fault.TooLarge other h k isnt neither = absurd h
+one_head_fault input fault.HeadTooLarge fault.ReadFailed h k isnt neither = of_both fault.ReadFailed refl neither
+one_head_fault input fault.HeadTooLarge fault.WriteFailed h k isnt neither = absurd k
+one_head_fault input fault.HeadTooLarge fault.HeadTooLarge h k isnt neither = inl refl
+one_head_fault input fault.HeadTooLarge fault.Bad h k isnt neither = inr (large_or_malformed input h k)
+one_head_fault input fault.HeadTooLarge fault.Closed h k isnt neither = absurd (large_or_cut input h k)
+one_head_fault input fault.HeadTooLarge fault.NotDone h k isnt neither = absurd k
+one_head_fault input fault.HeadTooLarge fault.TooLarge h k isnt neither = absurd k
+one_head_fault input fault.HeadTooLarge fault.OutOfMemory h k isnt neither = of_both fault.OutOfMemory refl neither
+one_head_fault input fault.Bad fault.ReadFailed h k isnt neither = of_both fault.ReadFailed refl neither
+one_head_fault input fault.Bad fault.WriteFailed h k isnt neither = absurd k
+one_head_fault input fault.Bad fault.HeadTooLarge h k isnt neither = inr (large_or_malformed input k h)
+one_head_fault input fault.Bad fault.Bad h k isnt neither = inl refl
+one_head_fault input fault.Bad fault.Closed h k isnt neither = inr (malformed_or_cut input h k)
+one_head_fault input fault.Bad fault.NotDone h k isnt neither = absurd k
+one_head_fault input fault.Bad fault.TooLarge h k isnt neither = absurd k
+one_head_fault input fault.Bad fault.OutOfMemory h k isnt neither = of_both fault.OutOfMemory refl neither
+one_head_fault input fault.Closed fault.ReadFailed h k isnt neither = of_both fault.ReadFailed refl neither
+one_head_fault input fault.Closed fault.WriteFailed h k isnt neither = absurd k
+one_head_fault input fault.Closed fault.HeadTooLarge h k isnt neither = absurd (large_or_cut input k h)
+one_head_fault input fault.Closed fault.Bad h k isnt neither = inr (malformed_or_cut input k h)
+one_head_fault input fault.Closed fault.Closed h k isnt neither = inl refl
+one_head_fault input fault.Closed fault.NotDone h k isnt neither = absurd k
+one_head_fault input fault.Closed fault.TooLarge h k isnt neither = absurd k
+one_head_fault input fault.Closed fault.OutOfMemory h k isnt neither = of_both fault.OutOfMemory refl neither
 
 one_framed_failure : (named : Framing) (one other : Failure) (input : List ℕ)
     → FramedBodyFails one named input → FramedBodyFails other named input
@@ -124,16 +129,16 @@ one_refused input one other (inl h) (inl k) isnt neither =
     let both : Err one ≡ Err other =
     sym h.judged ∙ ap request_framing same.0 ∙ k.judged in
     inl cc
-one_refused input one other (inl h) (inr (of, is, fails)) isnt neither =
-    of_both other (ap is_of_machine is ∙ head_or_fault input h.head h.after of h.reads fails) neither
-one_refused input one other (inr (of, is, fails)) (inl k) isnt neither =
-    of_both one (ap is_of_machine is ∙ head_or_fault input k.head k.after of k.reads fails) isnt
-one_refused input one other (inr (of, is, fails)) (inr (next, same, lacks)) isnt neither =
-    by_head (one_head_fault input of next fails lacks (sym (ap is_of_machine is) ∙ isnt) (sym (ap is_of_machine same) ∙ neither))
+one_refused input one other (inl h) (inr fails) isnt neither =
+    of_both other (head_or_fault input h.head h.after other h.reads fails) neither
+one_refused input one other (inr fails) (inl k) isnt neither =
+    of_both one (head_or_fault input k.head k.after one k.reads fails) isnt
+one_refused input one other (inr fails) (inr lacks) isnt neither =
+    by_head (one_head_fault input one other fails lacks isnt neither)
   where
-    by_head : (as_request of ≡ as_request next) ⊎ EndsInWrongTarget (take 16384 input)
+    by_head : (one ≡ other) ⊎ EndsInWrongTarget (take 16384 input)
         → (one ≡ other) ⊎ IsUndecided input
-    by_head (inl e) = inl (is ∙ e ∙ sym same)
+    by_head (inl e) = inl e
     by_head (inr ends) = inr (inl ends)
 
 -- a head isn't refused where its body is
@@ -144,8 +149,8 @@ refused_or_body input one other (inl h) k isnt =
     let both : Err one ≡ Ok k.framing =
     sym h.judged ∙ ap request_framing same.0 ∙ k.begins.judged in
     cc
-refused_or_body input one other (inr (of, is, fails)) k isnt =
-    of_both one (ap is_of_machine is ∙ head_or_fault input k.head k.after of k.begins.reads fails) isnt
+refused_or_body input one other (inr fails) k isnt =
+    of_both one (head_or_fault input k.head k.after one k.begins.reads fails) isnt
 
 bodies : (input : List ℕ) (one other : RequestFault) → BodyRefused input one
     → BodyRefused input other → is_of_machine one ≡ false → is_of_machine other ≡ false

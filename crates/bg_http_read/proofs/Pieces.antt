@@ -2,7 +2,7 @@
 use Rattle.std.proofs.Common.{◌≡◌, ℕ, List, [], ◌++◌, sym, ◌∙◌, ap, append_assoc, subst, Option, Some, None, IfSome, IfOk, IfErr, Result, Ok, Err, refl}
 use Rattle.std.proofs.lemmas.List.{append-nil}
 use Rattle.std.specs.Io.KnownBytes.{Consumes, IsAtEnd, Keeps}
-use Rattle.bg_http_read.specs.BodiesRead.{Leaves}
+use Rattle.bg_http_read.specs.Streams.{Leaves}
 
 -- of the input these bytes came, and then comes the rest
 abbrev pub Came : List ℕ → List ℕ → List ℕ → Type 0

@@ -11,9 +11,10 @@ use Rattle.httparse.specs.declared.spans.RequestSpans.{RequestSpans}
 use Rattle.httparse.proofs.GrammarLemmas.{ReadsRequest-append}
 use Rattle.bg_http.specs.declared.request.RequestHead.{RequestHead}
 use Rattle.bg_http_read.specs.RequestHeads.{ReadsRequestHead, RequestHeadIsMalformed, RequestHeadIsLarge, RequestHeadIsCut}
-use Rattle.bg_http_read.specs.HeadFaults.{RequestHeadFails, of_head}
-use Rattle.bg_http_read.specs.declared.head_fault.HeadFault.{HeadFault}
-use Rattle.bg_http_read.specs.declared.head_fault.HeadFault.TheVariants as head_fault
+use Rattle.bg_http_read.specs.HeadFaults.{RequestHeadFails}
+use Rattle.bg_http_read.specs.MessageFaults.{as_request}
+use Rattle.bg_http_read.specs.declared.message_fault.MessageFault.{MessageFault}
+use Rattle.bg_http_read.specs.declared.message_fault.MessageFault.TheVariants as message_fault
 use Rattle.bg_http_read.proofs.Fronts.{front_is, front_grows}
 use Rattle.bg_http_read.proofs.HeadLengths.{request_long}
 
@@ -119,12 +120,12 @@ open_request_head bytes m e few h =
     (few, subst grammar.HasNoRequest same h.0, subst grammar.MayBecomeRequest same h.1)
 
 -- a head that fails does so whatever follows
-pub request_head_fails_more : (buf more : List ℕ) (e : HeadFault) → RequestHeadFails buf (of_head e)
-    → RequestHeadFails (buf ++ more) (of_head e)
-request_head_fails_more buf more head_fault.Bad h =
+pub request_head_fails_more : (buf more : List ℕ) (e : MessageFault) → RequestHeadFails buf (as_request e)
+    → RequestHeadFails (buf ++ more) (as_request e)
+request_head_fails_more buf more message_fault.Bad h =
     let front = front_grows buf more 16384 in
     subst grammar.NeverHasRequest (sym front.1) (λ later. rw append_assoc (h (front.0 ++ later)))
-request_head_fails_more buf more head_fault.TooLarge (inl (tree, rest, reads, many)) =
+request_head_fails_more buf more message_fault.HeadTooLarge (inl (tree, rest, reads, many)) =
     let front = front_grows buf more 16384 in
     inl (
       tree,
@@ -133,14 +134,15 @@ request_head_fails_more buf more head_fault.TooLarge (inl (tree, rest, reads, ma
           (ReadsRequest-append (take 16384 buf) tree rest front.0 reads),
       many,
     )
-request_head_fails_more buf more head_fault.TooLarge (inr (full, none, may)) =
+request_head_fails_more buf more message_fault.HeadTooLarge (inr (full, none, may)) =
     let same = sym (take-append-le 16384 buf more full) in
     inr (
       omega (arith, full, length-append buf more),
       subst grammar.HasNoRequest same none,
       subst grammar.MayBecomeRequest same may,
     )
-request_head_fails_more buf more head_fault.OutOfMemory h = tt
+request_head_fails_more buf more message_fault.TooLarge h = h
+request_head_fails_more buf more message_fault.OutOfMemory h = tt
 
 -- a head of the first bytes is one of all
 pub front_request_head : (bytes : List ℕ) (m n : ℕ) (head : RequestHead) → n ≤ length (take m bytes)

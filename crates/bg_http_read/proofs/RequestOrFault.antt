@@ -10,13 +10,11 @@ use Rattle.bg_http.specs.declared.request_rules.Framing.{Framing}
 use Rattle.bg_http.specs.declared.request_rules.Framing.TheVariants as framing
 use Rattle.bg_http.specs.declared.request_fault.RequestFault.{RequestFault}
 use Rattle.bg_http.specs.declared.request_fault.RequestFault.TheVariants as fault
-use Rattle.bg_http.specs.declared.response_fault.ResponseFault.{ResponseFault}
-use Rattle.bg_http.specs.declared.response_fault.ResponseFault.TheVariants as read
 use Rattle.bg_http_read.specs.BodyFaults.{Failure, malformed, large, cut}
 use Rattle.bg_http_read.specs.HeadFaults.{RequestHeadFails}
 use Rattle.bg_http_read.specs.Laws.{is_of_machine}
 use Rattle.bg_http_read.specs.RequestHeads.{request_parts, ReadsRequestHead}
-use Rattle.bg_http_read.specs.Requests.{ReadsRequest, ReadsRequestBody, FramedBodyFails, RequestBodyFails, RequestFails, as_request}
+use Rattle.bg_http_read.specs.Requests.{ReadsRequest, ReadsRequestBody, FramedBodyFails, RequestBodyFails, RequestFails}
 use Rattle.bg_http_read.proofs.BodyOrFault.{text_in_front, body_or_fault, length_or_fault}
 
 -- two heads at one front are one
@@ -34,27 +32,29 @@ head_in_front input head after h =
     let text = grammar.print_request h.tree in
     (h.reads.0, text_in_front 16384 input text after h.reads.1 h.size)
 
-pub head_or_fault : (input : List ℕ) (head : RequestHead) (after : List ℕ) (e : ResponseFault)
+pub head_or_fault : (input : List ℕ) (head : RequestHead) (after : List ℕ) (e : RequestFault)
     → ReadsRequestHead input head after → RequestHeadFails input e
-    → is_of_machine (as_request e) ≡ true
-head_or_fault input head after read.ReadFailed h f = refl
-head_or_fault input head after read.HeadTooLarge h (inl (tree, rest, reads, many)) =
+    → is_of_machine e ≡ true
+head_or_fault input head after fault.ReadFailed h f = refl
+head_or_fault input head after fault.WriteFailed h f = absurd f
+head_or_fault input head after fault.HeadTooLarge h (inl (tree, rest, reads, many)) =
     let front = head_in_front input head after h in
     let same = request_unique (take 16384 input) tree h.tree rest
     (drop (length (grammar.print_request h.tree)) (take 16384 input)) reads front in
     let count = ap (λ t. length t.fields) same.0 in
     let few = h.count in
     absurd (omega (arith, count, few, many))
-head_or_fault input head after read.HeadTooLarge h (inr (full, none, may)) =
+head_or_fault input head after fault.HeadTooLarge h (inr (full, none, may)) =
     absurd (none h.tree (drop (length (grammar.print_request h.tree)) (take 16384 input))
     (head_in_front input head after h))
-head_or_fault input head after read.Bad h never =
+head_or_fault input head after fault.Bad h never =
     let front = head_in_front input head after h in
     absurd (never [] h.tree (drop (length (grammar.print_request h.tree)) (take 16384 input))
     (front.0, append-nil (take 16384 input) ∙ front.1))
-head_or_fault input head after read.TooLarge h f = absurd f
-head_or_fault input head after read.Closed h (few, none, may) = absurd (none h.tree after h.reads)
-head_or_fault input head after read.OutOfMemory h f = refl
+head_or_fault input head after fault.Closed h (few, none, may) = absurd (none h.tree after h.reads)
+head_or_fault input head after fault.NotDone h f = absurd f
+head_or_fault input head after fault.TooLarge h f = absurd f
+head_or_fault input head after fault.OutOfMemory h f = refl
 
 framed_or_fault : (named : Framing) (failure : Failure) (input : List ℕ) (body : Option (List ℕ))
     (rest : List ℕ) → ReadsRequestBody named input body rest → FramedBodyFails failure named input
@@ -87,8 +87,8 @@ request_or_fault input rest request e h (inl (inl broken)) =
     let both : Ok h.framing ≡ Err e =
     sym h.begins.judged ∙ ap request_framing same.0 ∙ broken.judged in
     cc
-request_or_fault input rest request e h (inl (inr (of, is, fails))) =
-    ap is_of_machine is ∙ head_or_fault input h.head h.after of h.begins.reads fails
+request_or_fault input rest request e h (inl (inr fails)) =
+    head_or_fault input h.head h.after e h.begins.reads fails
 request_or_fault input rest request e h (inr (inl f)) =
     let same = one_request_head input h.head f.head h.after f.after h.begins.reads f.begins.reads in
     let both : Ok h.framing ≡ Ok f.framing =

@@ -7,8 +7,7 @@ use Rattle.bg_http.specs.RequestRules.{owes_continue}
 use Rattle.bg_http.specs.declared.request.Request.{Request}
 use Rattle.bg_http.specs.declared.request_fault.RequestFault.{RequestFault}
 use Rattle.bg_http.specs.declared.request_fault.RequestFault.TheVariants as fault
-use Rattle.bg_http.specs.declared.response_fault.ResponseFault.TheVariants as read
-use Rattle.bg_http_read.specs.BodiesRead.{Leaves}
+use Rattle.bg_http_read.specs.Streams.{Leaves}
 use Rattle.bg_http_read.specs.Requests.{AfterHead, AnswersHead, HeadRefused, JudgedHead, ReadsRequest, RequestFails, WritesContinue, WroteFor, WroteOnFault}
 use Rattle.bg_http_read.specs.RequestPieces.{OwesIf, PieceTo}
 use Rattle.bg_http_read.specs.RequestStates.{FailsAsked, IsReadAsked, IsRefusedAsked, OwesContinue, ReadsAsked, RequestState}
@@ -84,7 +83,7 @@ fault_of asked (Some i) e h = fails_at_all asked i e h
 -- where reading failed, nothing is said of the input
 pub no_reading : (input : Option (List ℕ)) → IfSome input (λ i. RequestFails i fault.ReadFailed)
 no_reading None = tt
-no_reading (Some i) = inl (inr (read.ReadFailed, refl, tt))
+no_reading (Some i) = inl (inr tt)
 
 pub wrote_reading : (asked : Bool) (seen : List ℕ) (first left old new : Option (List ℕ))
     → Leaves (Came seen) first left → OwesIf asked seen → WritesContinue asked old new
@@ -93,7 +92,7 @@ wrote_reading false seen first left old new came owed wrote = inl (wrote, unsaid
   where
     unsaid : (first : Option (List ℕ)) → IfSome first (λ i. HeadRefused i fault.ReadFailed)
     unsaid None = tt
-    unsaid (Some i) = inr (read.ReadFailed, refl, tt)
+    unsaid (Some i) = inr tt
 wrote_reading true seen first left old new came owed wrote =
     let at = owed refl [] in
     inr (record {

@@ -1,9 +1,9 @@
 -- The steps of a request's parser.
-use Rattle.std.proofs.Common.{◌≡◌, Bool, true, false, List, ℕ, [], refl, subst, sym, Result, Ok, Err, IsErrAnd, IfErr, IfOk}
+use Rattle.std.proofs.Common.{◌≡◌, Bool, true, false, List, ℕ, [], refl, subst, sym, ◌∙◌, Result, Ok, Err, IsErrAnd, IfErr, IfOk}
 use Rattle.std.proofs.lemmas.List.{append-nil}
 use Rattle.bg_http.specs.declared.request.Request.{Request}
 use Rattle.bg_http.specs.declared.request_fault.RequestFault.{RequestFault}
-use Rattle.bg_http_read.specs.RequestStates.{FailsAsked, IsReadAsked, IsRefusedAsked, ReadsAsked, is_whole}
+use Rattle.bg_http_read.specs.RequestStates.{FailsAsked, IfWhole, IsReadAsked, IsRefusedAsked, LacksRequest, OnMore, ReadsAsked, RequestState, goes_on, is_whole}
 use Rattle.bg_http_read.specs.RequestsFed.{AdvancesTo, EndsTo, FedTo, IsAt, is_head, was_asked}
 use Rattle.bg_http_read.specs.Streams.{waiting}
 use Rattle.bg_http_read.specs.declared.request_feed.RequestFeed.{RequestFeed}
@@ -12,6 +12,7 @@ use Rattle.bg_http_read.specs.declared.request_progress.RequestStage.TheVariants
 use Rattle.bg_http_read.specs.declared.request_step.RequestStep.{RequestStep}
 use Rattle.bg_http_read.specs.declared.request_step.RequestStep.TheVariants as step
 use Rattle.bg_http_read.proofs.FedRequests.{cut_off_lacks}
+use Rattle.bg_http_read.proofs.States.{request_state, same_request}
 
 -- a fault that is known is what is answered
 pub fed_err : (asked : Bool) (seen : List ℕ) (r : Result RequestStep RequestFault)
@@ -82,3 +83,27 @@ pub ends_refused : (asked : Bool) (seen : List ℕ) (r : Result Request RequestF
     → EndsTo asked seen r → IfErr r (FailsAsked asked seen)
 ends_refused asked seen (Ok request) h = tt
 ends_refused asked seen (Err e) h = h
+
+-- a request that is whole is read
+pub fed_whole : (asked : Bool) (seen : List ℕ) (r : Result RequestStep RequestFault)
+    (feed : RequestFeed) → FedTo asked seen r feed
+    → IfOk r (λ at. IfWhole at (λ request. IsReadAsked asked request seen))
+fed_whole asked seen (Ok step.More) feed h = tt
+fed_whole asked seen (Ok step.Continue) feed h = tt
+fed_whole asked seen (Ok (step.Whole request)) feed h = h
+fed_whole asked seen (Err e) feed h = tt
+
+-- where more is needed, only more bytes came
+pub fed_more : (state : RequestState) (seen came : List ℕ) (r : Result RequestStep RequestFault)
+    (feed : RequestFeed) (is_open : Bool) → came ≡ seen → is_open ≡ goes_on r
+    → state.is_open ≡ true → FedTo state.asked seen r feed
+    → IfOk r (λ at. OnMore at
+    ((request_state came (was_asked feed.progress.stage) is_open ≡ record state { seen = seen })
+    × LacksRequest seen))
+fed_more state seen came (Ok step.More) feed is_open same goes was h = (
+  same_request came seen (was_asked feed.progress.stage) state.asked is_open state.is_open same h.2 (goes ∙ sym was),
+  h.0,
+)
+fed_more state seen came (Ok step.Continue) feed is_open same goes was h = tt
+fed_more state seen came (Ok (step.Whole request)) feed is_open same goes was h = tt
+fed_more state seen came (Err e) feed is_open same goes was h = tt

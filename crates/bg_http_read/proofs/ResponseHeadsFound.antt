@@ -11,9 +11,10 @@ use Rattle.httparse.specs.declared.spans.ResponseSpans.{ResponseSpans}
 use Rattle.httparse.proofs.GrammarLemmas.{ReadsResponse-append}
 use Rattle.bg_http.specs.declared.response.ResponseHead.{ResponseHead}
 use Rattle.bg_http_read.specs.ResponseHeads.{ReadsResponseHead, ResponseHeadIsMalformed, ResponseHeadIsLarge, ResponseHeadIsCut}
-use Rattle.bg_http_read.specs.HeadFaults.{ResponseHeadFails, of_head}
-use Rattle.bg_http_read.specs.declared.head_fault.HeadFault.{HeadFault}
-use Rattle.bg_http_read.specs.declared.head_fault.HeadFault.TheVariants as head_fault
+use Rattle.bg_http_read.specs.HeadFaults.{ResponseHeadFails}
+use Rattle.bg_http_read.specs.MessageFaults.{as_response}
+use Rattle.bg_http_read.specs.declared.message_fault.MessageFault.{MessageFault}
+use Rattle.bg_http_read.specs.declared.message_fault.MessageFault.TheVariants as message_fault
 use Rattle.bg_http_read.proofs.Fronts.{front_is, front_grows}
 use Rattle.bg_http_read.proofs.HeadLengths.{response_long}
 
@@ -118,12 +119,12 @@ open_response_head bytes m e few h =
     (few, subst grammar.HasNoResponse same h.0, subst grammar.MayBecomeResponse same h.1)
 
 -- a head that fails does so whatever follows
-pub response_head_fails_more : (buf more : List ℕ) (e : HeadFault) → ResponseHeadFails buf (of_head e)
-    → ResponseHeadFails (buf ++ more) (of_head e)
-response_head_fails_more buf more head_fault.Bad h =
+pub response_head_fails_more : (buf more : List ℕ) (e : MessageFault) → ResponseHeadFails buf (as_response e)
+    → ResponseHeadFails (buf ++ more) (as_response e)
+response_head_fails_more buf more message_fault.Bad h =
     let front = front_grows buf more 16384 in
     subst grammar.NeverHasResponse (sym front.1) (λ later. rw append_assoc (h (front.0 ++ later)))
-response_head_fails_more buf more head_fault.TooLarge (inl (tree, rest, reads, many)) =
+response_head_fails_more buf more message_fault.HeadTooLarge (inl (tree, rest, reads, many)) =
     let front = front_grows buf more 16384 in
     inl (
       tree,
@@ -132,14 +133,15 @@ response_head_fails_more buf more head_fault.TooLarge (inl (tree, rest, reads, m
           (ReadsResponse-append (take 16384 buf) tree rest front.0 reads),
       many,
     )
-response_head_fails_more buf more head_fault.TooLarge (inr (full, none, may)) =
+response_head_fails_more buf more message_fault.HeadTooLarge (inr (full, none, may)) =
     let same = sym (take-append-le 16384 buf more full) in
     inr (
       omega (arith, full, length-append buf more),
       subst grammar.HasNoResponse same none,
       subst grammar.MayBecomeResponse same may,
     )
-response_head_fails_more buf more head_fault.OutOfMemory h = tt
+response_head_fails_more buf more message_fault.TooLarge h = h
+response_head_fails_more buf more message_fault.OutOfMemory h = tt
 
 -- a head of the first bytes is one of all
 pub front_response_head : (bytes : List ℕ) (m n : ℕ) (head : ResponseHead) → n ≤ length (take m bytes)

@@ -5,7 +5,7 @@ use Rattle.bg_http.specs.declared.request.Request.{Request}
 use Rattle.bg_http_read.specs.RequestStates.{RequestState}
 use Rattle.bg_http_read.specs.ResponseStates.{ResponseState}
 
-abbrev response_state : Request → List ℕ → Bool → ResponseState
+abbrev pub response_state : Request → List ℕ → Bool → ResponseState
 response_state request seen is_open =
     record { request = request; seen = seen; is_open = is_open }
 
@@ -14,7 +14,7 @@ pub same_response : (request asked : Request) (seen came : List ℕ) (is_open wa
     → response_state request seen is_open ≡ response_state asked came was
 same_response request asked seen came is_open was h k e = cc
 
-abbrev request_state : List ℕ → Bool → Bool → RequestState
+abbrev pub request_state : List ℕ → Bool → Bool → RequestState
 request_state seen asked is_open = record { seen = seen; asked = asked; is_open = is_open }
 
 pub same_request : (seen came : List ℕ) (asked owed : Bool) (is_open was : Bool) → seen ≡ came

@@ -6,8 +6,8 @@ use Rattle.bg_http_read.specs.Chunks.{ReadsChunks, ReadsTrailers}
 use Rattle.bg_http_read.specs.declared.body.Stage.{Stage}
 use Rattle.bg_http_read.specs.declared.body.Stage.TheVariants as stage
 use Rattle.bg_http_read.specs.declared.body.Body.{Body}
-use Rattle.bg_http_read.specs.declared.body_fault.BodyFault.{BodyFault}
-use Rattle.bg_http_read.specs.declared.body_fault.BodyFault.TheVariants as fault
+use Rattle.bg_http_read.specs.declared.message_fault.MessageFault.{MessageFault}
+use Rattle.bg_http_read.specs.declared.message_fault.MessageFault.TheVariants as fault
 
 -- the input begins with so many bytes, which end the body, and then comes the rest
 pub record ReadsLength (size : ℕ) (done input body rest : List ℕ) : Type 0 where
@@ -136,12 +136,13 @@ pub record Follows (one : Body) (first : List ℕ) (other : Body) (second : List
   pub ends : other.stage ≡ stage.ToTheEnd → one.stage ≡ stage.ToTheEnd
 
 -- what a fault says of bytes, whatever follows them
-abbrev pub RefusesOn : ℕ → Stage → List ℕ → List ℕ → BodyFault → Type 0
+abbrev pub RefusesOn : ℕ → Stage → List ℕ → List ℕ → MessageFault → Type 0
 RefusesOn limit before done bytes fault.Bad =
     (more : List ℕ) → FailsOn malformed limit before (length done) (bytes ++ more)
+RefusesOn limit before done bytes fault.HeadTooLarge = ⊥
 RefusesOn limit before done bytes fault.TooLarge =
     (more : List ℕ) → FailsOn large limit before (length done) (bytes ++ more)
 RefusesOn limit before done bytes fault.OutOfMemory = ⊤
 
-abbrev pub Refuses : Body → List ℕ → BodyFault → Type 0
+abbrev pub Refuses : Body → List ℕ → MessageFault → Type 0
 Refuses old bytes fault = RefusesOn old.limit old.stage old.bytes.items bytes fault

@@ -1,10 +1,10 @@
 pub mod Bodies
-pub mod BodiesRead
 pub mod BodyFaults
 pub mod Chunks
 pub mod HeadEnds
 pub mod HeadFaults
 pub mod Laws
+pub mod MessageFaults
 pub mod RequestHeads
 pub mod RequestPieces
 pub mod RequestStates

@@ -8,8 +8,6 @@ use Rattle.bg_http.specs.declared.request_rules.Framing.{Framing}
 use Rattle.bg_http.specs.declared.request_rules.Framing.TheVariants as framing
 use Rattle.bg_http.specs.declared.request_fault.RequestFault.{RequestFault}
 use Rattle.bg_http.specs.declared.request_fault.RequestFault.TheVariants as fault
-use Rattle.bg_http.specs.declared.response_fault.ResponseFault.{ResponseFault}
-use Rattle.bg_http.specs.declared.response_fault.ResponseFault.TheVariants as read
 use Rattle.bg_http_read.specs.BodyFaults.{Failure, malformed, large, cut, ChunksFail, LengthFails}
 use Rattle.bg_http_read.specs.Chunks.{ReadsChunks}
 use Rattle.bg_http_read.specs.HeadFaults.{RequestHeadFails}
@@ -53,22 +51,11 @@ pub record BreaksRule (input : List ℕ) (fault : RequestFault) : Type 0 where
   pub reads : ReadsRequestHead input head after
   pub judged : request_framing head ≡ Err fault
 
--- a fault of reading as one of a request
-abbrev pub as_request : ResponseFault → RequestFault
-as_request read.ReadFailed = fault.ReadFailed
-as_request read.HeadTooLarge = fault.HeadTooLarge
-as_request read.Bad = fault.Bad
-as_request read.TooLarge = fault.TooLarge
-as_request read.Closed = fault.Closed
-as_request read.OutOfMemory = fault.OutOfMemory
-
 -- what a fault says of an input that is to begin with a head: it begins with one that breaks a
 -- rule, with this fault of the first; or it begins with none. Of the faults of the machine nothing
 -- is said
 abbrev pub HeadRefused : List ℕ → RequestFault → Type 0
-HeadRefused input fault =
-    BreaksRule input fault
-    ⊎ ((read : ResponseFault) × (fault ≡ as_request read) × RequestHeadFails input read)
+HeadRefused input fault = BreaksRule input fault ⊎ RequestHeadFails input fault
 
 -- the input begins with a head that passes all rules, and of it and what comes after it this holds
 pub record AfterHead (input : List ℕ) (P : RequestHead → Framing → List ℕ → Type 0) : Type 0 where

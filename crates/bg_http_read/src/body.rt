@@ -5,9 +5,9 @@ ghost use Rattle.bg_http_read.specs.Bodies.{can_end, is_whole};
 ghost use Rattle.bg_http_read.specs.BodyFaults.{cut};
 ghost use Rattle.bg_http_read.specs.declared.body.Stage.TheVariants as stage;
 
-use crate::body_fault::BodyFault;
 use crate::chunk_lines::find_line;
 use crate::intake::behind;
+use crate::message_fault::MessageFault;
 use crate::trailers::find_trailers;
 use bg_http::Bytes;
 use std::alloc::{AllocError, Global};
@@ -109,7 +109,7 @@ impl Body {
 
     /// Takes all that is its own of the bytes, and says how many these are. Where it isn't whole
     /// then, it needs more than these; one that goes to the end of the input has taken them all.
-    pub(crate) fn take_from(&mut self, bytes: &[u8]) -> Result<usize, BodyFault>
+    pub(crate) fn take_from(&mut self, bytes: &[u8]) -> Result<usize, MessageFault>
         requires { KeepsLimit self.old }
         ensures fits { IfOk result (λ count. count ≤ length bytes.now) }
         ensures taken { IfOk result (λ count.
@@ -134,7 +134,7 @@ impl Body {
 
     /// Takes bytes of the front, as many as it says; none where it needs more than these, or is
     /// whole. Where memory is refused, nothing changes.
-    pub(crate) fn take(&mut self, bytes: &[u8]) -> Result<usize, BodyFault>
+    pub(crate) fn take(&mut self, bytes: &[u8]) -> Result<usize, MessageFault>
         requires { KeepsLimit self.old }
         ensures taken { IfOk result (λ count. Takes self.old self.new bytes.now count) }
         ensures refused { IfErr result (λ fault. Refuses self.old bytes.now fault) }
@@ -153,7 +153,7 @@ impl Body {
     }
 
     /// Takes what there is of a body whose length is known.
-    fn take_length(&mut self, bytes: &[u8], left: usize) -> Result<usize, BodyFault>
+    fn take_length(&mut self, bytes: &[u8], left: usize) -> Result<usize, MessageFault>
         requires stage { self.old.stage ≡ stage.Length left }
         requires within { KeepsLimit self.old }
         ensures taken { IfOk result (λ count. Takes self.old self.new bytes.now count) }
@@ -168,7 +168,7 @@ impl Body {
     }
 
     /// Takes the line of a chunk, where it is whole.
-    fn take_line(&mut self, bytes: &[u8]) -> Result<usize, BodyFault>
+    fn take_line(&mut self, bytes: &[u8]) -> Result<usize, MessageFault>
         requires stage { self.old.stage ≡ stage.Line }
         requires within { KeepsLimit self.old }
         ensures taken { IfOk result (λ count. Takes self.old self.new bytes.now count) }
@@ -178,13 +178,13 @@ impl Body {
     {
         let found = match find_line(bytes) {
             Ok(found) => found,
-            Err(_) => return Err(BodyFault::Bad),
+            Err(_) => return Err(MessageFault::Bad),
         };
         let Some((count, size)) = found else {
             return Ok(0);
         };
         if size > (self.limit - self.bytes.len()) as u64 {
-            return Err(BodyFault::TooLarge);
+            return Err(MessageFault::TooLarge);
         }
         if size == 0 {
             self.stage = Stage::Trailers;
@@ -195,7 +195,7 @@ impl Body {
     }
 
     /// Takes what there is of a chunk's data.
-    fn take_data(&mut self, bytes: &[u8], left: usize) -> Result<usize, BodyFault>
+    fn take_data(&mut self, bytes: &[u8], left: usize) -> Result<usize, MessageFault>
         requires stage { self.old.stage ≡ stage.Data left }
         requires some { 0 < left }
         requires within { KeepsLimit self.old }
@@ -211,7 +211,7 @@ impl Body {
     }
 
     /// Takes the CR LF after a chunk's data.
-    fn take_line_end(&mut self, bytes: &[u8]) -> Result<usize, BodyFault>
+    fn take_line_end(&mut self, bytes: &[u8]) -> Result<usize, MessageFault>
         requires stage { self.old.stage ≡ stage.Data 0 }
         requires within { KeepsLimit self.old }
         ensures taken { IfOk result (λ count. Takes self.old self.new bytes.now count) }
@@ -225,12 +225,12 @@ impl Body {
                 self.stage = Stage::Line;
                 Ok(2)
             }
-            _ => Err(BodyFault::Bad),
+            _ => Err(MessageFault::Bad),
         }
     }
 
     /// Takes the trailers, where they are whole.
-    fn take_trailers(&mut self, bytes: &[u8]) -> Result<usize, BodyFault>
+    fn take_trailers(&mut self, bytes: &[u8]) -> Result<usize, MessageFault>
         requires stage { self.old.stage ≡ stage.Trailers }
         requires within { KeepsLimit self.old }
         ensures taken { IfOk result (λ count. Takes self.old self.new bytes.now count) }
@@ -244,12 +244,12 @@ impl Body {
                 Ok(count)
             }
             Ok(None) => Ok(0),
-            Err(_) => Err(BodyFault::Bad),
+            Err(_) => Err(MessageFault::Bad),
         }
     }
 
     /// Takes all bytes.
-    fn take_all(&mut self, bytes: &[u8]) -> Result<usize, BodyFault>
+    fn take_all(&mut self, bytes: &[u8]) -> Result<usize, MessageFault>
         requires stage { self.old.stage ≡ stage.ToTheEnd }
         requires within { KeepsLimit self.old }
         ensures taken { IfOk result (λ count. Takes self.old self.new bytes.now count) }
@@ -258,7 +258,7 @@ impl Body {
         ensures within { KeepsLimit self.new }
     {
         if bytes.len() > self.limit - self.bytes.len() {
-            return Err(BodyFault::TooLarge);
+            return Err(MessageFault::TooLarge);
         }
         self.bytes.extend_from_slice(bytes)?;
         Ok(bytes.len())

@@ -89,6 +89,9 @@ impl Intake {
         ensures bytes { waiting self.new ≡ waiting self.old }
         ensures front { self.new.taken ≡ 0 }
     {
+        if self.taken == 0 {
+            return;
+        }
         if self.taken >= self.bytes.len() {
             self.bytes.clear();
             self.taken = 0;

@@ -3,15 +3,14 @@
 #![tactic(auto)]
 
 mod body;
-mod body_fault;
 mod chunk_lines;
 mod final_head;
 mod head_end;
-mod head_fault;
 mod head_limits;
 mod in_memory;
 mod intake;
 pub mod laws;
+mod message_fault;
 mod one_way;
 mod request_body;
 mod request_feed;

@@ -3,11 +3,12 @@ ghost use Rattle.std.specs.Prelude.{◌≤◌, IfOk, IfErr, IfSome, IfNone, OnEr
 ghost use Rattle.httparse.specs.Grammar.{HasNoRequest, MayBecomeRequest, NeverHasRequest};
 ghost use Rattle.httparse.specs.Outcome.{IfComplete, OnPartial};
 ghost use Rattle.httparse.specs.Spans.{IsRequestOf, IsRequestWithin};
-ghost use Rattle.bg_http_read.specs.HeadFaults.{RequestHeadFails, of_head};
+ghost use Rattle.bg_http_read.specs.HeadFaults.{RequestHeadFails};
+ghost use Rattle.bg_http_read.specs.MessageFaults.{as_request};
 ghost use Rattle.bg_http_read.specs.RequestHeads.{ReadsRequestHead, RequestHeadIsCut};
 
-use crate::head_fault::HeadFault;
 use crate::head_limits::{MOST_FIELDS, MOST_HEAD, ROOM, copy_fields};
+use crate::message_fault::MessageFault;
 use bg_http::{Bytes, RequestHead};
 use httparse::spans::{EMPTY_HEADER_SPAN, HeaderSpan, RequestSpans, parse_request};
 use httparse::{Error, Status};
@@ -20,7 +21,7 @@ fn request_head_of(
     bytes: &[u8],
     room: &[HeaderSpan],
     parsed: httparse::Result<RequestSpans>,
-) -> Result<Option<(RequestHead, usize)>, HeadFault>
+) -> Result<Option<(RequestHead, usize)>, MessageFault>
     requires size { length bytes.now ≤ MOST_HEAD }
     requires spans { IfComplete parsed (IsRequestWithin bytes.now room.now) }
     requires complete { IfComplete parsed (IsRequestOf bytes.now room.now) }
@@ -32,12 +33,12 @@ fn request_head_of(
         ReadsRequestHead bytes.now at.0 (drop at.1 bytes.now))) }
     ensures none_yet { IfOk result (λ found. IfNone found (
         HasNoRequest bytes.now × MayBecomeRequest bytes.now)) }
-    ensures none { IfErr result (λ fault. RequestHeadFails bytes.now (of_head fault)) }
+    ensures none { IfErr result (λ fault. RequestHeadFails bytes.now (as_request fault)) }
 {
     match parsed {
         Ok(Status::Complete(spans)) => {
             if spans.headers > MOST_FIELDS {
-                return Err(HeadFault::TooLarge);
+                return Err(MessageFault::HeadTooLarge);
             }
             let fields = copy_fields(alloc, bytes, &room[..spans.headers])?;
             let method = Bytes::new(alloc, spans.method.of(bytes))?;
@@ -51,7 +52,7 @@ fn request_head_of(
             Ok(Some((head, spans.len)))
         }
         Ok(Status::Partial) => Ok(None),
-        Err(_) => Err(HeadFault::Bad),
+        Err(_) => Err(MessageFault::Bad),
     }
 }
 
@@ -60,14 +61,14 @@ fn request_head_of(
 fn parse_crowded_request_head(
     alloc: Global,
     bytes: &[u8],
-) -> Result<Option<(RequestHead, usize)>, HeadFault>
+) -> Result<Option<(RequestHead, usize)>, MessageFault>
     requires { length bytes.now ≤ MOST_HEAD }
     ensures within { IfOk result (λ found. IfSome found (λ at. at.1 ≤ length bytes.now)) }
     ensures head { IfOk result (λ found. IfSome found (λ at.
         ReadsRequestHead bytes.now at.0 (drop at.1 bytes.now))) }
     ensures none_yet { IfOk result (λ found. IfNone found (
         HasNoRequest bytes.now × MayBecomeRequest bytes.now)) }
-    ensures none { IfErr result (λ fault. RequestHeadFails bytes.now (of_head fault)) }
+    ensures none { IfErr result (λ fault. RequestHeadFails bytes.now (as_request fault)) }
 {
     let mut room = vec![in alloc; EMPTY_HEADER_SPAN; ROOM]?;
     let spans = room.as_mut_slice();
@@ -80,14 +81,14 @@ fn parse_crowded_request_head(
 fn parse_request_head(
     alloc: Global,
     bytes: &[u8],
-) -> Result<Option<(RequestHead, usize)>, HeadFault>
+) -> Result<Option<(RequestHead, usize)>, MessageFault>
     requires { length bytes.now ≤ MOST_HEAD }
     ensures within { IfOk result (λ found. IfSome found (λ at. at.1 ≤ length bytes.now)) }
     ensures head { IfOk result (λ found. IfSome found (λ at.
         ReadsRequestHead bytes.now at.0 (drop at.1 bytes.now))) }
     ensures none_yet { IfOk result (λ found. IfNone found (
         HasNoRequest bytes.now × MayBecomeRequest bytes.now)) }
-    ensures none { IfErr result (λ fault. RequestHeadFails bytes.now (of_head fault)) }
+    ensures none { IfErr result (λ fault. RequestHeadFails bytes.now (as_request fault)) }
 {
     let mut room = [EMPTY_HEADER_SPAN; MOST_FIELDS];
     match parse_request(bytes, &mut room) {
@@ -101,12 +102,12 @@ fn parse_request_head(
 pub(crate) fn find_request_head(
     alloc: Global,
     bytes: &[u8],
-) -> Result<Option<(RequestHead, usize)>, HeadFault>
+) -> Result<Option<(RequestHead, usize)>, MessageFault>
     ensures within { IfOk result (λ found. IfSome found (λ at. at.1 ≤ length bytes.now)) }
     ensures head { IfOk result (λ found. IfSome found (λ at.
         ReadsRequestHead bytes.now at.0 (drop at.1 bytes.now))) }
     ensures none_yet { IfOk result (λ found. IfNone found (RequestHeadIsCut bytes.now)) }
-    ensures none { IfErr result (λ fault. RequestHeadFails bytes.now (of_head fault)) }
+    ensures none { IfErr result (λ fault. RequestHeadFails bytes.now (as_request fault)) }
 {
     let front = &bytes[..bytes.len().min(MOST_HEAD)];
     match parse_request_head(alloc, front) {
@@ -114,7 +115,7 @@ pub(crate) fn find_request_head(
             if bytes.len() < MOST_HEAD {
                 return Ok(None);
             }
-            Err(HeadFault::TooLarge)
+            Err(MessageFault::HeadTooLarge)
         }
         Ok(Some(found)) => Ok(Some(found)),
         Err(fault) => Err(fault),

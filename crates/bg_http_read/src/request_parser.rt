@@ -21,6 +21,16 @@ pub struct RequestParser {
     is_open: bool,
 }
 
+/// Whether neither a request nor a fault was given.
+fn goes_on(answer: &Result<RequestStep, RequestFault>) -> bool
+    ensures { result ≡ goes_on answer.now }
+{
+    match answer {
+        Ok(step) => !step.is_whole(),
+        Err(_) => false,
+    }
+}
+
 impl Model for RequestParser {
     ghost use Rattle.std.specs.Prelude.{IsTrue};
     ghost use Rattle.bg_http_read.specs.RequestStates.{RequestState};
@@ -73,19 +83,9 @@ impl RequestParser {
         ensures goes_on { self.new.is_open ≡ goes_on result }
     {
         self.seen.add(bytes);
-        self.is_open = false;
-        match self.feed.feed(bytes) {
-            Ok(RequestStep::Whole(request)) => Ok(RequestStep::Whole(request)),
-            Ok(RequestStep::Continue) => {
-                self.is_open = true;
-                Ok(RequestStep::Continue)
-            }
-            Ok(RequestStep::More) => {
-                self.is_open = true;
-                Ok(RequestStep::More)
-            }
-            Err(fault) => Err(fault),
-        }
+        let answer = self.feed.feed(bytes);
+        self.is_open = goes_on(&answer);
+        answer
     }
 
     /// The request in an input that ends here. Otherwise the fault is Closed, or one that was not

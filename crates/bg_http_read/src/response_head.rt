@@ -3,11 +3,12 @@ ghost use Rattle.std.specs.Prelude.{◌≤◌, IfOk, IfErr, IfSome, IfNone, OnEr
 ghost use Rattle.httparse.specs.Grammar.{HasNoResponse, MayBecomeResponse, NeverHasResponse};
 ghost use Rattle.httparse.specs.Outcome.{IfComplete, OnPartial};
 ghost use Rattle.httparse.specs.Spans.{IsResponseOf, IsResponseWithin};
-ghost use Rattle.bg_http_read.specs.HeadFaults.{ResponseHeadFails, of_head};
+ghost use Rattle.bg_http_read.specs.HeadFaults.{ResponseHeadFails};
+ghost use Rattle.bg_http_read.specs.MessageFaults.{as_response};
 ghost use Rattle.bg_http_read.specs.ResponseHeads.{ReadsResponseHead, ResponseHeadIsCut};
 
-use crate::head_fault::HeadFault;
 use crate::head_limits::{MOST_FIELDS, MOST_HEAD, ROOM, copy_fields};
+use crate::message_fault::MessageFault;
 use bg_http::{Bytes, ResponseHead};
 use httparse::spans::{EMPTY_HEADER_SPAN, HeaderSpan, ResponseSpans, parse_response};
 use httparse::{Error, Status};
@@ -20,7 +21,7 @@ fn response_head_of(
     bytes: &[u8],
     room: &[HeaderSpan],
     parsed: httparse::Result<ResponseSpans>,
-) -> Result<Option<(ResponseHead, usize)>, HeadFault>
+) -> Result<Option<(ResponseHead, usize)>, MessageFault>
     requires size { length bytes.now ≤ MOST_HEAD }
     requires spans { IfComplete parsed (IsResponseWithin bytes.now room.now) }
     requires complete { IfComplete parsed (IsResponseOf bytes.now room.now) }
@@ -32,12 +33,12 @@ fn response_head_of(
         ReadsResponseHead bytes.now at.0 (drop at.1 bytes.now))) }
     ensures none_yet { IfOk result (λ found. IfNone found (
         HasNoResponse bytes.now × MayBecomeResponse bytes.now)) }
-    ensures none { IfErr result (λ fault. ResponseHeadFails bytes.now (of_head fault)) }
+    ensures none { IfErr result (λ fault. ResponseHeadFails bytes.now (as_response fault)) }
 {
     match parsed {
         Ok(Status::Complete(spans)) => {
             if spans.headers > MOST_FIELDS {
-                return Err(HeadFault::TooLarge);
+                return Err(MessageFault::HeadTooLarge);
             }
             let fields = copy_fields(alloc, bytes, &room[..spans.headers])?;
             let reason = Bytes::new(alloc, spans.reason.of(bytes))?;
@@ -50,7 +51,7 @@ fn response_head_of(
             Ok(Some((head, spans.len)))
         }
         Ok(Status::Partial) => Ok(None),
-        Err(_) => Err(HeadFault::Bad),
+        Err(_) => Err(MessageFault::Bad),
     }
 }
 
@@ -59,14 +60,14 @@ fn response_head_of(
 fn parse_crowded_response_head(
     alloc: Global,
     bytes: &[u8],
-) -> Result<Option<(ResponseHead, usize)>, HeadFault>
+) -> Result<Option<(ResponseHead, usize)>, MessageFault>
     requires { length bytes.now ≤ MOST_HEAD }
     ensures within { IfOk result (λ found. IfSome found (λ at. at.1 ≤ length bytes.now)) }
     ensures head { IfOk result (λ found. IfSome found (λ at.
         ReadsResponseHead bytes.now at.0 (drop at.1 bytes.now))) }
     ensures none_yet { IfOk result (λ found. IfNone found (
         HasNoResponse bytes.now × MayBecomeResponse bytes.now)) }
-    ensures none { IfErr result (λ fault. ResponseHeadFails bytes.now (of_head fault)) }
+    ensures none { IfErr result (λ fault. ResponseHeadFails bytes.now (as_response fault)) }
 {
     let mut room = vec![in alloc; EMPTY_HEADER_SPAN; ROOM]?;
     let spans = room.as_mut_slice();
@@ -79,14 +80,14 @@ fn parse_crowded_response_head(
 fn parse_response_head(
     alloc: Global,
     bytes: &[u8],
-) -> Result<Option<(ResponseHead, usize)>, HeadFault>
+) -> Result<Option<(ResponseHead, usize)>, MessageFault>
     requires { length bytes.now ≤ MOST_HEAD }
     ensures within { IfOk result (λ found. IfSome found (λ at. at.1 ≤ length bytes.now)) }
     ensures head { IfOk result (λ found. IfSome found (λ at.
         ReadsResponseHead bytes.now at.0 (drop at.1 bytes.now))) }
     ensures none_yet { IfOk result (λ found. IfNone found (
         HasNoResponse bytes.now × MayBecomeResponse bytes.now)) }
-    ensures none { IfErr result (λ fault. ResponseHeadFails bytes.now (of_head fault)) }
+    ensures none { IfErr result (λ fault. ResponseHeadFails bytes.now (as_response fault)) }
 {
     let mut room = [EMPTY_HEADER_SPAN; MOST_FIELDS];
     match parse_response(bytes, &mut room) {
@@ -100,12 +101,12 @@ fn parse_response_head(
 pub(crate) fn find_response_head(
     alloc: Global,
     bytes: &[u8],
-) -> Result<Option<(ResponseHead, usize)>, HeadFault>
+) -> Result<Option<(ResponseHead, usize)>, MessageFault>
     ensures within { IfOk result (λ found. IfSome found (λ at. at.1 ≤ length bytes.now)) }
     ensures head { IfOk result (λ found. IfSome found (λ at.
         ReadsResponseHead bytes.now at.0 (drop at.1 bytes.now))) }
     ensures none_yet { IfOk result (λ found. IfNone found (ResponseHeadIsCut bytes.now)) }
-    ensures none { IfErr result (λ fault. ResponseHeadFails bytes.now (of_head fault)) }
+    ensures none { IfErr result (λ fault. ResponseHeadFails bytes.now (as_response fault)) }
 {
     let front = &bytes[..bytes.len().min(MOST_HEAD)];
     match parse_response_head(alloc, front) {
@@ -113,7 +114,7 @@ pub(crate) fn find_response_head(
             if bytes.len() < MOST_HEAD {
                 return Ok(None);
             }
-            Err(HeadFault::TooLarge)
+            Err(MessageFault::HeadTooLarge)
         }
         Ok(Some(found)) => Ok(Some(found)),
         Err(fault) => Err(fault),

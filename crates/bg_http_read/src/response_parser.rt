@@ -19,6 +19,16 @@ pub struct ResponseParser<'a> {
     is_open: bool,
 }
 
+/// Whether neither a response nor a fault was given.
+fn asks_more(answer: &Result<Option<Response>, ResponseFault>) -> bool
+    ensures { result ≡ asks_more answer.now }
+{
+    match answer {
+        Ok(found) => found.is_none(),
+        Err(_) => false,
+    }
+}
+
 impl<'a> Model for ResponseParser<'a> {
     ghost use Rattle.std.specs.Prelude.{IsTrue};
     ghost use Rattle.bg_http_read.specs.ResponseStates.{ResponseState};
@@ -70,15 +80,9 @@ impl<'a> ResponseParser<'a> {
         ensures goes_on { self.new.is_open ≡ asks_more result }
     {
         self.seen.add(bytes);
-        self.is_open = false;
-        match self.feed.feed(bytes) {
-            Ok(Some(response)) => Ok(Some(response)),
-            Ok(None) => {
-                self.is_open = true;
-                Ok(None)
-            }
-            Err(fault) => Err(fault),
-        }
+        let answer = self.feed.feed(bytes);
+        self.is_open = asks_more(&answer);
+        answer
     }
 
     /// The response to an input that ends here. Otherwise the fault is Closed, or one that was not

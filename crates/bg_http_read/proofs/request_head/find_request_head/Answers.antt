@@ -1,6 +1,7 @@
 use Rattle.std.proofs.Common.{take, drop, subst}
 use Rattle.std.proofs.lemmas.List.{take-append-drop}
-use Rattle.bg_http_read.specs.HeadFaults.{RequestHeadFails, of_head}
+use Rattle.bg_http_read.specs.HeadFaults.{RequestHeadFails}
+use Rattle.bg_http_read.specs.MessageFaults.{as_request}
 use Rattle.bg_http_read.proofs.RequestHeadsFound.{front_request_head, full_request_head, open_request_head, request_head_fails_more}
 use Rattle.bg_http_read.proofs.request_head.find_request_head.Goals as goal
 
@@ -25,5 +26,5 @@ pub returns-in-Err-clause-none : goal.returns-in-Err-clause-none
 returns-in-Err-clause-none c =
     let bytes = c.args.bytes.now in
     let m = c.min.result in
-    subst (λ l. RequestHeadFails l (of_head c.in-Err.fault)) (take-append-drop m bytes)
+    subst (λ l. RequestHeadFails l (as_request c.in-Err.fault)) (take-append-drop m bytes)
     (request_head_fails_more (take m bytes) (drop m bytes) c.in-Err.fault c.in-Err.ensures.none)

@@ -1,7 +1,7 @@
 use Rattle.std.proofs.Common.{rules, arith, length, refl, [], ◌++◌, ◌<◌, ap, subst, sym, take}
 use Rattle.std.proofs.KnownBytes.{Keeps-refl}
 use Rattle.std.specs.Io.KnownBytes.{Consumes}
-use Rattle.bg_http_read.specs.BodiesRead.{Leaves}
+use Rattle.bg_http_read.specs.Streams.{Leaves}
 use Rattle.bg_http_read.specs.Requests.{WritesContinue}
 use Rattle.bg_http_read.specs.RequestPieces.{OwesIf}
 use Rattle.bg_http_read.specs.RequestStates.{ReadsAsked}

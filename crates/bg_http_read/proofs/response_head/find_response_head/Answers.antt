@@ -1,6 +1,7 @@
 use Rattle.std.proofs.Common.{take, drop, subst}
 use Rattle.std.proofs.lemmas.List.{take-append-drop}
-use Rattle.bg_http_read.specs.HeadFaults.{ResponseHeadFails, of_head}
+use Rattle.bg_http_read.specs.HeadFaults.{ResponseHeadFails}
+use Rattle.bg_http_read.specs.MessageFaults.{as_response}
 use Rattle.bg_http_read.proofs.ResponseHeadsFound.{front_response_head, full_response_head, open_response_head, response_head_fails_more}
 use Rattle.bg_http_read.proofs.response_head.find_response_head.Goals as goal
 
@@ -25,5 +26,5 @@ pub returns-in-Err-clause-none : goal.returns-in-Err-clause-none
 returns-in-Err-clause-none c =
     let bytes = c.args.bytes.now in
     let m = c.min.result in
-    subst (λ l. ResponseHeadFails l (of_head c.in-Err.fault)) (take-append-drop m bytes)
+    subst (λ l. ResponseHeadFails l (as_response c.in-Err.fault)) (take-append-drop m bytes)
     (response_head_fails_more (take m bytes) (drop m bytes) c.in-Err.fault c.in-Err.ensures.none)

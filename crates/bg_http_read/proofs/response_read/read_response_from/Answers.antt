@@ -1,6 +1,6 @@
 use Rattle.std.proofs.Common.{IfSome, IfErr, IfOk, rules, arith, length, ◌++◌, ◌<◌, ◌∙◌, ap, refl, subst, sym, take}
 use Rattle.std.specs.Io.KnownBytes.{Consumes}
-use Rattle.bg_http_read.specs.BodiesRead.{Leaves}
+use Rattle.bg_http_read.specs.Streams.{Leaves}
 use Rattle.bg_http_read.specs.Responses.{ReadsResponse, ResponseFails}
 use Rattle.bg_http_read.specs.ResponseStates.{IsRead, IsRefused}
 use Rattle.bg_http_read.proofs.InterimTaken.{machine_reading}

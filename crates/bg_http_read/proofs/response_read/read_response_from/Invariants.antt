@@ -1,5 +1,5 @@
 use Rattle.std.proofs.Common.{◌≡◌, IsTrue, length}
-use Rattle.bg_http_read.specs.BodiesRead.{Leaves}
+use Rattle.bg_http_read.specs.Streams.{Leaves}
 use Rattle.bg_http_read.proofs.Pieces.{Came}
 use Rattle.bg_http_read.proofs.response_read.read_response_from.Given as goal
 

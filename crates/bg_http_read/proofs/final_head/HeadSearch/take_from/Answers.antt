@@ -3,7 +3,8 @@ use Rattle.std.proofs.lemmas.List.{drop-drop, length-drop}
 use Rattle.bg_http_read.specs.ResponseHeads.{ReadsResponseHead}
 use Rattle.bg_http_read.specs.Responses.{SkipsInterim, names_another}
 use Rattle.bg_http_read.specs.ResponseStates.{IsRefused, is_of_stream}
-use Rattle.bg_http_read.specs.HeadFaults.{ResponseHeadFails, of_head}
+use Rattle.bg_http_read.specs.HeadFaults.{ResponseHeadFails}
+use Rattle.bg_http_read.specs.MessageFaults.{as_response}
 use Rattle.bg_http_read.proofs.InterimTaken.{head_refuses, rule_refuses, many_refuse, skips_next}
 use Rattle.bg_http_read.proofs.StreamFaults.{if_err_is, judged_of_bytes}
 use Rattle.bg_http_read.proofs.final_head.HeadSearch.take_from.Goals as goal
@@ -11,10 +12,10 @@ use Rattle.bg_http_read.proofs.final_head.HeadSearch.take_from.Goals as goal
 pub returns-in_err-found-clause-refused : goal.returns-in_err-found-clause-refused
 returns-in_err-found-clause-refused c seen skips =
     let e = c.in_err-found.field-0.0 in
-    if_err_is (λ fault. IsRefused c.args.request.now fault seen) c.from_residual.result (of_head e) c.from_residual.ensures.1
+    if_err_is (λ fault. IsRefused c.args.request.now fault seen) c.from_residual.result (as_response e) c.from_residual.ensures.1
     (head_refuses c.args.request.now c.loop-self.self.interim seen (drop c.loop-self.taken c.args.bytes.now) e
     (omega (arith, c.loop-self-test.true)) (c.loop-self.invariant.skips seen skips)
-    (subst (λ l. ResponseHeadFails l (of_head e)) c.behind-rest.ensures c.in_err-found.ensures.none))
+    (subst (λ l. ResponseHeadFails l (as_response e)) c.behind-rest.ensures c.in_err-found.ensures.none))
 
 pub returns-in_err-framing-clause-refused : goal.returns-in_err-framing-clause-refused
 returns-in_err-framing-clause-refused c seen skips =

@@ -1,7 +1,6 @@
 use Rattle.std.proofs.Common.{drop, subst, sym, ◌∙◌}
 use Rattle.std.proofs.lemmas.List.{drop-drop}
-use Rattle.bg_http_read.specs.BodiesRead.{read_fault}
-use Rattle.bg_http_read.specs.Requests.{as_request}
+use Rattle.bg_http_read.specs.MessageFaults.{as_request}
 use Rattle.bg_http_read.specs.RequestsFed.{IsFedBody, was_asked}
 use Rattle.bg_http_read.proofs.FedRequests.{advances_err, fed_cannot_end, fed_cut_off, fed_refused, fed_taken, fed_whole}
 use Rattle.bg_http_read.proofs.request_progress.RequestProgress.advance_body.Goals as goal
@@ -10,7 +9,7 @@ pub returns-in_err-taken-clause-answer : goal.returns-in_err-taken-clause-answer
 returns-in_err-taken-clause-answer c old seen owes fed =
     let e = c.in_err-taken.field-0.0 in
     let bytes = c.args.bytes.now in
-    advances_err old seen bytes _ _ (as_request (read_fault e)) c.from_residual.ensures.1
+    advances_err old seen bytes _ _ (as_request e) c.from_residual.ensures.1
     (fed_refused c.args.part (drop c.args.at bytes) seen e (was_asked old) fed owes
     (rw c.behind.ensures at c.in_err-taken.ensures.refused))
 

@@ -1,6 +1,5 @@
 use Rattle.std.proofs.Common.{IsFalse, drop, refl, sym, ◌∙◌}
-use Rattle.bg_http_read.specs.HeadFaults.{of_head}
-use Rattle.bg_http_read.specs.Requests.{as_request}
+use Rattle.bg_http_read.specs.MessageFaults.{as_request}
 use Rattle.bg_http_read.specs.RequestStates.{is_of_stream}
 use Rattle.bg_http_read.specs.declared.head_end.HeadEnd.TheVariants as end
 use Rattle.bg_http_read.specs.declared.request_progress.RequestStage.TheVariants as part
@@ -13,7 +12,7 @@ pub returns-in_err-head-clause-answer : goal.returns-in_err-head-clause-answer
 returns-in_err-head-clause-answer c =
     let e = c.in_err-head.field-0.0 in
     let bytes = c.args.bytes.now in
-    advances_err (part.Head end.Blank) bytes bytes _ _ (as_request (of_head e)) c.from_residual.ensures.1
+    advances_err (part.Head end.Blank) bytes bytes _ _ (as_request e) c.from_residual.ensures.1
     (head_refused bytes e c.in_err-head.ensures.none)
 
 pub returns-in_err-framing-clause-answer : goal.returns-in_err-framing-clause-answer

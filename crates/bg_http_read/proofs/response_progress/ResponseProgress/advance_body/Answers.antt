@@ -1,6 +1,6 @@
 use Rattle.std.proofs.Common.{drop, subst, sym, ◌∙◌}
 use Rattle.std.proofs.lemmas.List.{drop-drop}
-use Rattle.bg_http_read.specs.BodiesRead.{read_fault}
+use Rattle.bg_http_read.specs.MessageFaults.{as_response}
 use Rattle.bg_http_read.specs.ResponsesFed.{IsFedBody}
 use Rattle.bg_http_read.proofs.FedResponses.{advances_err, fed_cut_off, fed_refused, fed_taken, fed_whole}
 use Rattle.bg_http_read.proofs.InterimTaken.{memory_refuses}
@@ -10,7 +10,7 @@ pub returns-in_err-taken-clause-answer : goal.returns-in_err-taken-clause-answer
 returns-in_err-taken-clause-answer c request seen same fed =
     let e = c.in_err-taken.field-0.0 in
     let bytes = c.args.bytes.now in
-    advances_err request seen bytes _ _ (read_fault e) c.from_residual.ensures.1
+    advances_err request seen bytes _ _ (as_response e) c.from_residual.ensures.1
     (fed_refused request c.args.part (drop c.args.at bytes) seen e fed
     (rw c.behind.ensures at c.in_err-taken.ensures.refused))
 
