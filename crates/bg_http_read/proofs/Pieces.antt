@@ -1,6 +1,7 @@
 -- An input that is read in pieces from a stream.
-use Rattle.std.proofs.Common.{◌≡◌, ℕ, List, [], ◌++◌, sym, ◌∙◌, ap, append_assoc, subst, Option, Some, None, IfSome, IfOk, IfErr, Result, Ok, Err, refl}
-use Rattle.std.proofs.lemmas.List.{append-nil}
+use Rattle.std.proofs.Common.{◌≡◌, ℕ, ◌+◌, ◌≤◌, List, [], ◌++◌, length, take, sym, ◌∙◌, ap, append_assoc, subst, Option, Some, None, IfSome, IfOk, IfErr, Result, Ok, Err, refl}
+use Rattle.std.proofs.lemmas.List.{append-nil, length-take-le, take-append-le}
+use Rattle.std.proofs.Math.Seq.{take-append-add}
 use Rattle.std.specs.Io.KnownBytes.{Consumes, IsAtEnd, Keeps}
 use Rattle.bg_http_read.specs.Streams.{Leaves}
 
@@ -67,3 +68,12 @@ came_kept seen None left next h k = tt
 came_kept seen (Some i) None next h k = absurd h
 came_kept seen (Some i) (Some r) None h k = absurd k
 came_kept seen (Some i) (Some r) (Some q) h k = subst (λ l. i ≡ seen ++ l) (sym k) h
+
+-- the first bytes, and behind them the first of those that were put there
+pub first_bytes : (count last : ℕ) (bytes more rest : List ℕ) → count ≤ length bytes
+    → last ≤ length more
+    → take (count + last) (take count bytes ++ (more ++ rest)) ≡ take count bytes ++ take last more
+first_bytes count last bytes more rest fits few =
+    ap (λ n. take (n + last) (take count bytes ++ (more ++ rest))) (sym (length-take-le count bytes fits))
+    ∙ take-append-add (take count bytes) (more ++ rest) last
+    ∙ ap (λ l. take count bytes ++ l) (take-append-le last more rest few)

@@ -74,6 +74,11 @@ impl HeadSearch {
         self.end.is_over() || count >= MOST_HEAD
     }
 
+    /// How many bytes may wait before the head may be whole or too large, if no line ends.
+    pub(crate) fn line_limit(&self) -> usize {
+        if self.end.is_over() { 0 } else { MOST_HEAD }
+    }
+
     /// Takes interim responses and the head after them from the front of the bytes, and judges it.
     pub(crate) fn take_from(
         &mut self,

@@ -5,6 +5,7 @@ ghost use Rattle.std.specs.Io.KnownBytes.{Consumes, IsAtEnd, Keeps};
 ghost use Rattle.bg_http_read.specs.Streams.{waiting};
 
 use bg_http::{Duplex, MOST_TURNS};
+use memchr::memchr;
 use std::alloc::{AllocError, Global};
 use std::io::{ErrorKind, Read};
 
@@ -12,12 +13,13 @@ use std::io::{ErrorKind, Read};
 pub(crate) const PIECE: usize = 8192;
 
 /// One read, tried again where it was interrupted; how many bytes it gave, none where it failed.
-pub(crate) fn read_piece<S: Duplex>(stream: &mut S, piece: &mut [u8]) -> Option<usize>
+fn read_piece<S: Duplex>(stream: &mut S, piece: &mut [u8]) -> Option<usize>
     ensures fits { IfSome result (λ count. count ≤ length piece.new) }
     ensures bytes { IfSome result (λ count.
         Consumes (S.remaining stream.old) (S.remaining stream.new) (take count piece.new)) }
     ensures end { IfSome result (λ count. count ≡ 0 → 0 < length piece.old
         → IsAtEnd (S.remaining stream.new)) }
+    ensures size { length piece.new ≡ length piece.old }
     ensures kept { Keeps (S.contents stream.old) (S.contents stream.new) }
 {
     for _ in 0..MOST_TURNS {
@@ -28,6 +30,34 @@ pub(crate) fn read_piece<S: Duplex>(stream: &mut S, piece: &mut [u8]) -> Option<
                     return None;
                 }
             }
+        }
+    }
+    None
+}
+
+/// One read; or more, as long as no line ends with them and fewer than `line` bytes came. How many
+/// bytes came, none where reading failed.
+pub(crate) fn read_line_piece<S: Duplex>(
+    stream: &mut S,
+    piece: &mut [u8],
+    line: usize,
+) -> Option<usize>
+    ensures fits { IfSome result (λ count. count ≤ length piece.new) }
+    ensures bytes { IfSome result (λ count.
+        Consumes (S.remaining stream.old) (S.remaining stream.new) (take count piece.new)) }
+    ensures end { IfSome result (λ count. count ≡ 0 → 0 < length piece.old
+        → IsAtEnd (S.remaining stream.new)) }
+    ensures size { length piece.new ≡ length piece.old }
+    ensures kept { Keeps (S.contents stream.old) (S.contents stream.new) }
+{
+    let most = line.min(piece.len());
+    let mut count = 0;
+    for _ in 0..MOST_TURNS {
+        let last = read_piece(stream, &mut piece[count..])?;
+        let start = count;
+        count += last;
+        if last == 0 || count >= most || memchr(b'\n', &piece[start..count]).is_some() {
+            return Some(count);
         }
     }
     None

@@ -75,6 +75,15 @@ impl RequestProgress {
         }
     }
 
+    /// How many bytes may wait before it is worth looking at them, if no line ends: 0 where it may
+    /// be at any byte.
+    pub(crate) fn line_limit(&self) -> usize {
+        match &self.stage {
+            RequestStage::Head(end) if !end.is_over() => MOST_HEAD,
+            RequestStage::Head(_) | RequestStage::Body(_) | RequestStage::Done => 0,
+        }
+    }
+
     /// Takes what it can of the bytes.
     pub(crate) fn advance(&mut self, bytes: &[u8]) -> Result<RequestAdvance, RequestFault>
         requires { IsOpenStage self.old.stage }

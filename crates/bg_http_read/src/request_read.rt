@@ -7,7 +7,7 @@ ghost use Rattle.bg_http_read.specs.RequestPieces.{OwesIf, PieceTo};
 ghost use Rattle.bg_http_read.specs.RequestStates.{IsReadAsked, IsRefusedAsked};
 ghost use Rattle.bg_http.specs.declared.request_fault.RequestFault.TheVariants as request_fault;
 
-use crate::intake::{PIECE, read_piece};
+use crate::intake::{PIECE, read_line_piece};
 use crate::request_parser::RequestParser;
 use crate::request_step::RequestStep;
 use bg_http::{Duplex, MOST_TURNS, Request, RequestFault};
@@ -79,7 +79,8 @@ fn feed_piece<S: Duplex>(
 /// the head breaks; of the body Bad where the line of a chunk, the CR LF after its data or the
 /// trailers can't come within their limits, TooLarge where the size of a chunk brings it above
 /// 1,048,576 bytes, and Closed where the input ends before. Others are ReadFailed, also after
-/// 16,777,216 reads; WriteFailed, where `100 Continue` is owed; OutOfMemory.
+/// 16,777,216 pieces or interruptions of one read; WriteFailed, where `100 Continue` is owed;
+/// OutOfMemory.
 pub fn read_request<S: Duplex>(alloc: Global, stream: &mut S) -> Result<Request, RequestFault>
     ensures request { IfOk result (λ request. IfSome (S.remaining stream.old)
         (λ input. (rest : List ℕ) × ReadsRequest input request rest)) }
@@ -91,7 +92,7 @@ pub fn read_request<S: Duplex>(alloc: Global, stream: &mut S) -> Result<Request,
     let mut parser = RequestParser::new(alloc);
     let mut piece = [0; PIECE];
     for _ in 0..MOST_TURNS {
-        let Some(count) = read_piece(stream, &mut piece) else {
+        let Some(count) = read_line_piece(stream, &mut piece, parser.line_room()) else {
             return Err(RequestFault::ReadFailed);
         };
         if count == 0 {

@@ -59,6 +59,16 @@ impl<'a> ResponseFeed<'a> {
         }
     }
 
+    /// How many bytes may come before it is worth looking at them, if no line ends: 0 where it may
+    /// be at any byte.
+    pub(crate) fn line_room(&self) -> usize {
+        let waiting = self.intake.get().len();
+        if waiting == 0 {
+            return 0;
+        }
+        self.progress.line_limit().saturating_sub(waiting)
+    }
+
     /// Adds bytes where none wait: what can be taken of them is copied no second time.
     fn feed_first(&mut self, bytes: &[u8]) -> Result<Option<Response>, ResponseFault>
         requires goes_on { IsOpen self.old }

@@ -85,6 +85,12 @@ impl<'a> ResponseParser<'a> {
         answer
     }
 
+    /// How many bytes may come before it is worth feeding them, if no line ends: 0 where it may be
+    /// at any byte.
+    pub(crate) fn line_room(&self) -> usize {
+        self.feed.line_room()
+    }
+
     /// The response to an input that ends here. Otherwise the fault is Closed, or one that was not
     /// told yet, or OutOfMemory.
     pub fn end(self) -> Result<Response, ResponseFault>

@@ -75,6 +75,15 @@ impl<'a> ResponseProgress<'a> {
         }
     }
 
+    /// How many bytes may wait before it is worth looking at them, if no line ends: 0 where it may
+    /// be at any byte.
+    pub(crate) fn line_limit(&self) -> usize {
+        match &self.stage {
+            ResponseStage::Heads(search) => search.line_limit(),
+            ResponseStage::Body(_) | ResponseStage::Done => 0,
+        }
+    }
+
     /// Takes what it can of the bytes.
     pub(crate) fn advance(&mut self, bytes: &[u8]) -> Result<Advance, ResponseFault>
         requires { IsOpenStage self.old.stage }

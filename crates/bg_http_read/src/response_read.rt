@@ -2,7 +2,7 @@
 ghost use Rattle.std.specs.Prelude.{IfErr, IfOk, IfSome};
 ghost use Rattle.bg_http_read.specs.Responses.{ReadsResponse, ResponseFails};
 
-use crate::intake::{PIECE, read_piece};
+use crate::intake::{PIECE, read_line_piece};
 use crate::one_way::OneWay;
 use crate::response_parser::ResponseParser;
 use bg_http::{Duplex, MOST_TURNS, Request, Response, ResponseFault};
@@ -23,7 +23,7 @@ fn read_response_from<S: Duplex>(
     let mut parser = ResponseParser::new(alloc, request);
     let mut piece = [0; PIECE];
     for _ in 0..MOST_TURNS {
-        let Some(count) = read_piece(stream, &mut piece) else {
+        let Some(count) = read_line_piece(stream, &mut piece, parser.line_room()) else {
             return Err(ResponseFault::ReadFailed);
         };
         if count == 0 {
@@ -47,7 +47,7 @@ fn read_response_from<S: Duplex>(
 /// line of a chunk, the CR LF after its data or the trailers can't come within their limits,
 /// TooLarge where the size of a chunk, or what comes before the end of the input, brings it above
 /// 4,194,304 bytes, and Closed where the input ends before. Others are ReadFailed, also after
-/// 16,777,216 reads, and OutOfMemory.
+/// 16,777,216 pieces or interruptions of one read, and OutOfMemory.
 pub fn read_response<R: Read>(
     alloc: Global,
     request: &Request,

@@ -24,8 +24,8 @@ loop-init g c =
 pub returns-in_default-clause-written : goal.returns-in_default-clause-written
 returns-in_default-clause-written g c =
     let written = g.S.Write.contents c.args.stream.now in
-    let before = g.S.Write.contents c.read_piece.new.stream in
-    let wrote = writes_kept c.loop.parser.asked written (g.S.Write.contents c.loop.stream) before c.loop.invariant.wrote c.read_piece.ensures.kept in
+    let before = g.S.Write.contents c.read_line_piece.new.stream in
+    let wrote = writes_kept c.loop.parser.asked written (g.S.Write.contents c.loop.stream) before c.loop.invariant.wrote c.read_line_piece.ensures.kept in
     wrote_reading c.loop.parser.asked c.loop.parser.seen (g.S.Read.remaining c.args.stream.now) (g.S.Read.remaining c.loop.stream)
     written before c.loop.invariant.came c.loop.invariant.owed wrote
 
@@ -38,10 +38,10 @@ pub returns-then-count-eq0-clause-fault : goal.returns-then-count-eq0-clause-fau
 returns-then-count-eq0-clause-fault g c =
     let first = g.S.Read.remaining c.args.stream.now in
     let left = g.S.Read.remaining c.loop.stream in
-    let next = g.S.Read.remaining c.read_piece.new.stream in
+    let next = g.S.Read.remaining c.read_line_piece.new.stream in
     let seen = c.loop.parser.seen in
     let asked = c.loop.parser.asked in
-    let none = subst (λ n. Consumes left next (take n c.read_piece.new.piece)) c.if-count-eq0.true c.in-Some.ensures.bytes in
+    let none = subst (λ n. Consumes left next (take n c.read_line_piece.new.piece)) c.if-count-eq0.true c.in-Some.ensures.bytes in
     let size : 0 < length c.loop.piece = omega (arith, c.loop.invariant.size) in
     let end = c.in-Some.ensures.end c.if-count-eq0.true size in
     ended_fault asked seen first left next c.end.result c.loop.invariant.came none end c.end.ensures.refused
@@ -50,15 +50,15 @@ pub returns-then-count-eq0-clause-written : goal.returns-then-count-eq0-clause-w
 returns-then-count-eq0-clause-written g c =
     let first = g.S.Read.remaining c.args.stream.now in
     let left = g.S.Read.remaining c.loop.stream in
-    let next = g.S.Read.remaining c.read_piece.new.stream in
+    let next = g.S.Read.remaining c.read_line_piece.new.stream in
     let seen = c.loop.parser.seen in
     let asked = c.loop.parser.asked in
-    let none = subst (λ n. Consumes left next (take n c.read_piece.new.piece)) c.if-count-eq0.true c.in-Some.ensures.bytes in
+    let none = subst (λ n. Consumes left next (take n c.read_line_piece.new.piece)) c.if-count-eq0.true c.in-Some.ensures.bytes in
     let size : 0 < length c.loop.piece = omega (arith, c.loop.invariant.size) in
     let end = c.in-Some.ensures.end c.if-count-eq0.true size in
     let written = g.S.Write.contents c.args.stream.now in
-    let before = g.S.Write.contents c.read_piece.new.stream in
-    let wrote = writes_kept c.loop.parser.asked written (g.S.Write.contents c.loop.stream) before c.loop.invariant.wrote c.read_piece.ensures.kept in
+    let before = g.S.Write.contents c.read_line_piece.new.stream in
+    let wrote = writes_kept c.loop.parser.asked written (g.S.Write.contents c.loop.stream) before c.loop.invariant.wrote c.read_line_piece.ensures.kept in
     ended_wrote asked seen first left next written before c.end.result c.loop.invariant.came none end wrote
     c.end.ensures.request c.end.ensures.refused
 
@@ -66,11 +66,11 @@ pub returns-in-Ok-Some-clause-request : goal.returns-in-Ok-Some-clause-request
 returns-in-Ok-Some-clause-request g c =
     let first = g.S.Read.remaining c.args.stream.now in
     let left = g.S.Read.remaining c.loop.stream in
-    let next = g.S.Read.remaining c.read_piece.new.stream in
+    let next = g.S.Read.remaining c.read_line_piece.new.stream in
     let written = g.S.Write.contents c.args.stream.now in
-    let before = g.S.Write.contents c.read_piece.new.stream in
-    let wrote = writes_kept c.loop.parser.asked written (g.S.Write.contents c.loop.stream) before c.loop.invariant.wrote c.read_piece.ensures.kept in
-    let bytes = take c.in-Some.count c.read_piece.new.piece in
+    let before = g.S.Write.contents c.read_line_piece.new.stream in
+    let wrote = writes_kept c.loop.parser.asked written (g.S.Write.contents c.loop.stream) before c.loop.invariant.wrote c.read_line_piece.ensures.kept in
+    let bytes = take c.in-Some.count c.read_line_piece.new.piece in
     let seen = c.loop.parser.seen ++ bytes in
     let came = piece_came c.loop.parser.seen bytes first left next c.loop.invariant.came c.in-Some.ensures.bytes in
     let answer = rw c.in-Ok-Some.field-0-is at c.in-Ok-Some.ensures.answer written wrote c.loop.invariant.owed in
@@ -81,11 +81,11 @@ pub returns-in-Ok-Some-clause-written : goal.returns-in-Ok-Some-clause-written
 returns-in-Ok-Some-clause-written g c =
     let first = g.S.Read.remaining c.args.stream.now in
     let left = g.S.Read.remaining c.loop.stream in
-    let next = g.S.Read.remaining c.read_piece.new.stream in
+    let next = g.S.Read.remaining c.read_line_piece.new.stream in
     let written = g.S.Write.contents c.args.stream.now in
-    let before = g.S.Write.contents c.read_piece.new.stream in
-    let wrote = writes_kept c.loop.parser.asked written (g.S.Write.contents c.loop.stream) before c.loop.invariant.wrote c.read_piece.ensures.kept in
-    let bytes = take c.in-Some.count c.read_piece.new.piece in
+    let before = g.S.Write.contents c.read_line_piece.new.stream in
+    let wrote = writes_kept c.loop.parser.asked written (g.S.Write.contents c.loop.stream) before c.loop.invariant.wrote c.read_line_piece.ensures.kept in
+    let bytes = take c.in-Some.count c.read_line_piece.new.piece in
     let seen = c.loop.parser.seen ++ bytes in
     let came = piece_came c.loop.parser.seen bytes first left next c.loop.invariant.came c.in-Some.ensures.bytes in
     let now = g.S.Write.contents c.feed_piece.new.stream in
@@ -97,11 +97,11 @@ pub returns-in-Err-clause-fault : goal.returns-in-Err-clause-fault
 returns-in-Err-clause-fault g c =
     let first = g.S.Read.remaining c.args.stream.now in
     let left = g.S.Read.remaining c.loop.stream in
-    let next = g.S.Read.remaining c.read_piece.new.stream in
+    let next = g.S.Read.remaining c.read_line_piece.new.stream in
     let written = g.S.Write.contents c.args.stream.now in
-    let before = g.S.Write.contents c.read_piece.new.stream in
-    let wrote = writes_kept c.loop.parser.asked written (g.S.Write.contents c.loop.stream) before c.loop.invariant.wrote c.read_piece.ensures.kept in
-    let bytes = take c.in-Some.count c.read_piece.new.piece in
+    let before = g.S.Write.contents c.read_line_piece.new.stream in
+    let wrote = writes_kept c.loop.parser.asked written (g.S.Write.contents c.loop.stream) before c.loop.invariant.wrote c.read_line_piece.ensures.kept in
+    let bytes = take c.in-Some.count c.read_line_piece.new.piece in
     let seen = c.loop.parser.seen ++ bytes in
     let came = piece_came c.loop.parser.seen bytes first left next c.loop.invariant.came c.in-Some.ensures.bytes in
     let now = g.S.Write.contents c.feed_piece.new.stream in
@@ -112,11 +112,11 @@ pub returns-in-Err-clause-written : goal.returns-in-Err-clause-written
 returns-in-Err-clause-written g c =
     let first = g.S.Read.remaining c.args.stream.now in
     let left = g.S.Read.remaining c.loop.stream in
-    let next = g.S.Read.remaining c.read_piece.new.stream in
+    let next = g.S.Read.remaining c.read_line_piece.new.stream in
     let written = g.S.Write.contents c.args.stream.now in
-    let before = g.S.Write.contents c.read_piece.new.stream in
-    let wrote = writes_kept c.loop.parser.asked written (g.S.Write.contents c.loop.stream) before c.loop.invariant.wrote c.read_piece.ensures.kept in
-    let bytes = take c.in-Some.count c.read_piece.new.piece in
+    let before = g.S.Write.contents c.read_line_piece.new.stream in
+    let wrote = writes_kept c.loop.parser.asked written (g.S.Write.contents c.loop.stream) before c.loop.invariant.wrote c.read_line_piece.ensures.kept in
+    let bytes = take c.in-Some.count c.read_line_piece.new.piece in
     let seen = c.loop.parser.seen ++ bytes in
     let came = piece_came c.loop.parser.seen bytes first left next c.loop.invariant.came c.in-Some.ensures.bytes in
     let now = g.S.Write.contents c.feed_piece.new.stream in
@@ -127,11 +127,11 @@ pub loop-preserved : goal.loop-preserved
 loop-preserved g c =
     let first = g.S.Read.remaining c.args.stream.now in
     let left = g.S.Read.remaining c.loop.stream in
-    let next = g.S.Read.remaining c.read_piece.new.stream in
+    let next = g.S.Read.remaining c.read_line_piece.new.stream in
     let written = g.S.Write.contents c.args.stream.now in
-    let before = g.S.Write.contents c.read_piece.new.stream in
-    let wrote = writes_kept c.loop.parser.asked written (g.S.Write.contents c.loop.stream) before c.loop.invariant.wrote c.read_piece.ensures.kept in
-    let bytes = take c.in-Some.count c.read_piece.new.piece in
+    let before = g.S.Write.contents c.read_line_piece.new.stream in
+    let wrote = writes_kept c.loop.parser.asked written (g.S.Write.contents c.loop.stream) before c.loop.invariant.wrote c.read_line_piece.ensures.kept in
+    let bytes = take c.in-Some.count c.read_line_piece.new.piece in
     let seen = c.loop.parser.seen ++ bytes in
     let came = piece_came c.loop.parser.seen bytes first left next c.loop.invariant.came c.in-Some.ensures.bytes in
     let answer = rw c.in-Ok-None.field-0-is at c.in-Ok-None.ensures.answer written wrote c.loop.invariant.owed in

@@ -29,9 +29,9 @@ returns-clause-fault g c =
 pub returns-then-count-eq0-clause-response : goal.returns-then-count-eq0-clause-response
 returns-then-count-eq0-clause-response g c =
     let left = g.S.Read.remaining c.loop.stream in
-    let next = g.S.Read.remaining c.read_piece.new.stream in
+    let next = g.S.Read.remaining c.read_line_piece.new.stream in
     let seen = c.loop.parser.seen in
-    let none = subst (λ n. Consumes left next (take n c.read_piece.new.piece)) c.if-count-eq0.true c.in-Some.ensures.bytes in
+    let none = subst (λ n. Consumes left next (take n c.read_line_piece.new.piece)) c.if-count-eq0.true c.in-Some.ensures.bytes in
     let size : 0 < length c.loop.piece = omega (arith, c.loop.invariant.size) in
     ended_ok (ReadsResponse c.args.request.now) c.end.result seen (g.S.Read.remaining c.args.stream.now) left next
     c.loop.invariant.came none (c.in-Some.ensures.end c.if-count-eq0.true size)
@@ -40,9 +40,9 @@ returns-then-count-eq0-clause-response g c =
 pub returns-then-count-eq0-clause-fault : goal.returns-then-count-eq0-clause-fault
 returns-then-count-eq0-clause-fault g c =
     let left = g.S.Read.remaining c.loop.stream in
-    let next = g.S.Read.remaining c.read_piece.new.stream in
+    let next = g.S.Read.remaining c.read_line_piece.new.stream in
     let seen = c.loop.parser.seen in
-    let none = subst (λ n. Consumes left next (take n c.read_piece.new.piece)) c.if-count-eq0.true c.in-Some.ensures.bytes in
+    let none = subst (λ n. Consumes left next (take n c.read_line_piece.new.piece)) c.if-count-eq0.true c.in-Some.ensures.bytes in
     let size : 0 < length c.loop.piece = omega (arith, c.loop.invariant.size) in
     ended_err (λ e i. ResponseFails c.args.request.now i e) c.end.result seen (g.S.Read.remaining c.args.stream.now) left next
     c.loop.invariant.came none (c.in-Some.ensures.end c.if-count-eq0.true size)
@@ -52,8 +52,8 @@ pub returns-in_err-response-clause-fault : goal.returns-in_err-response-clause-f
 returns-in_err-response-clause-fault g c =
     let request = c.args.request.now in
     let first = g.S.Read.remaining c.args.stream.now in
-    let next = g.S.Read.remaining c.read_piece.new.stream in
-    let bytes = take c.in-Some.count c.read_piece.new.piece in
+    let next = g.S.Read.remaining c.read_line_piece.new.stream in
+    let bytes = take c.in-Some.count c.read_line_piece.new.piece in
     let seen = c.loop.parser.seen in
     let e = c.in_err-response.field-0.0 in
     let came = piece_came seen bytes first (g.S.Read.remaining c.loop.stream) next c.loop.invariant.came c.in-Some.ensures.bytes in
@@ -65,8 +65,8 @@ pub returns-in-Some-2-clause-response : goal.returns-in-Some-2-clause-response
 returns-in-Some-2-clause-response g c =
     let request = c.args.request.now in
     let first = g.S.Read.remaining c.args.stream.now in
-    let next = g.S.Read.remaining c.read_piece.new.stream in
-    let bytes = take c.in-Some.count c.read_piece.new.piece in
+    let next = g.S.Read.remaining c.read_line_piece.new.stream in
+    let bytes = take c.in-Some.count c.read_line_piece.new.piece in
     let seen = c.loop.parser.seen in
     let came = piece_came seen bytes first (g.S.Read.remaining c.loop.stream) next c.loop.invariant.came c.in-Some.ensures.bytes in
     let read = rw c.in-Some-2.is at c.in_ok-response.ensures.response in
@@ -76,8 +76,8 @@ returns-in-Some-2-clause-response g c =
 pub loop-preserved : goal.loop-preserved
 loop-preserved g c =
     let first = g.S.Read.remaining c.args.stream.now in
-    let next = g.S.Read.remaining c.read_piece.new.stream in
-    let bytes = take c.in-Some.count c.read_piece.new.piece in
+    let next = g.S.Read.remaining c.read_line_piece.new.stream in
+    let bytes = take c.in-Some.count c.read_line_piece.new.piece in
     let seen = c.loop.parser.seen in
     let came = piece_came seen bytes first (g.S.Read.remaining c.loop.stream) next c.loop.invariant.came c.in-Some.ensures.bytes in
     let same = (rw c.in_default-2.is at c.in_ok-response.ensures.none_yet).0 in
