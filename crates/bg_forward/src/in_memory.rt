@@ -1,7 +1,7 @@
 //! A connection that stands in memory.
-ghost use Rattle.std.specs.Prelude.{◌≡◌, ◌+◌, [], Some};
+ghost use Rattle.std.specs.Prelude.{◌≡◌, ◌+◌, ◌<◌, [], IfSome, Some};
 ghost use Rattle.bg_forward.specs.Connections.{Connection};
-ghost use Rattle.bg_forward.specs.Seats.{calls_made};
+ghost use Rattle.bg_forward.specs.Seats.{calls_made, seat_after};
 
 use crate::buffered::Buffered;
 use crate::gate::Gate;
@@ -36,6 +36,9 @@ pub fn serve_in_memory<N: Names, G: Gate<N>, D: Dial>(
     ensures out { seat.new.number ≡ 0 }
     ensures index { seat.new.index ≡ seat.old.index }
     ensures calls { seat.new.calls ≡ seat.old.calls + calls_made result.served.entered }
+    ensures seat { seat.new ≡ seat_after seat.old result.served.entered }
+    ensures number { IfSome result.served.entered (λ t. 0 < t.number) }
+    ensures gives { IfSome result.served.entered (λ t. G.gives gate.now service seat.old t) }
     ensures client { Connection (Some input.now) (Some []) (Some result.written)
         result.served.entered result.served.end }
 {
