@@ -1,3 +1,4 @@
 pub mod WordsTaken
 pub mod ValuesPass
 pub mod Accepted
+mod Additions
