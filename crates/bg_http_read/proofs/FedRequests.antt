@@ -96,6 +96,14 @@ pub fed_first : (s : RequestStage) (waits seen bytes : List ℕ) → IsFedStage 
 fed_first s waits seen bytes h none =
     fed_added s waits bytes seen bytes h (ap (λ l. l ++ bytes) (sym none))
 
+-- bytes came straight into the body, where none wait
+pub fed_straight : (p : RequestBody) (next : Body) (seen came now : List ℕ) → IsFedBody p [] seen
+    → now ≡ seen ++ came → Follows p.body came next [] → next.limit ≡ p.body.limit
+    → IsFedBody (record p { body = next }) [] now
+fed_straight p next seen came now h is follows limit =
+    subst (IsFedBody (record p { body = next }) []) (sym is)
+    (fed_taken p next came [] (seen ++ came) (fed_behind (part.Body p) [] seen came h) follows limit)
+
 -- nothing is missing of the body
 pub fed_whole : (p : RequestBody) (waits seen : List ℕ) (request : Request) (asked : Bool)
     → IsFedBody p waits seen → KeepsLimit p.body → HasParts request p

@@ -94,6 +94,15 @@ pub fed_first : (request : Request) (s : ResponseStage) (waits seen bytes : List
 fed_first request s waits seen bytes h none =
     fed_added request s waits bytes seen bytes h (ap (λ l. l ++ bytes) (sym none))
 
+-- bytes came straight into the body, where none wait
+pub fed_straight : (request : Request) (p : ResponseBody) (next : Body) (seen came now : List ℕ)
+    → IsFedBody request p [] seen → now ≡ seen ++ came → Follows p.body came next []
+    → next.limit ≡ p.body.limit → IsFedBody request (record p { body = next }) [] now
+fed_straight request p next seen came now h is follows limit =
+    subst (IsFedBody request (record p { body = next }) []) (sym is)
+    (fed_taken request p next came [] (seen ++ came)
+    (fed_behind request (part.Body p) [] seen came h) follows limit)
+
 -- what is read of the bytes that wait and those that follow is a response
 fed_reads : (request : Request) (p : ResponseBody) (waits seen more rest : List ℕ)
     (response : Response) → IsFedBody request p waits seen → KeepsLimit p.body

@@ -2,7 +2,7 @@
 use Rattle.std.proofs.Common.{◌≡◌, Bool, true, false, IsTrue, List, ℕ, [], ◌++◌, append_assoc, refl, ap, sym, subst, ◌∙◌, Option, Some, None, IfErr, IfNone, IfOk, IfSome, Result, Ok, Err, inl, inr}
 use Rattle.std.proofs.lemmas.List.{append-nil}
 use Rattle.std.proofs.KnownBytes.{Keeps-refl}
-use Rattle.std.specs.Io.KnownBytes.{Consumes, IsAtEnd, Keeps}
+use Rattle.std.specs.Io.KnownBytes.{IsAtEnd, Keeps}
 use Rattle.bg_http.specs.RequestRules.{owes_continue}
 use Rattle.bg_http.specs.declared.request.Request.{Request}
 use Rattle.bg_http.specs.declared.request_fault.RequestFault.{RequestFault}
@@ -144,35 +144,25 @@ went_on seen first now (Err e) old new same is_open asked owed wrote read more r
     inl (true, subst (IsRefusedAsked true e) same refused, wrote)
 
 -- what came of the end of the input
-pub ended_wrote : (asked : Bool) (seen : List ℕ) (first left next old new : Option (List ℕ))
-    (r : Result Request RequestFault) → Leaves (Came seen) first left → Consumes left next []
-    → IsAtEnd next → WritesContinue asked old new
-    → IfOk r (λ request. ReadsAsked asked request seen) → IfErr r (λ e. FailsAsked asked seen e)
-    → WroteFor first old new r
-ended_wrote asked seen first left next old new (Ok request) came none end wrote read refused =
+pub ended_wrote : (asked : Bool) (seen : List ℕ) (first left old new : Option (List ℕ))
+    (r : Result Request RequestFault) → Leaves (Came seen) first left → IsAtEnd left
+    → WritesContinue asked old new → IfOk r (λ request. ReadsAsked asked request seen)
+    → IfErr r (λ e. FailsAsked asked seen e) → WroteFor first old new r
+ended_wrote asked seen first left old new (Ok request) came end wrote read refused =
     wrote_request asked seen first old new request read
-    (ended_input (ReadsAsked asked request) seen first left next came none end read) wrote
-ended_wrote asked seen first left next old new (Err e) came none end wrote read refused =
+    (ended_input (ReadsAsked asked request) seen first left came end read) wrote
+ended_wrote asked seen first left old new (Err e) came end wrote read refused =
     wrote_fault asked seen first old new e refused
-    (ended_input (λ i. FailsAsked asked i e) seen first left next came none end refused) wrote
+    (ended_input (λ i. FailsAsked asked i e) seen first left came end refused) wrote
 
-pub ended_request : (asked : Bool) (seen : List ℕ) (first left next : Option (List ℕ))
-    (r : Result Request RequestFault) → Leaves (Came seen) first left → Consumes left next []
-    → IsAtEnd next → IfOk r (λ request. ReadsAsked asked request seen)
-    → IfOk r (λ request. IfSome first (λ i. (rest : List ℕ) × ReadsRequest i request rest))
-ended_request asked seen first left next (Ok request) came none end read =
-    request_of asked first request
-    (ended_input (ReadsAsked asked request) seen first left next came none end read)
-ended_request asked seen first left next (Err e) came none end read = tt
-
-pub ended_fault : (asked : Bool) (seen : List ℕ) (first left next : Option (List ℕ))
-    (r : Result Request RequestFault) → Leaves (Came seen) first left → Consumes left next []
-    → IsAtEnd next → IfErr r (λ e. FailsAsked asked seen e)
+pub ended_fault : (asked : Bool) (seen : List ℕ) (first left : Option (List ℕ))
+    (r : Result Request RequestFault) → Leaves (Came seen) first left → IsAtEnd left
+    → IfErr r (λ e. FailsAsked asked seen e)
     → IfErr r (λ e. IfSome first (λ i. RequestFails i e))
-ended_fault asked seen first left next (Ok request) came none end refused = tt
-ended_fault asked seen first left next (Err e) came none end refused =
+ended_fault asked seen first left (Ok request) came end refused = tt
+ended_fault asked seen first left (Err e) came end refused =
     fault_of asked first e
-    (ended_input (λ i. FailsAsked asked i e) seen first left next came none end refused)
+    (ended_input (λ i. FailsAsked asked i e) seen first left came end refused)
 
 -- what came of a piece that brought a fault
 pub piece_fault : (seen : List ℕ) (first left old new : Option (List ℕ)) (e : RequestFault)
@@ -197,3 +187,17 @@ pub writes_kept : (asked : Bool) (old new last : Option (List ℕ)) → WritesCo
     → Keeps new last → WritesContinue asked old last
 writes_kept asked old new last wrote kept =
     continue_kept asked old old new last (Keeps-refl old) wrote kept
+
+-- where bytes went straight into a body, what was written is still all, and what is owed stays owed
+pub wrote_straight : (was now : RequestState) (came : List ℕ) (old new last : Option (List ℕ))
+    → now ≡ record was { seen = was.seen ++ came } → WritesContinue was.asked old new
+    → Keeps new last → WritesContinue now.asked old last
+wrote_straight was now came old new last is wrote kept =
+    subst (λ asked. WritesContinue asked old last) (sym (ap (λ p. p.asked) is))
+    (writes_kept was.asked old new last wrote kept)
+
+pub owes_straight : (was now : RequestState) (came : List ℕ)
+    → now ≡ record was { seen = was.seen ++ came } → OwesIf was.asked was.seen
+    → OwesIf now.asked now.seen
+owes_straight was now came is owed =
+    subst (λ p. OwesIf p.asked p.seen) (sym is) (owes_more was.asked was.seen came owed)

@@ -1,5 +1,10 @@
 -- The bytes that come of a stream, and those of them that wait.
-use Rattle.std.specs.Prelude.{ℕ, List, Option, Some, None, ⊤, drop}
+use Rattle.std.specs.Prelude.{◌≡◌, ℕ, ◌≤◌, List, [], ◌++◌, Option, Some, None, ⊤, drop, length, take}
+use Rattle.std.specs.Io.KnownBytes.{Consumes, IsAtEnd}
+use Rattle.bg_http_read.specs.declared.arrival.Arrival.{Arrival}
+use Rattle.bg_http_read.specs.declared.arrival.Arrival.TheVariants as arrival
+use Rattle.bg_http_read.specs.declared.arrival.Straight.{Straight}
+use Rattle.bg_http_read.specs.declared.arrival.Straight.TheVariants as straight
 use Rattle.bg_http_read.specs.declared.intake.Intake.{Intake}
 
 -- the bytes that were read and not yet taken
@@ -11,3 +16,24 @@ abbrev pub Leaves : (List ℕ → List ℕ → Type 0) → Option (List ℕ) →
 Leaves P None after = ⊤
 Leaves P (Some input) None = ⊥
 Leaves P (Some input) (Some rest) = P input rest
+
+-- of what was to come these bytes came by a read straight into a body: none where it was not made
+-- or failed, or at the end
+abbrev pub CameStraight : Straight → List ℕ → Option (List ℕ) → Option (List ℕ) → Type 0
+CameStraight straight.Unread came before after = (came ≡ []) × Consumes before after came
+CameStraight straight.Failed came before after = came ≡ []
+CameStraight (straight.Came count) came before after =
+    (length came ≡ count) × Consumes before after came × (count ≡ 0 → IsAtEnd after)
+
+-- the bytes that came so are put behind those that were seen
+abbrev pub SeesStraight
+    : Straight → List ℕ → List ℕ → Option (List ℕ) → Option (List ℕ) → Type 0
+SeesStraight read old new before after =
+    (came : List ℕ) × (new ≡ old ++ came) × CameStraight read came before after
+
+-- of what was to come these bytes came, and behind them those of the piece, or the end of the input
+abbrev pub Arrives
+    : Arrival → List ℕ → List ℕ → Option (List ℕ) → Option (List ℕ) → Type 0
+Arrives arrival.End came piece before after = Consumes before after came × IsAtEnd after
+Arrives (arrival.Piece count) came piece before after =
+    (count ≤ length piece) × Consumes before after (came ++ take count piece)

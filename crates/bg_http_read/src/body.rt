@@ -1,15 +1,20 @@
 //! A body, which is fed the bytes as they come.
-ghost use Rattle.std.specs.Prelude.{◌≡◌, ◌<◌, ◌≤◌, [], IfOk, IfErr, IsFalse, OnErr, OnOk, drop, length};
+ghost use Rattle.std.specs.Prelude.{◌≡◌, ◌<◌, ◌≤◌, ◌++◌, [], List, ℕ, IfErr, IfOk, IsFalse, OnErr, OnOk};
+ghost use Rattle.std.specs.Prelude.{drop, length};
+ghost use Rattle.std.specs.Io.KnownBytes.{Keeps};
 ghost use Rattle.bg_http_read.specs.Bodies.{Fails, Follows, KeepsLimit, Refuses, Takes, Unchanged};
 ghost use Rattle.bg_http_read.specs.Bodies.{can_end, is_whole};
 ghost use Rattle.bg_http_read.specs.BodyFaults.{cut};
+ghost use Rattle.bg_http_read.specs.Streams.{CameStraight};
 ghost use Rattle.bg_http_read.specs.declared.body.Stage.TheVariants as stage;
 
+use crate::arrival::Straight;
 use crate::chunk_lines::find_line;
-use crate::intake::behind;
+use crate::intake::{behind, read_behind};
 use crate::message_fault::MessageFault;
+use crate::seen::Seen;
 use crate::trailers::find_trailers;
-use bg_http::Bytes;
+use bg_http::{Bytes, Duplex};
 use std::alloc::{AllocError, Global};
 
 /// What comes next of a body.
@@ -105,6 +110,28 @@ impl Body {
             Stage::ToTheEnd | Stage::Whole => true,
             Stage::Line | Stage::Data(_) | Stage::Trailers => false,
         }
+    }
+
+    /// One read of what is missing of a body whose length is known, straight into its own room. The
+    /// bytes that came are put behind those that were seen.
+    pub(crate) fn read_from<S: Duplex>(&mut self, stream: &mut S, seen: &mut Seen) -> Straight
+        requires { KeepsLimit self.old }
+        ensures came { (came : List ℕ) × (seen.new.bytes ≡ seen.old.bytes ++ came)
+            × Follows self.old came self.new [] × CameStraight result came (S.remaining stream.old)
+            (S.remaining stream.new) }
+        ensures kept { Keeps (S.contents stream.old) (S.contents stream.new) }
+        ensures within { KeepsLimit self.new }
+        ensures limit { self.new.limit ≡ self.old.limit }
+    {
+        let Stage::Length(left) = self.stage else {
+            return Straight::Unread;
+        };
+        let start = self.bytes.len();
+        let read = read_behind(stream, &mut self.bytes, left);
+        let came = behind(self.bytes.as_slice(), start);
+        self.stage = Stage::Length(left - came.len());
+        seen.add(came);
+        read
     }
 
     /// Takes all that is its own of the bytes, and says how many these are. Where it isn't whole

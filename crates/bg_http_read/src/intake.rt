@@ -1,9 +1,10 @@
 //! Bytes that were read from a stream and not yet taken.
 ghost use Rattle.std.specs.Prelude.{◌≡◌, ◌<◌, ◌≤◌, ◌++◌, [], IfSome, IsTrue, OnErr, OnOk};
-ghost use Rattle.std.specs.Prelude.{drop, length, take};
+ghost use Rattle.std.specs.Prelude.{List, ℕ, drop, length, take};
 ghost use Rattle.std.specs.Io.KnownBytes.{Consumes, IsAtEnd, Keeps};
-ghost use Rattle.bg_http_read.specs.Streams.{waiting};
+ghost use Rattle.bg_http_read.specs.Streams.{CameStraight, waiting};
 
+use crate::arrival::Straight;
 use bg_http::{Duplex, MOST_TURNS};
 use memchr::memchr;
 use std::alloc::{AllocError, Global};
@@ -61,6 +62,31 @@ pub(crate) fn read_line_piece<S: Duplex>(
         }
     }
     None
+}
+
+/// One read of at most so many bytes, straight behind those of a vector. None is made where no bytes
+/// are wanted, or memory is refused.
+pub(crate) fn read_behind<S: Duplex>(stream: &mut S, bytes: &mut Vec<u8>, most: usize) -> Straight
+    ensures came { (came : List ℕ) × (bytes.new.items ≡ bytes.old.items ++ came)
+        × (length came ≤ most) × CameStraight result came (S.remaining stream.old)
+        (S.remaining stream.new) }
+    ensures kept { Keeps (S.contents stream.old) (S.contents stream.new) }
+{
+    let start = bytes.len();
+    let end = start + most.min(PIECE);
+    if most == 0 || bytes.resize(end, 0).is_err() {
+        return Straight::Unread;
+    }
+    match read_piece(stream, &mut bytes[start..]) {
+        Some(count) => {
+            bytes.truncate(start + count);
+            Straight::Came(count)
+        }
+        None => {
+            bytes.truncate(start);
+            Straight::Failed
+        }
+    }
 }
 
 /// The bytes behind the first ones.

@@ -2,6 +2,7 @@
 //! `bg_http`, and their bodies are read to the end that the rules give.
 #![tactic(auto)]
 
+mod arrival;
 mod body;
 mod chunk_lines;
 mod final_head;

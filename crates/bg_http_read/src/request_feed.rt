@@ -1,15 +1,18 @@
 //! How far a request is read, with the bytes that wait.
 ghost use Rattle.std.specs.Prelude.{◌≡◌, ◌++◌, [], false, List, ℕ, IfErr, IsFalse};
+ghost use Rattle.std.specs.Io.KnownBytes.{Keeps};
 ghost use Rattle.bg_http.specs.declared.request_fault.RequestFault.TheVariants as request_fault;
 ghost use Rattle.bg_http_read.specs.RequestStates.{is_of_stream};
 ghost use Rattle.bg_http_read.specs.RequestsFed.{EndsTo, FedTo, IsFed, IsFedStage, IsOpenStage};
 ghost use Rattle.bg_http_read.specs.RequestsFed.{IsSeen, was_asked};
-ghost use Rattle.bg_http_read.specs.Streams.{waiting};
+ghost use Rattle.bg_http_read.specs.Streams.{SeesStraight, waiting};
 
+use crate::arrival::Straight;
 use crate::intake::{Intake, behind};
 use crate::request_progress::{RequestAdvance, RequestProgress};
 use crate::request_step::RequestStep;
-use bg_http::{Request, RequestFault};
+use crate::seen::Seen;
+use bg_http::{Duplex, Request, RequestFault};
 use std::alloc::Global;
 
 /// How far a request is read, with the bytes that wait. What its contracts say is of the bytes that
@@ -47,6 +50,22 @@ impl RequestFeed {
             Ok(()) => self.look(bytes),
             Err(_) => Err(RequestFault::OutOfMemory),
         }
+    }
+
+    /// One read of what is missing of a body whose length is known, straight into its own room, where
+    /// no bytes wait. Those that came are put behind those that were seen.
+    pub(crate) fn read_body<S: Duplex>(&mut self, stream: &mut S, seen: &mut Seen) -> Straight
+        requires { IsOpenStage self.old.progress.stage }
+        ensures came { SeesStraight result seen.old.bytes seen.new.bytes (S.remaining stream.old)
+            (S.remaining stream.new) }
+        ensures kept { Keeps (S.contents stream.old) (S.contents stream.new) }
+        ensures fed { IsFed self.old seen.old.bytes → IsFed self.new seen.new.bytes }
+        ensures asked { was_asked self.new.progress.stage ≡ was_asked self.old.progress.stage }
+    {
+        if !self.intake.is_empty() {
+            return Straight::Unread;
+        }
+        self.progress.read_body(stream, seen)
     }
 
     /// How many bytes may come before it is worth looking at them, if no line ends: 0 where it may

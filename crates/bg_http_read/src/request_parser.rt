@@ -1,14 +1,19 @@
 //! A request, which is fed the bytes of the input as they come.
-ghost use Rattle.std.specs.Prelude.{◌≡◌, ◌++◌, [], true, false, IfErr, IfOk, IsFalse, IsTrue};
+ghost use Rattle.std.specs.Prelude.{◌≡◌, ◌<◌, ◌++◌, [], true, false, IfErr, IfOk, IfSome, IsFalse, IsTrue};
+ghost use Rattle.std.specs.Prelude.{List, ℕ, length};
+ghost use Rattle.std.specs.Io.KnownBytes.{Keeps};
 ghost use Rattle.bg_http.specs.declared.request_fault.RequestFault.TheVariants as request_fault;
 ghost use Rattle.bg_http_read.specs.RequestStates.{FailsAsked, IfWhole, IsReadAsked, IsRefusedAsked};
 ghost use Rattle.bg_http_read.specs.RequestStates.{LacksRequest, OnContinue, OnMore, OwesContinue};
 ghost use Rattle.bg_http_read.specs.RequestStates.{ReadsAsked, goes_on, is_of_stream};
+ghost use Rattle.bg_http_read.specs.Streams.{Arrives};
 
+use crate::arrival::{Arrival, Straight};
+use crate::intake::read_line_piece;
 use crate::request_feed::RequestFeed;
 use crate::request_step::RequestStep;
 use crate::seen::Seen;
-use bg_http::{Request, RequestFault};
+use bg_http::{Duplex, Request, RequestFault};
 use std::alloc::Global;
 use std::marker::Model;
 
@@ -88,10 +93,32 @@ impl RequestParser {
         answer
     }
 
-    /// How many bytes may come before it is worth feeding them, if no line ends: 0 where it may be
-    /// at any byte.
-    pub(crate) fn line_room(&self) -> usize {
-        self.feed.line_room()
+    /// Reads what comes next: of a body whose length is known, where no bytes wait, straight into its
+    /// own room, and else into the piece. None where reading failed.
+    pub(crate) fn read_more<S: Duplex>(
+        &mut self,
+        stream: &mut S,
+        piece: &mut [u8],
+    ) -> Option<Arrival>
+        requires is_open { IsTrue self.old.is_open }
+        requires room { 0 < length piece.old }
+        ensures came { (came : List ℕ)
+            × (self.new ≡ record self.old { seen = self.old.seen ++ came })
+            × IfSome result (λ arrival. Arrives arrival came piece.new (S.remaining stream.old)
+            (S.remaining stream.new)) }
+        ensures size { length piece.new ≡ length piece.old }
+        ensures kept { Keeps (S.contents stream.old) (S.contents stream.new) }
+    {
+        match self.feed.read_body(stream, &mut self.seen) {
+            Straight::Unread => {}
+            Straight::Failed => return None,
+            Straight::Came(0) => return Some(Arrival::End),
+            Straight::Came(_) => return Some(Arrival::Piece(0)),
+        }
+        match read_line_piece(stream, piece, self.feed.line_room())? {
+            0 => Some(Arrival::End),
+            count => Some(Arrival::Piece(count)),
+        }
     }
 
     /// The request in an input that ends here. Otherwise the fault is Closed, or one that was not

@@ -1,21 +1,25 @@
 //! How far a request is read.
 ghost use Rattle.std.specs.Prelude.{◌≡◌, ◌≤◌, [], false, List, ℕ, IfErr, IfOk, IsFalse, drop, length};
+ghost use Rattle.std.specs.Io.KnownBytes.{Keeps};
 ghost use Rattle.bg_http_read.specs.Bodies.{KeepsLimit};
 ghost use Rattle.bg_http_read.specs.RequestStates.{is_of_stream};
 ghost use Rattle.bg_http_read.specs.RequestsFed.{Advances, AwaitsHead, IsAt, IsFedBody, IsFedStage};
 ghost use Rattle.bg_http_read.specs.RequestsFed.{IsOpenStage, stage_seen, was_asked};
+ghost use Rattle.bg_http_read.specs.Streams.{SeesStraight};
 ghost use Rattle.bg_http.specs.RequestRules.{owes_continue as owed};
 ghost use Rattle.bg_http_read.specs.declared.head_end.HeadEnd.TheVariants as end;
 ghost use Rattle.bg_http_read.specs.declared.request_progress.RequestStage.{RequestStage as Stage};
 ghost use Rattle.bg_http_read.specs.declared.request_progress.RequestStage.TheVariants as part;
 
+use crate::arrival::Straight;
 use crate::head_end::HeadEnd;
 use crate::head_limits::MOST_HEAD;
 use crate::intake::behind;
 use crate::request_body::RequestBody;
 use crate::request_head::find_request_head;
 use crate::request_step::RequestStep;
-use bg_http::{RequestFault, judge_request};
+use crate::seen::Seen;
+use bg_http::{Duplex, RequestFault, judge_request};
 use std::alloc::Global;
 use std::mem;
 
@@ -81,6 +85,22 @@ impl RequestProgress {
         match &self.stage {
             RequestStage::Head(end) if !end.is_over() => MOST_HEAD,
             RequestStage::Head(_) | RequestStage::Body(_) | RequestStage::Done => 0,
+        }
+    }
+
+    /// One read of what is missing of a body whose length is known, straight into its own room. The
+    /// bytes that came are put behind those that were seen.
+    pub(crate) fn read_body<S: Duplex>(&mut self, stream: &mut S, seen: &mut Seen) -> Straight
+        requires { IsOpenStage self.old.stage }
+        ensures came { SeesStraight result seen.old.bytes seen.new.bytes (S.remaining stream.old)
+            (S.remaining stream.new) }
+        ensures kept { Keeps (S.contents stream.old) (S.contents stream.new) }
+        ensures at { IsAt self.old.stage [] seen.old.bytes → IsAt self.new.stage [] seen.new.bytes }
+        ensures asked { was_asked self.new.stage ≡ was_asked self.old.stage }
+    {
+        match &mut self.stage {
+            RequestStage::Body(part) => part.body.read_from(stream, seen),
+            RequestStage::Head(_) | RequestStage::Done => Straight::Unread,
         }
     }
 

@@ -7,7 +7,8 @@ ghost use Rattle.bg_http_read.specs.RequestPieces.{OwesIf, PieceTo};
 ghost use Rattle.bg_http_read.specs.RequestStates.{IsReadAsked, IsRefusedAsked};
 ghost use Rattle.bg_http.specs.declared.request_fault.RequestFault.TheVariants as request_fault;
 
-use crate::intake::{PIECE, read_line_piece};
+use crate::arrival::Arrival;
+use crate::intake::PIECE;
 use crate::request_parser::RequestParser;
 use crate::request_step::RequestStep;
 use bg_http::{Duplex, MOST_TURNS, Request, RequestFault};
@@ -92,12 +93,12 @@ pub fn read_request<S: Duplex>(alloc: Global, stream: &mut S) -> Result<Request,
     let mut parser = RequestParser::new(alloc);
     let mut piece = [0; PIECE];
     for _ in 0..MOST_TURNS {
-        let Some(count) = read_line_piece(stream, &mut piece, parser.line_room()) else {
+        let Some(arrival) = parser.read_more(stream, &mut piece) else {
             return Err(RequestFault::ReadFailed);
         };
-        if count == 0 {
+        let Arrival::Piece(count) = arrival else {
             return parser.end();
-        }
+        };
         match feed_piece(stream, &mut parser, &piece[..count]) {
             Ok(Some(request)) => return Ok(request),
             Ok(None) => {}

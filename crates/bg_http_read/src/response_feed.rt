@@ -1,5 +1,6 @@
 //! How far a response is read, with the bytes that wait.
 ghost use Rattle.std.specs.Prelude.{◌≡◌, ◌++◌, [], List, ℕ, IfErr, IfOk, IfNone, IfSome, IsFalse};
+ghost use Rattle.std.specs.Io.KnownBytes.{Keeps};
 ghost use Rattle.bg_http.specs.declared.request.Request.{Request as RequestValue};
 ghost use Rattle.bg_http.specs.declared.response_fault.ResponseFault.TheVariants as response_fault;
 ghost use Rattle.bg_http_read.specs.Responses.{ReadsResponse, ResponseFails};
@@ -7,11 +8,13 @@ ghost use Rattle.bg_http_read.specs.ResponsesFed.{IsFed, IsOpen};
 ghost use Rattle.bg_http_read.specs.ResponseStates.{IsRead};
 ghost use Rattle.bg_http_read.specs.ResponsesFed.{IsOpenStage, IsSeen};
 ghost use Rattle.bg_http_read.specs.ResponseStates.{IsRefused, NeedsMore, is_of_stream};
-ghost use Rattle.bg_http_read.specs.Streams.{waiting};
+ghost use Rattle.bg_http_read.specs.Streams.{SeesStraight, waiting};
 
+use crate::arrival::Straight;
 use crate::intake::{Intake, behind};
 use crate::response_progress::{Advance, ResponseProgress};
-use bg_http::{Request, Response, ResponseFault};
+use crate::seen::Seen;
+use bg_http::{Duplex, Request, Response, ResponseFault};
 use std::alloc::Global;
 
 /// How far a response is read, with the bytes that wait. What its contracts say is of the bytes that
@@ -57,6 +60,24 @@ impl<'a> ResponseFeed<'a> {
             Ok(()) => self.look(bytes),
             Err(_) => Err(ResponseFault::OutOfMemory),
         }
+    }
+
+    /// One read of what is missing of a body whose length is known, straight into its own room, where
+    /// no bytes wait. Those that came are put behind those that were seen.
+    pub(crate) fn read_body<S: Duplex>(&mut self, stream: &mut S, seen: &mut Seen) -> Straight
+        requires { IsOpen self.old }
+        ensures came { SeesStraight result seen.old.bytes seen.new.bytes (S.remaining stream.old)
+            (S.remaining stream.new) }
+        ensures kept { Keeps (S.contents stream.old) (S.contents stream.new) }
+        ensures fed { (request : RequestValue) → IsFed self.old request seen.old.bytes
+            → IsFed self.new request seen.new.bytes }
+        ensures goes_on { IsOpen self.new }
+        ensures request { self.new.progress.request.now ≡ self.old.progress.request.now }
+    {
+        if !self.intake.is_empty() {
+            return Straight::Unread;
+        }
+        self.progress.read_body(stream, seen)
     }
 
     /// How many bytes may come before it is worth looking at them, if no line ends: 0 where it may

@@ -1,5 +1,6 @@
 //! How far a response is read.
-ghost use Rattle.std.specs.Prelude.{◌≡◌, ◌≤◌, List, ℕ, IfErr, IfOk, IfNone, IsFalse, drop, length};
+ghost use Rattle.std.specs.Prelude.{◌≡◌, ◌≤◌, [], List, ℕ, IfErr, IfOk, IfNone, IsFalse, drop, length};
+ghost use Rattle.std.specs.Io.KnownBytes.{Keeps};
 ghost use Rattle.bg_http.specs.declared.request.Request.{Request as RequestValue};
 ghost use Rattle.bg_http.specs.declared.response_fault.ResponseFault.TheVariants as response_fault;
 ghost use Rattle.bg_http_read.specs.Bodies.{KeepsLimit};
@@ -8,11 +9,14 @@ ghost use Rattle.bg_http_read.specs.ResponsesFed.{Advances, AwaitsHead, IsFedBod
 ghost use Rattle.bg_http_read.specs.ResponsesFed.{IsOpenStage, IsReady, IsSeen, Starts, WantsStage};
 ghost use Rattle.bg_http_read.specs.ResponsesFed.{stage_seen};
 ghost use Rattle.bg_http_read.specs.ResponseStates.{is_of_stream};
+ghost use Rattle.bg_http_read.specs.Streams.{SeesStraight};
 
+use crate::arrival::Straight;
 use crate::final_head::{HeadFound, HeadSearch};
 use crate::intake::behind;
 use crate::response_body::ResponseBody;
-use bg_http::{Request, Response, ResponseFault};
+use crate::seen::Seen;
+use bg_http::{Duplex, Request, Response, ResponseFault};
 use std::alloc::Global;
 use std::mem;
 
@@ -81,6 +85,25 @@ impl<'a> ResponseProgress<'a> {
         match &self.stage {
             ResponseStage::Heads(search) => search.line_limit(),
             ResponseStage::Body(_) | ResponseStage::Done => 0,
+        }
+    }
+
+    /// One read of what is missing of a body whose length is known, straight into its own room. The
+    /// bytes that came are put behind those that were seen.
+    pub(crate) fn read_body<S: Duplex>(&mut self, stream: &mut S, seen: &mut Seen) -> Straight
+        requires { IsOpenStage self.old.stage }
+        ensures came { SeesStraight result seen.old.bytes seen.new.bytes (S.remaining stream.old)
+            (S.remaining stream.new) }
+        ensures kept { Keeps (S.contents stream.old) (S.contents stream.new) }
+        ensures fed { (request : RequestValue) → IsFedStage request self.old.stage [] seen.old.bytes
+            → IsFedStage request self.new.stage [] seen.new.bytes }
+        ensures goes_on { IsOpenStage self.new.stage }
+        ensures sees { IsSeen self.old.stage [] → IsSeen self.new.stage [] }
+        ensures request { self.new.request.now ≡ self.old.request.now }
+    {
+        match &mut self.stage {
+            ResponseStage::Body(part) => part.body.read_from(stream, seen),
+            ResponseStage::Heads(_) | ResponseStage::Done => Straight::Unread,
         }
     }
 

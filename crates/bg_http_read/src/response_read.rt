@@ -2,7 +2,8 @@
 ghost use Rattle.std.specs.Prelude.{IfErr, IfOk, IfSome};
 ghost use Rattle.bg_http_read.specs.Responses.{ReadsResponse, ResponseFails};
 
-use crate::intake::{PIECE, read_line_piece};
+use crate::arrival::Arrival;
+use crate::intake::PIECE;
 use crate::one_way::OneWay;
 use crate::response_parser::ResponseParser;
 use bg_http::{Duplex, MOST_TURNS, Request, Response, ResponseFault};
@@ -23,12 +24,12 @@ fn read_response_from<S: Duplex>(
     let mut parser = ResponseParser::new(alloc, request);
     let mut piece = [0; PIECE];
     for _ in 0..MOST_TURNS {
-        let Some(count) = read_line_piece(stream, &mut piece, parser.line_room()) else {
+        let Some(arrival) = parser.read_more(stream, &mut piece) else {
             return Err(ResponseFault::ReadFailed);
         };
-        if count == 0 {
+        let Arrival::Piece(count) = arrival else {
             return parser.end();
-        }
+        };
         if let Some(response) = parser.feed(&piece[..count])? {
             return Ok(response);
         }
