@@ -1,5 +1,6 @@
 pub mod Appended
 pub mod Digits
+pub mod FieldLoops
 pub mod GivenLengths
 pub mod KeptFields
 pub mod NamedCodings

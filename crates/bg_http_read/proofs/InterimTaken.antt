@@ -1,5 +1,5 @@
 -- Interim responses and the head after them, at the front of bytes.
-use Rattle.std.proofs.Common.{◌≡◌, true, ℕ, zero, suc, ◌≤◌, List, ◌++◌, refl, ap, ◌∙◌, arith, Ok, Err, Option, Some, None, IfSome}
+use Rattle.std.proofs.Common.{◌≡◌, true, ℕ, zero, suc, ◌≤◌, List, ◌++◌, refl, ap, ◌∙◌, arith, Ok, Err, Option, Some, None, IfSome, IsFalse}
 use Rattle.bg_http.specs.ResponseRules.{response_framing}
 use Rattle.bg_http.specs.declared.request.Request.{Request}
 use Rattle.bg_http.specs.declared.response.ResponseHead.{ResponseHead}
@@ -58,6 +58,20 @@ skips_next request count input before after head named skips reads judged anothe
     only framing.Chunks t = cc
     only (framing.Length size) t = cc
     only framing.ToTheEnd t = cc
+
+-- a head that isn't interim
+pub final_found : (request : Request) (count : ℕ) (input before after : List ℕ)
+    (head : ResponseHead) (named : ResponseFraming) → count ≤ 16
+    → SkipsInterim request count input before → ReadsResponseHead before head after
+    → response_framing request head ≡ Ok named → IsFalse (names_another named)
+    → AfterInterim request input (IsFinalHead request head named after)
+final_found request count input before after head named few skips reads judged last = record {
+  count = count;
+  few = few;
+  after = before;
+  skips = skips;
+  holds = (record { reads = reads; judged = judged }, last);
+}
 
 -- the head breaks a rule
 pub rule_refuses : (request : Request) (count : ℕ) (input before after : List ℕ)

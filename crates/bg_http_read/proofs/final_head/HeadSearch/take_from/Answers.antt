@@ -1,11 +1,11 @@
-use Rattle.std.proofs.Common.{rules, ◌≡◌, ◌+◌, suc, true, IsFalse, arith, drop, length, ap, subst, sym}
+use Rattle.std.proofs.Common.{rules, ◌≡◌, ◌+◌, suc, true, IsFalse, arith, drop, length, ap, subst, sym, ◌∙◌}
 use Rattle.std.proofs.lemmas.List.{drop-drop, length-drop}
 use Rattle.bg_http_read.specs.ResponseHeads.{ReadsResponseHead}
 use Rattle.bg_http_read.specs.Responses.{SkipsInterim, names_another}
 use Rattle.bg_http_read.specs.ResponseStates.{IsRefused, is_of_stream}
 use Rattle.bg_http_read.specs.HeadFaults.{ResponseHeadFails}
 use Rattle.bg_http_read.specs.MessageFaults.{as_response}
-use Rattle.bg_http_read.proofs.InterimTaken.{head_refuses, rule_refuses, many_refuse, skips_next}
+use Rattle.bg_http_read.proofs.InterimTaken.{final_found, head_refuses, rule_refuses, many_refuse, skips_next}
 use Rattle.bg_http_read.proofs.StreamFaults.{if_err_is, judged_of_bytes}
 use Rattle.bg_http_read.proofs.final_head.HeadSearch.take_from.Goals as goal
 
@@ -33,6 +33,16 @@ returns-in_err-framing-clause-fault c =
     let e = c.in_err-framing.field-0.0 in
     if_err_is (λ fault. IsFalse (is_of_stream fault)) c.from_residual-in_err-framing.result e c.from_residual-in_err-framing.ensures.1
     (judged_of_bytes c.args.request.now c.in-Some.head e (sym c.in_err-framing.ensures))
+
+pub returns-then-not-names_another-clause-head : goal.returns-then-not-names_another-clause-head
+returns-then-not-names_another-clause-head c seen skips =
+    let w = drop c.loop-self.taken c.args.bytes.now in
+    let found = rw c.in-Some.is at c.in_ok-found.ensures.head in
+    let reads = subst (λ l. ReadsResponseHead l c.in-Some.head (drop c.in-Some.count l)) c.behind-rest.ensures found in
+    final_found c.args.request.now c.loop-self.self.interim seen w (drop (c.loop-self.taken + c.in-Some.count) c.args.bytes.now) c.in-Some.head
+    c.in_ok-framing.framing (omega (arith, c.loop-self-test.true)) (c.loop-self.invariant.skips seen skips)
+    (subst (ReadsResponseHead w c.in-Some.head) (drop-drop c.in-Some.count c.loop-self.taken c.args.bytes.now) reads)
+    (sym c.in_ok-framing.ensures) (sym c.names_another.ensures ∙ c.if-not-names_another.true)
 
 pub returns-clause-refused : goal.returns-clause-refused
 returns-clause-refused c seen skips =
