@@ -1,8 +1,9 @@
 -- What a call makes of a book.
-use Rattle.std.specs.Prelude.{◌≡◌, ℕ, List, ◌<◌, [], length, slice_get, Some, replicate}
+use Rattle.std.specs.Prelude.{◌≡◌, ℕ, List, ◌<◌, ◌∷◌, [], length, slice_get, Some, replicate}
 use Rattle.bg_rollout.specs.declared.limits.Limits.{Limits}
 use Rattle.bg_strategy.specs.declared.strategy.Strategy.{Strategy}
 use Rattle.bg_revisions.specs.declared.revision.Service.{Service}
+use Rattle.bg_revisions.specs.Rosters.{Listing}
 use Rattle.bg_history.specs.declared.entry.Entry.{Entry}
 use Rattle.bg_history.specs.declared.entry.Entry.TheVariants.{Enter}
 use Rattle.bg_history.specs.declared.entry.Outcome.{Outcome}
@@ -25,6 +26,15 @@ pub record Stepped (s : Strategy) (e : Entry) (past new : List Entry) (n : ℕ) 
 pub record NewSeats (count : ℕ) (seats : List Holding) : Type 0 where
   pub count_is : length seats ≡ count
   pub each : (i : ℕ) → i < count → slice_get seats i ≡ Some (fresh i)
+
+-- the roster of an opening: revision 1 alone, of full size
+abbrev pub first_listing : ℕ → List ℕ → List ℕ → Listing
+first_listing replicas name ports = record {
+  replicas = replicas;
+  revisions = record { number = 1; name = name; ports = ports; desired = replicas; available = 0 }
+      ∷ [];
+  last = 1;
+}
 
 -- a book that was just opened
 abbrev pub opened : Strategy → List ℕ → List ℕ → ℕ → Limits → List Holding → Routing

@@ -1,6 +1,9 @@
 //! Which event is refused, and how one that isn't is recorded.
-ghost use Rattle.std.specs.Prelude.{◌≡◌, ◌≤◌, ◌+◌, ◌*◌, length, MatchResult, IfOk, OnOk, Some, None};
+ghost use Rattle.std.specs.Prelude.{◌≡◌, ◌≤◌, ◌+◌, ◌*◌, length, MatchResult, IfOk, OnOk, nat_le, Some, None};
+ghost use Rattle.bg_history.specs.Sizes.{existing};
 ghost use Rattle.bg_history.specs.Templates.{owner};
+ghost use Rattle.bg_history.specs.Turns.{newest_of};
+ghost use Rattle.bg_history_listing.specs.Answers.{template_answer};
 ghost use Rattle.bg_rollout.specs.Refusals.{all_open, control_refusal, deploy_fault, event_fault, event_of, refuse};
 ghost use Rattle.bg_rollout.specs.Judging.{entry_of, IsAccepted};
 ghost use Rattle.bg_rollout.specs.declared.control.Control.TheVariants as control;
@@ -14,7 +17,7 @@ use bg_history::Entry;
 use bg_history_facts::laws::reachable;
 use bg_history_listing::laws::{finds, names};
 use bg_ledger::Names;
-use bg_revisions::MOST_REVISIONS;
+use bg_revisions::{MOST_REVISIONS, RevisionFault};
 
 /// The greatest moment, in seconds from the start.
 const LAST_MOMENT: u64 = 1 << 53;
@@ -109,16 +112,33 @@ impl<N: Names> Rollout<N> {
         ensures owner { let b = self.now.routing in
             IfOk result (λ r. r ≡ owner b.opening name.now b.past) }
     {
-        finds();
-        names();
-        reachable();
         self.roster.fits(name, ports)?;
-        let newest = self.core.selectors().newest;
-        let found = self.roster.find_template(newest, name, ports)?;
-        if found.is_none() && self.roster.count() >= MOST_REVISIONS {
+        let found = self.find_owner(name, ports)?;
+        if found.is_none() && self.has_all_revisions() {
             return Err(ControlFault::TooManyRevisions);
         }
         Ok(found)
+    }
+
+    /// Finds the fault of a template beside those of the revisions, or the revision that has its name.
+    fn find_owner(&self, name: &str, ports: &[u16]) -> Result<Option<u64>, RevisionFault>
+        ensures answer { let b = self.now.routing in
+            result ≡ template_answer b.opening (newest_of b.past) name.now ports.now b.past }
+        ensures owner { let b = self.now.routing in
+            IfOk result (λ r. r ≡ owner b.opening name.now b.past) }
+    {
+        names();
+        reachable();
+        let newest = self.core.selectors().newest;
+        self.roster.find_template(newest, name, ports)
+    }
+
+    /// Whether as many revisions exist as there may be.
+    fn has_all_revisions(&self) -> bool
+        ensures { result ≡ nat_le 64 (length (existing self.now.routing.past)) }
+    {
+        finds();
+        self.roster.count() >= MOST_REVISIONS
     }
 
     /// Finds the fault of a report of endpoints.

@@ -1,9 +1,9 @@
 //! How a rollout is opened.
-ghost use Rattle.std.specs.Prelude.{◌≡◌, ◌≤◌, true, [], ◌∷◌, IfOk, IfErr, None, vec_capacity};
+ghost use Rattle.std.specs.Prelude.{◌≡◌, ◌≤◌, true, [], ◌∷◌, IfOk, IfErr, None, replicate, vec_capacity};
 ghost use Rattle.bg_ledger.specs.Blanks.{AreAllFor};
 ghost use Rattle.bg_revisions.specs.Rosters.{has_form};
 ghost use Rattle.bg_rollout.specs.Refusals.{open_refusal, AnswersBy};
-ghost use Rattle.bg_rollout.specs.Changes.{opened, NewSeats};
+ghost use Rattle.bg_rollout.specs.Changes.{first_listing, opened, NewSeats};
 ghost use Rattle.bg_rollout.specs.Gathering.{are_all};
 ghost use Rattle.bg_rollout.specs.declared.fault.OpenFault.TheVariants.{OutOfMemory};
 
@@ -99,19 +99,14 @@ impl<N: Names> Rollout<N> {
         ensures seats { IfOk result (λ r. NewSeats seats r.1.items) }
         ensures err { IfErr result (λ e. e ≡ OutOfMemory) }
     {
+        let (history, roster, lists) = first_parts(alloc, strategy.replicas, seats, name, ports)?;
+        let (records, handed_out) = new_seats::<N>(alloc, seats, blanks)?;
         let core = Core::new(&strategy);
         let deadlines = Deadlines::new(
             strategy.delay,
             strategy.abort_delay,
             strategy.revision_limit,
         );
-        let history = History::new(alloc, seats, name, ports)?;
-        let roster = first_roster(alloc, strategy.replicas, name, ports)?;
-        let lists = RequestLists::new(alloc)?;
-        let mut records = Vec::with_capacity(alloc, seats as usize)?;
-        let mut handed_out = Vec::with_capacity(alloc, seats as usize)?;
-        // A seat can't be dropped, so they are paired once all memory is taken.
-        pair_all::<N>(seats, blanks, &mut records, &mut handed_out);
         let rollout = Rollout {
             strategy,
             limits,
@@ -155,6 +150,35 @@ fn opening_fault(
     None
 }
 
+/// The history of an opening, the roster of revision 1 alone, and its list of requests; refused only
+/// where memory is.
+fn first_parts(
+    alloc: Global,
+    replicas: u32,
+    seats: u32,
+    name: &str,
+    ports: &[u16],
+) -> Result<(History, Roster, RequestLists), OpenFault>
+    requires { has_form replicas name.now ports.now ≡ true }
+    ensures history { IfOk result (λ r. r.0 ≡ record {
+      opening = record {
+        seats = seats;
+        template = record { name = name.now; ports = ports.now };
+      };
+      closed = replicate seats 0;
+      past = [];
+      spare = 0;
+    }) }
+    ensures roster { IfOk result (λ r. r.1 ≡ first_listing replicas name.now ports.now) }
+    ensures lists { IfOk result (λ r. r.2 ≡ record { revision = 1; requests = [] } ∷ []) }
+    ensures err { IfErr result (λ e. e ≡ OutOfMemory) }
+{
+    let history = History::new(alloc, seats, name, ports)?;
+    let roster = first_roster(alloc, replicas, name, ports)?;
+    let lists = RequestLists::new(alloc)?;
+    Ok((history, roster, lists))
+}
+
 /// The roster of revision 1 alone.
 fn first_roster(
     alloc: Global,
@@ -163,17 +187,7 @@ fn first_roster(
     ports: &[u16],
 ) -> Result<Roster, OpenFault>
     requires { has_form replicas name.now ports.now ≡ true }
-    ensures ok { IfOk result (λ r. r ≡ record {
-      replicas = replicas;
-      revisions = record {
-        number = 1;
-        name = name.now;
-        ports = ports.now;
-        desired = replicas;
-        available = 0;
-      } ∷ [];
-      last = 1;
-    }) }
+    ensures ok { IfOk result (λ r. r ≡ first_listing replicas name.now ports.now) }
     ensures err { IfErr result (λ e. e ≡ OutOfMemory) }
 {
     let mut roster = Roster::new(alloc, replicas)?;
@@ -181,6 +195,25 @@ fn first_roster(
         Ok(_first) => Ok(roster),
         Err(_refused) => Err(OpenFault::OutOfMemory),
     }
+}
+
+/// The records of so many seats, and the seats, in order of index; refused only where memory is.
+fn new_seats<N: Names>(
+    alloc: Global,
+    count: u32,
+    blanks: Blanks,
+) -> Result<(Vec<SeatRecord<N>>, Vec<Seat<N>>), OpenFault>
+    requires blanks { AreAllFor N.Names blanks }
+    requires count { N.seats ≡ count }
+    ensures seats { IfOk result (λ r. NewSeats count r.1.items) }
+    ensures records { IfOk result (λ r. r.0.items ≡ r.1.items) }
+    ensures err { IfErr result (λ e. e ≡ OutOfMemory) }
+{
+    let mut records = Vec::with_capacity(alloc, count as usize)?;
+    let mut seats = Vec::with_capacity(alloc, count as usize)?;
+    // A seat can't be dropped, so they are paired once all memory is taken.
+    pair_all::<N>(count, blanks, &mut records, &mut seats);
+    Ok((records, seats))
 }
 
 /// Pairs as many seats with their records, in order of index. Takes no memory.
