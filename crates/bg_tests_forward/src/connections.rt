@@ -4,14 +4,17 @@ ghost use Rattle.bg_forward.specs.Buffers.{held};
 ghost use Rattle.bg_rollout.specs.Gathering.{indices};
 ghost use Rattle.bg_ledger.specs.Blanks.{AreAllFor};
 
+use crate::books::{close, open, tell_available};
 use crate::fakes::{Asked, Endpoint, Line, Pace, Seen, Shut, Uses};
 use crate::samples::strategy;
 use bg_audit::audit;
 use bg_book::laws::{lent, same_order};
-use bg_book::{Book, Control, Desk, Limits};
+use bg_book::{Desk, Limits};
 use bg_forward::{Buffered, Dial, Door, End, Gate, Served, serve_one};
+use bg_history::History;
 use bg_ledger::{Blanks, Names, Seat};
 use bg_revisions::Service;
+use bg_strategy::Strategy;
 use std::alloc::Global;
 use std::marker::Brand;
 use std::sync::Wait;
@@ -60,6 +63,22 @@ impl<'a> Setting<'a> {
             response: response.as_bytes(),
             endpoint: Pace::steady(),
             forwarded: forwarded.as_bytes(),
+        }
+    }
+
+    /// The client's stream.
+    fn line(&self, alloc: Global) -> Line<'a> {
+        Line::waiting(alloc, self.request, self.rest, self.client)
+    }
+
+    fn endpoint(&self, alloc: Global, seen: &'a Seen) -> Endpoint<'a> {
+        Endpoint {
+            alloc,
+            port: self.port,
+            answer: self.response,
+            wanted: self.forwarded,
+            pace: self.endpoint,
+            seen,
         }
     }
 }
@@ -143,82 +162,84 @@ fn state_of_first<N: Names>(seats: &[Seat<N>]) -> (u64, bool) {
     }
 }
 
-fn serve_over<N: Names, R: Wait>(
+/// What became of the seat of a book, and of the book.
+#[derive(Drop)]
+struct Closed {
+    /// What became of the connection; none where there was no seat.
+    served: Option<Served>,
+    /// How many calls the seat was answered, and whether it is out.
+    calls: u64,
+    is_out: bool,
+    history: History,
+}
+
+/// Serves a client at the one seat of a book, and closes the book.
+fn serve_over<N: Names, R: Wait, D: Dial>(
     rt: &R,
     alloc: Global,
+    strategy: &Strategy,
     setting: &Setting,
+    client: &mut Buffered<Line>,
+    dial: &D,
+    questions: &AtomicU64,
     blanks: Blanks,
-) -> Result<Option<Outcome>, Fail>
+) -> Result<Closed, Fail>
     requires blanks { AreAllFor N.Names blanks }
     requires seats { N.seats ≡ 1 }
+    requires empty { held client.old ≡ [] }
 {
     lent();
-    let strategy = strategy(alloc)?;
-    let available = Control::Available {
-        revision: 1,
-        size: setting.available,
-    };
-    let seen = Seen::new();
-    let questions = AtomicU64::new(0);
-    let endpoint = Endpoint {
-        alloc,
-        port: setting.port,
-        answer: setting.response,
-        wanted: setting.forwarded,
-        pace: setting.endpoint,
-        seen: &seen,
-    };
-    let line = Line::waiting(alloc, setting.request, setting.rest, setting.client);
-    let mut client = Buffered::new(alloc, line);
-    let mut written = Vec::new(alloc);
-    let (book, mut seats) = Book::<N>::open(
-        alloc,
-        &strategy,
-        "v1",
-        &[9001, 9002],
-        1,
-        Limits::usual(),
-        blanks,
-    )?;
-    let desk = Desk::new(book);
-    let told = desk.control(rt, &available);
+    let (desk, mut seats) = open::<N>(alloc, strategy, 1, Limits::usual(), blanks)?;
+    let told = tell_available(rt, &desk, setting.available);
+    let lent_seats = seats.as_mut_slice();
     let served = serve_at(
-        rt,
-        alloc,
-        &desk,
-        seats.as_mut_slice(),
-        setting,
-        &mut client,
-        &endpoint,
-        &questions,
+        rt, alloc, &desk, lent_seats, setting, client, dial, questions,
     );
     let (calls, is_out) = state_of_first(&seats);
-    let history = desk.into_book().close(seats);
-    let is_legal = audit(alloc, &history, &strategy)?;
+    let history = close(desk, seats);
     let _outcomes = told?;
-    let Some(served) = served else {
-        return Ok(None);
-    };
-    written.extend_from_slice(client.get_ref().shows())?;
-    Ok(Some(Outcome {
-        entered: served.entered.is_some(),
-        end: served.end,
-        written,
-        client: client.get_ref().uses(),
-        endpoint: Uses {
-            reads: seen.reads.load(Ordering::SeqCst),
-            writes: seen.writes.load(Ordering::SeqCst),
-        },
-        questions: questions.load(Ordering::SeqCst),
+    Ok(Closed {
+        served,
         calls,
         is_out,
-        is_legal,
-        dialled: seen.dialled.load(Ordering::SeqCst),
-        forwarded: seen.forwarded.load(Ordering::SeqCst),
-    }))
+        history,
+    })
 }
 
 /// What comes of a connection.
 pub fn serve<R: Wait>(rt: &R, alloc: Global, setting: &Setting) -> Result<Option<Outcome>, Fail> {
-    serve_over::<Brand, R>(rt, alloc, setting, Blanks::new())
+    let strategy = strategy(alloc)?;
+    let seen = Seen::new();
+    let questions = AtomicU64::new(0);
+    let endpoint = setting.endpoint(alloc, &seen);
+    let mut client = Buffered::new(alloc, setting.line(alloc));
+    let closed = serve_over::<Brand, R, Endpoint>(
+        rt,
+        alloc,
+        &strategy,
+        setting,
+        &mut client,
+        &endpoint,
+        &questions,
+        Blanks::new(),
+    )?;
+    let Some(served) = closed.served else {
+        return Ok(None);
+    };
+    let line = client.get_ref();
+    let mut written = Vec::new(alloc);
+    written.extend_from_slice(line.shows())?;
+    Ok(Some(Outcome {
+        entered: served.entered.is_some(),
+        end: served.end,
+        written,
+        client: line.uses(),
+        endpoint: seen.uses(),
+        questions: questions.load(Ordering::SeqCst),
+        calls: closed.calls,
+        is_out: closed.is_out,
+        is_legal: audit(alloc, &closed.history, &strategy)?,
+        dialled: seen.dialled.load(Ordering::SeqCst),
+        forwarded: seen.forwarded.load(Ordering::SeqCst),
+    }))
 }

@@ -4,6 +4,9 @@ use crate::connections::Setting;
 use crate::fakes::{Interruptions, Pace};
 use crate::messages::{CHUNKS, CHUNKS_ON, GET, GET_ON, expect, refusal};
 use bg_forward::End;
+use std::alloc::Global;
+use std::process::Abort;
+use std::sync::Wait;
 use std::test::Fail;
 
 /// An endpoint that is read in one piece or in several, and one whose reads are interrupted.
@@ -33,6 +36,30 @@ fn asks_before_each_read(rt: HostRuntime) -> Result<(), Fail> {
     Ok(())
 }
 
+/// How often the gate is asked where it gives nothing up.
+fn questions<R: Abort + Wait>(rt: &R, alloc: Global, sound: &Setting) -> Result<u64, Fail> {
+    let whole = expect(rt, alloc, sound, End::Answered(200), CHUNKS_ON, 2)?;
+    Ok(whole.questions)
+}
+
+/// A request that is given up at a question.
+fn cut_at_question<R: Abort + Wait>(
+    rt: &R,
+    alloc: Global,
+    sound: &Setting,
+    cut_at: u64,
+) -> Result<(), Fail> {
+    let setting = Setting { cut_at, ..*sound };
+    let outcome = expect(rt, alloc, &setting, End::Refused(503), refusal(503), 2)?;
+    assert_eq!(rt; outcome.questions, cut_at);
+    assert_eq!(rt; outcome.dialled, 1);
+    // the first question comes before the request is written, and each other one before a read
+    assert_eq!(rt; outcome.forwarded, if cut_at == 1 { 0 } else { 1 });
+    assert_eq!(rt; outcome.endpoint.writes == 0, cut_at == 1);
+    assert_eq!(rt; outcome.endpoint.reads, cut_at.saturating_sub(2));
+    Ok(())
+}
+
 #[test]
 fn cut(rt: HostRuntime) -> Result<(), Fail> {
     for endpoint in paces() {
@@ -40,24 +67,16 @@ fn cut(rt: HostRuntime) -> Result<(), Fail> {
             endpoint,
             ..Setting::new(GET, GET_ON, CHUNKS)
         };
-        let whole = expect(&rt, rt.alloc(), &sound, End::Answered(200), CHUNKS_ON, 2)?;
-        assert!(rt; whole.questions >= 2);
-        for cut_at in 1..=whole.questions {
-            let setting = Setting { cut_at, ..sound };
-            let end = End::Refused(503);
-            let outcome = expect(&rt, rt.alloc(), &setting, end, refusal(503), 2)?;
-            assert_eq!(rt; outcome.questions, cut_at);
-            assert_eq!(rt; outcome.dialled, 1);
-            // the first question comes before the request is written, and each other one before a read
-            assert_eq!(rt; outcome.forwarded, if cut_at == 1 { 0 } else { 1 });
-            assert_eq!(rt; outcome.endpoint.writes == 0, cut_at == 1);
-            assert_eq!(rt; outcome.endpoint.reads, cut_at.saturating_sub(2));
+        let count = questions(&rt, rt.alloc(), &sound)?;
+        assert!(rt; count >= 2);
+        for cut_at in 1..=count {
+            cut_at_question(&rt, rt.alloc(), &sound, cut_at)?;
         }
         let later = Setting {
-            cut_at: whole.questions.saturating_add(1),
+            cut_at: count.saturating_add(1),
             ..sound
         };
-        let _outcome = expect(&rt, rt.alloc(), &later, End::Answered(200), CHUNKS_ON, 2)?;
+        let _questions = questions(&rt, rt.alloc(), &later)?;
     }
     Ok(())
 }

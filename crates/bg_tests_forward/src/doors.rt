@@ -3,13 +3,16 @@ ghost use Rattle.std.specs.Prelude.{◌≡◌};
 ghost use Rattle.bg_rollout.specs.Gathering.{indices};
 ghost use Rattle.bg_ledger.specs.Blanks.{AreAllFor};
 
+use crate::books::{close, open, tell_available};
 use crate::samples::strategy;
 use bg_audit::audit;
 use bg_book::laws::{lent, same_order};
-use bg_book::{Book, Control, Desk, Limits};
+use bg_book::{Desk, Limits};
 use bg_forward::{Door, Gate};
+use bg_history::History;
 use bg_ledger::{Blanks, Names, Seat};
 use bg_revisions::Service;
+use bg_strategy::Strategy;
 use std::alloc::Global;
 use std::marker::Brand;
 use std::sync::Wait;
@@ -71,46 +74,38 @@ struct Passed {
     is_legal: bool,
 }
 
-/// Lets requests pass the door of a book of one seat and few entries.
-fn pass<N: Names, R: Wait>(rt: &R, alloc: Global, blanks: Blanks) -> Result<Passed, Fail>
+/// Lets requests pass the door of a book of one seat and few entries. Gives how many entered, and the history.
+fn pass<N: Names, R: Wait>(
+    rt: &R,
+    alloc: Global,
+    strategy: &Strategy,
+    blanks: Blanks,
+) -> Result<(u64, History), Fail>
     requires blanks { AreAllFor N.Names blanks }
     requires seats { N.seats ≡ 1 }
 {
     lent();
-    let strategy = strategy(alloc)?;
-    let available = Control::Available {
-        revision: 1,
-        size: 2,
-    };
     let limits = Limits {
         entries: ENTRIES,
         numbers: 1 << 53,
     };
-    let (book, mut seats) = Book::<N>::open(
-        alloc,
-        &strategy,
-        "v1",
-        &[9001, 9002],
-        1,
-        limits,
-        blanks,
-    )?;
-    let desk = Desk::new(book);
-    let told = desk.control(rt, &available);
+    let (desk, mut seats) = open::<N>(alloc, strategy, 1, limits, blanks)?;
+    let told = tell_available(rt, &desk, 2);
     let entered = pass_first(rt, &desk, seats.as_mut_slice());
-    let history = desk.into_book().close(seats);
-    let is_legal = audit(alloc, &history, &strategy)?;
+    let history = close(desk, seats);
     let _outcomes = told?;
+    Ok((entered, history))
+}
+
+fn with_new_names<R: Wait>(rt: &R, alloc: Global) -> Result<Passed, Fail> {
+    let strategy = strategy(alloc)?;
+    let (entered, history) = pass::<Brand, R>(rt, alloc, &strategy, Blanks::new())?;
     Ok(Passed {
         entered,
         closed: history.closed(0),
         entries: history.len(),
-        is_legal,
+        is_legal: audit(alloc, &history, &strategy)?,
     })
-}
-
-fn with_new_names<R: Wait>(rt: &R, alloc: Global) -> Result<Passed, Fail> {
-    pass::<Brand, R>(rt, alloc, Blanks::new())
 }
 
 #[test]

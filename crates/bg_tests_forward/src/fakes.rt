@@ -191,6 +191,14 @@ impl Seen {
             writes: AtomicU64::new(0),
         }
     }
+
+    /// How often the connections were read and written.
+    pub fn uses(&self) -> Uses {
+        Uses {
+            reads: self.reads.load(Ordering::SeqCst),
+            writes: self.writes.load(Ordering::SeqCst),
+        }
+    }
 }
 
 /// An endpoint at one port, which gives each connection the same answer.

@@ -2,11 +2,14 @@
 //! again would succeed.
 
 use crate::connections::Setting;
-use crate::fakes::{CONTINUE, Pace};
+use crate::fakes::{CONTINUE, Pace, Uses};
 use crate::messages::{
     CHUNKS, CHUNKS_ON, EXPECTS, EXPECTS_ANSWERED, EXPECTS_ON, GET, GET_ON, ends, expect, refusal,
 };
 use bg_forward::End;
+use std::alloc::Global;
+use std::process::Abort;
+use std::sync::Wait;
 use std::test::Fail;
 
 /// What a client is written that waits for `100 Continue` before a bad gateway.
@@ -39,96 +42,159 @@ fn exchanges() -> [Exchange; 2] {
     [plain, waiting]
 }
 
+/// How often the client and the endpoint are read and written where nothing fails.
+#[derive(Clone, Copy, Drop)]
+struct SoundUses {
+    client: Uses,
+    endpoint: Uses,
+}
+
+fn sound_uses<R: Abort + Wait>(
+    rt: &R,
+    alloc: Global,
+    exchange: &Exchange,
+) -> Result<SoundUses, Fail> {
+    let sound = ends(rt, alloc, &exchange.setting, End::Answered(200))?;
+    Ok(SoundUses {
+        client: sound.client,
+        endpoint: sound.endpoint,
+    })
+}
+
+/// The read of the client that is at this place fails.
+fn read_of_the_client<R: Abort + Wait>(
+    rt: &R,
+    alloc: Global,
+    exchange: &Exchange,
+    place: u64,
+) -> Result<(), Fail> {
+    let client = Pace {
+        failing_read: Some(place),
+        ..Pace::steady()
+    };
+    let setting = Setting {
+        client,
+        ..exchange.setting
+    };
+    let outcome = ends(rt, alloc, &setting, End::ReadFailed)?;
+    assert_eq!(rt; outcome.client.reads, place.saturating_add(1));
+    assert!(rt; outcome.written.is_empty() || outcome.written.len() == exchange.before);
+    assert!(rt; !outcome.entered);
+    assert_eq!(rt; outcome.dialled, 0);
+    Ok(())
+}
+
 #[test]
 fn each_read_of_the_client(rt: HostRuntime) -> Result<(), Fail> {
     for exchange in exchanges() {
-        let sound = ends(&rt, rt.alloc(), &exchange.setting, End::Answered(200))?;
-        assert!(rt; sound.client.reads > 2);
-        for place in 0..sound.client.reads {
-            let client = Pace {
-                failing_read: Some(place),
-                ..Pace::steady()
-            };
-            let setting = Setting {
-                client,
-                ..exchange.setting
-            };
-            let outcome = ends(&rt, rt.alloc(), &setting, End::ReadFailed)?;
-            assert_eq!(rt; outcome.client.reads, place.saturating_add(1));
-            assert!(rt; outcome.written.is_empty() || outcome.written.len() == exchange.before);
-            assert!(rt; !outcome.entered);
-            assert_eq!(rt; outcome.dialled, 0);
+        let count = sound_uses(&rt, rt.alloc(), &exchange)?.client.reads;
+        assert!(rt; count > 2);
+        for place in 0..count {
+            read_of_the_client(&rt, rt.alloc(), &exchange, place)?;
         }
     }
+    Ok(())
+}
+
+/// The write to the client that is at this place fails.
+fn write_to_the_client<R: Abort + Wait>(
+    rt: &R,
+    alloc: Global,
+    exchange: &Exchange,
+    place: u64,
+) -> Result<(), Fail> {
+    let client = Pace {
+        failing_write: Some(place),
+        ..Pace::steady()
+    };
+    let setting = Setting {
+        client,
+        ..exchange.setting
+    };
+    let outcome = ends(rt, alloc, &setting, End::WriteFailed)?;
+    let written = outcome.written.as_slice();
+    assert_eq!(rt; outcome.client.writes, place.saturating_add(1));
+    assert!(rt; exchange.answered.as_bytes().starts_with(written));
+    assert!(rt; written.len() < exchange.answered.len());
+    assert_eq!(rt; outcome.entered, written.len() >= exchange.before);
     Ok(())
 }
 
 #[test]
 fn each_write_to_the_client(rt: HostRuntime) -> Result<(), Fail> {
     for exchange in exchanges() {
-        let sound = ends(&rt, rt.alloc(), &exchange.setting, End::Answered(200))?;
-        assert!(rt; sound.client.writes > 2);
-        for place in 0..sound.client.writes {
-            let client = Pace {
-                failing_write: Some(place),
-                ..Pace::steady()
-            };
-            let setting = Setting {
-                client,
-                ..exchange.setting
-            };
-            let outcome = ends(&rt, rt.alloc(), &setting, End::WriteFailed)?;
-            let written = outcome.written.as_slice();
-            assert_eq!(rt; outcome.client.writes, place.saturating_add(1));
-            assert!(rt; exchange.answered.as_bytes().starts_with(written));
-            assert!(rt; written.len() < exchange.answered.len());
-            assert_eq!(rt; outcome.entered, written.len() >= exchange.before);
+        let count = sound_uses(&rt, rt.alloc(), &exchange)?.client.writes;
+        assert!(rt; count > 2);
+        for place in 0..count {
+            write_to_the_client(&rt, rt.alloc(), &exchange, place)?;
         }
     }
+    Ok(())
+}
+
+/// The read of the endpoint that is at this place fails.
+fn read_of_the_endpoint<R: Abort + Wait>(
+    rt: &R,
+    alloc: Global,
+    exchange: &Exchange,
+    place: u64,
+) -> Result<(), Fail> {
+    let endpoint = Pace {
+        failing_read: Some(place),
+        ..Pace::steady()
+    };
+    let setting = Setting {
+        endpoint,
+        ..exchange.setting
+    };
+    let end = End::Refused(502);
+    let outcome = expect(rt, alloc, &setting, end, exchange.refused, 2)?;
+    assert_eq!(rt; outcome.endpoint.reads, place.saturating_add(1));
+    assert_eq!(rt; outcome.forwarded, 1);
     Ok(())
 }
 
 #[test]
 fn each_read_of_the_endpoint(rt: HostRuntime) -> Result<(), Fail> {
     for exchange in exchanges() {
-        let sound = ends(&rt, rt.alloc(), &exchange.setting, End::Answered(200))?;
-        assert!(rt; sound.endpoint.reads > 2);
-        for place in 0..sound.endpoint.reads {
-            let endpoint = Pace {
-                failing_read: Some(place),
-                ..Pace::steady()
-            };
-            let setting = Setting {
-                endpoint,
-                ..exchange.setting
-            };
-            let end = End::Refused(502);
-            let outcome = expect(&rt, rt.alloc(), &setting, end, exchange.refused, 2)?;
-            assert_eq!(rt; outcome.endpoint.reads, place.saturating_add(1));
-            assert_eq!(rt; outcome.forwarded, 1);
+        let count = sound_uses(&rt, rt.alloc(), &exchange)?.endpoint.reads;
+        assert!(rt; count > 2);
+        for place in 0..count {
+            read_of_the_endpoint(&rt, rt.alloc(), &exchange, place)?;
         }
     }
+    Ok(())
+}
+
+/// The write to the endpoint that is at this place fails.
+fn write_to_the_endpoint<R: Abort + Wait>(
+    rt: &R,
+    alloc: Global,
+    exchange: &Exchange,
+    place: u64,
+) -> Result<(), Fail> {
+    let endpoint = Pace {
+        failing_write: Some(place),
+        ..Pace::steady()
+    };
+    let setting = Setting {
+        endpoint,
+        ..exchange.setting
+    };
+    let end = End::Refused(502);
+    let outcome = expect(rt, alloc, &setting, end, exchange.refused, 2)?;
+    assert_eq!(rt; outcome.endpoint.writes, place.saturating_add(1));
+    assert_eq!(rt; outcome.endpoint.reads, 0);
     Ok(())
 }
 
 #[test]
 fn each_write_to_the_endpoint(rt: HostRuntime) -> Result<(), Fail> {
     for exchange in exchanges() {
-        let sound = ends(&rt, rt.alloc(), &exchange.setting, End::Answered(200))?;
-        assert!(rt; sound.endpoint.writes > 2);
-        for place in 0..sound.endpoint.writes {
-            let endpoint = Pace {
-                failing_write: Some(place),
-                ..Pace::steady()
-            };
-            let setting = Setting {
-                endpoint,
-                ..exchange.setting
-            };
-            let end = End::Refused(502);
-            let outcome = expect(&rt, rt.alloc(), &setting, end, exchange.refused, 2)?;
-            assert_eq!(rt; outcome.endpoint.writes, place.saturating_add(1));
-            assert_eq!(rt; outcome.endpoint.reads, 0);
+        let count = sound_uses(&rt, rt.alloc(), &exchange)?.endpoint.writes;
+        assert!(rt; count > 2);
+        for place in 0..count {
+            write_to_the_endpoint(&rt, rt.alloc(), &exchange, place)?;
         }
     }
     Ok(())

@@ -4,11 +4,12 @@ ghost use Rattle.bg_rollout.specs.Gathering.{indices};
 ghost use Rattle.bg_forward.specs.Seats.{AllOut, AllWorked};
 ghost use Rattle.bg_ledger.specs.Blanks.{AreAllFor};
 
+use crate::books::{close, open, tell_available};
 use crate::fakes::{Line, Pace};
 use crate::messages::{CHUNKS, CHUNKS_ON, GET};
 use crate::samples::strategy;
 use bg_book::laws::{lent, same_order};
-use bg_book::{Book, Control, Desk, EnterFault, GoOn, Left, Limits, Ticket};
+use bg_book::{Control, Desk, EnterFault, GoOn, Left, Limits, Ticket};
 use bg_forward::{Accept, Dial, Door, Gate, run_workers};
 use bg_http::Duplex;
 use bg_ledger::{Blanks, Names, Seat};
@@ -292,26 +293,13 @@ fn open_and_work<N: Names + Send + Sync, R: Threads + Wait + Sync>(
 {
     lent();
     let strategy = strategy(alloc)?;
-    let available = Control::Available {
-        revision: 1,
-        size: 2,
-    };
-    let (book, mut seats) = Book::<N>::open(
-        alloc,
-        &strategy,
-        "v1",
-        &[9001, 9002],
-        2,
-        Limits::usual(),
-        blanks,
-    )?;
-    let desk = Desk::new(book);
-    let told = desk.control(rt, &available);
+    let (desk, mut seats) = open::<N>(alloc, &strategy, 2, Limits::usual(), blanks)?;
+    let told = tell_available(rt, &desk, 2);
     work_and_tick(rt, alloc, &desk, seats.as_mut_slice(), course);
     work_none(rt, alloc, &desk, seats.as_mut_slice(), course);
     let dialled = course.dialled.load(Ordering::SeqCst);
     let calls = calls_of_both(&seats);
-    let history = desk.into_book().close(seats);
+    let history = close(desk, seats);
     let _outcomes = told?;
     Ok(Worked {
         dialled,

@@ -1,0 +1,45 @@
+//! Books of two endpoints, behind a desk: how the tests open them and close them.
+ghost use Rattle.std.specs.Prelude.{◌≡◌, true, IfOk};
+ghost use Rattle.bg_ledger.specs.Blanks.{AreAllFor};
+ghost use Rattle.bg_rollout.specs.Changes.{NewSeats};
+ghost use Rattle.bg_rollout.specs.Gathering.{are_all};
+
+use bg_book::{Book, Control, ControlFault, Desk, Limits, OpenFault};
+use bg_history::History;
+use bg_ledger::{Blanks, Names, Seat};
+use bg_strategy::Strategy;
+use std::alloc::Global;
+use std::sync::Wait;
+
+/// Opens a book of so many seats. Gives its desk, and the seats.
+pub fn open<N: Names>(
+    alloc: Global,
+    strategy: &Strategy,
+    seats: u32,
+    limits: Limits,
+    blanks: Blanks,
+) -> Result<(Desk<N>, Vec<Seat<N>>), OpenFault>
+    requires blanks { AreAllFor N.Names blanks }
+    requires seats { N.seats ≡ seats }
+    ensures seats { IfOk result (λ r. NewSeats seats r.1.items) }
+    ensures all { IfOk result (λ r. are_all N.seats r.1.items ≡ true) }
+{
+    let (book, seats) = Book::open(alloc, strategy, "v1", &[9001, 9002], seats, limits, blanks)?;
+    Ok((Desk::new(book), seats))
+}
+
+/// Tells the book that so many of its endpoints are available.
+pub fn tell_available<N: Names, R: Wait>(
+    rt: &R,
+    desk: &Desk<N>,
+    size: u32,
+) -> Result<u64, ControlFault> {
+    desk.control(rt, &Control::Available { revision: 1, size })
+}
+
+/// Closes the book of a desk, and gives its history.
+pub fn close<N: Names>(desk: Desk<N>, seats: Vec<Seat<N>>) -> History
+    requires { are_all N.seats seats.items ≡ true }
+{
+    desk.into_book().close(seats)
+}
