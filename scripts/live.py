@@ -7,8 +7,8 @@ import collections
 import concurrent.futures
 import http.client
 import http.server
+import itertools
 import os
-import random
 import resource
 import shutil
 import socket
@@ -26,6 +26,12 @@ NO_PREVIEW = '{"spec": {"strategy": {"blueGreen": {"activeService": "web"}}}}'
 NO_STACK = 1 << 48
 # No program that these scripts start runs for longer, in seconds.
 LONGEST_RUN = 120
+# How long a check waits, in seconds, for what is to come soon.
+LONGEST_WAIT = 30
+# The scripts that run side by side. Each takes its ports from a share of its own, so that none takes another's; all are below
+# those that the system gives to connections of itself.
+SCRIPTS = ("live", "live_patience", "live_attack", "live_operator", "live_controller", "live_readme")
+FIRST_PORT, PORTS_EACH = 20000, 2000
 passed = failed = 0
 
 
@@ -103,19 +109,43 @@ def start_backend(revision):
     return server.server_port
 
 
+def ports_in_turn():
+    """The ports of the running script's share, again and again, from a place on that differs from run to run."""
+    name = os.path.splitext(os.path.basename(sys.argv[0]))[0]
+    first = FIRST_PORT + PORTS_EACH * SCRIPTS.index(name)
+    start = os.getpid() % PORTS_EACH
+    return (first + (start + place) % PORTS_EACH for place in itertools.count())
+
+
+PORTS = ports_in_turn()
+
+
 def free_ports(count):
-    """Ports that nothing listens at, below those that the system gives to connections of itself."""
+    """Ports that nothing listens at."""
     ports = []
     while len(ports) < count:
-        port = random.randrange(20000, 32768)
+        port = next(PORTS)
         with socket.socket() as one:
             try:
                 one.bind(("127.0.0.1", port))
             except OSError:
                 continue
-        if port not in ports:
-            ports.append(port)
+        ports.append(port)
     return ports
+
+
+def is_refused(port):
+    """Whether connections to a port are refused, from a moment on that comes soon."""
+    latest = time.monotonic() + LONGEST_WAIT
+    while time.monotonic() < latest:
+        try:
+            socket.create_connection(("127.0.0.1", port), timeout=LONGEST_WAIT).close()
+        except ConnectionRefusedError:
+            return True
+        except ConnectionResetError:
+            pass
+        time.sleep(0.05)
+    return False
 
 
 def exchanged(connection, request, *later):
@@ -384,30 +414,38 @@ def without_preview():
 
 
 def without_descriptors():
-    """No file descriptor is free: no endpoint is reached, and an accept that fails is tried again for nearly a second; after
-    that it counts as one of the connections."""
-    switch = Switch(NO_PREVIEW, workers=1, count=4, preview=False)
+    """No file descriptor is free: no endpoint is reached; an accept that fails is tried again for nearly a second, and counts
+    as one of the connections after that."""
+    switch = Switch(NO_PREVIEW, workers=1, count=8, preview=False)
     operator = Operator(switch)
     operator.check(f"open one {start_backend('one')}", "ok 0")
     operator.check("available 1 1", "ok 0")
     check("descriptors for all", switch.get(switch.active), (200, b"one"))
-    # the worker waits for the next connection then
-    time.sleep(0.3)
     process = switch.process.pid
     most = resource.prlimit(process, resource.RLIMIT_NOFILE)
-    # the place of the connection that the worker waits for is taken already
-    resource.prlimit(process, resource.RLIMIT_NOFILE, (1 + max(map(int, os.listdir(f"/proc/{process}/fd"))), most[1]))
+
+    def take_descriptors():
+        # the worker waits for the next connection then, and has the place of that one already
+        time.sleep(0.3)
+        resource.prlimit(process, resource.RLIMIT_NOFILE, (1 + max(map(int, os.listdir(f"/proc/{process}/fd"))), most[1]))
+
+    take_descriptors()
     check("no descriptor for an endpoint", switch.get(switch.active), (502, b""))
     with switch.connect(switch.active) as client:
         client.sendall(b"GET / HTTP/1.1\r\nHost: x\r\n\r\n")
-        # one accept fails in this time, and the next one is tried again
-        time.sleep(1.4)
+        time.sleep(0.3)
         resource.prlimit(process, resource.RLIMIT_NOFILE, most)
         check("an accept that is tried again", client.recv(65536).startswith(b"HTTP/1.1 200 OK\r\n"), True)
+    take_descriptors()
+    check("no descriptor once more", switch.get(switch.active), (502, b""))
+    start = time.monotonic()
+    check("accepts that fail use the connections up", is_refused(switch.active), True)
+    check("each was tried for a while", time.monotonic() - start > 1, True)
+    resource.prlimit(process, resource.RLIMIT_NOFILE, most)
     switch.left = {}
     operator.connection.sendall(b"quit\n")
     printed, status = switch.end()
-    check("calls, with an accept that failed", (printed.endswith("end\ncalls 6\n"), status), (True, 0))
+    check("calls, with accepts that failed", (printed.endswith("end\ncalls 8\n"), status), (True, 0))
 
 
 def without_threads():

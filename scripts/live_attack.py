@@ -206,7 +206,8 @@ def silent_peers():
     switch = start(Endpoint(b"one"), workers=5, count=1, patience=1)
     texts = [b"GET /" + b"a" * (16384 - 5), b"", b"GET / HT", request(b"/hangs"), request(b"/halts")]
     (refused, soon), *ends = at_once([(live_patience.get, switch.active, [text]) for text in texts])
-    check("a head without an end", (refused, soon < 0.5), (live.refusal(b"431 Request Header Fields Too Large"), True))
+    check("a head without an end", (refused, soon < min(seconds for _, seconds in ends)),
+          (live.refusal(b"431 Request Header Fields Too Large"), True))
     check("silent peers", [answer for answer, _ in ends], [b"", b"", BAD_GATEWAY, BAD_GATEWAY])
     check("they are given up in time", [0.5 <= seconds <= 1 + SLACK for _, seconds in ends], [True] * 4)
     switch.left[switch.active] = 0

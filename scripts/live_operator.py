@@ -192,7 +192,7 @@ def meanings():
 
 
 def main():
-    faulthandler.dump_traceback_later(55, exit=True)
+    faulthandler.dump_traceback_later(110, exit=True)
     # a shell's background job ignores interrupts, and so would all that it starts
     signal.signal(signal.SIGINT, signal.default_int_handler)
     statuses()

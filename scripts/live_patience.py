@@ -14,7 +14,7 @@ import threading
 import time
 
 import live
-from live import SWITCH, check, free_ports
+from live import SWITCH, check, free_ports, is_refused
 
 ROLLOUT = '{"spec": {"strategy": {"blueGreen": {"activeService": "web", "previewService": "web-preview"}}}}'
 REQUEST = b"GET / HTTP/1.1\r\nHost: x\r\n\r\n"
@@ -228,18 +228,6 @@ def limits_that_are_none():
         answer, _ = switch.get([REQUEST[:9], REQUEST[9:]], 0.6)
         check(f"a limit of '{patience}'", answer.endswith(b"\r\n\r\nok"), True)
         check("the end after it", switch.end(), (["calls 2"], 0))
-
-
-def is_refused(port):
-    """Whether connections to a port are refused, from a moment on that comes soon."""
-    end = time.monotonic() + LONGEST
-    while time.monotonic() < end:
-        try:
-            connect(port).close()
-        except ConnectionRefusedError:
-            return True
-        time.sleep(0.05)
-    return False
 
 
 def is_open(port):

@@ -3,16 +3,15 @@ import faulthandler
 import os
 import re
 import signal
-import socket
 import subprocess
 import sys
 import tempfile
 
 import live
-from live import check, free_ports
+from live import check, free_ports, is_refused
 
 PORTS = ("8080", "8081", "8082", "9101", "9102", "9201", "9202")
-WAIT = 40  # seconds for the whole session
+WAIT = 80  # seconds for the whole session
 END_OF_BLOCK = "-- end of block --"
 MOST_LINES = 130
 
@@ -39,7 +38,8 @@ def run_session(blocks, folder):
             shell.wait(WAIT)
         except subprocess.TimeoutExpired:
             print("FAILED: the session doesn't end")
-        listening = [port for port in ports.values() if is_listening(port)]
+        # what was told to end may take a moment
+        listening = [port for port in ports.values() if not is_refused(int(port))]
         try:
             os.killpg(shell.pid, signal.SIGKILL)
         except ProcessLookupError:
@@ -47,14 +47,6 @@ def run_session(blocks, folder):
         shell.wait(WAIT)
         printed.seek(0)
         return printed.read().split(END_OF_BLOCK + "\n")[:-1], listening
-
-
-def is_listening(port):
-    try:
-        socket.create_connection(("127.0.0.1", int(port)), timeout=5).close()
-        return True
-    except OSError:
-        return False
 
 
 def session(readme):
@@ -80,7 +72,7 @@ def names(readme):
 
 
 def main():
-    faulthandler.dump_traceback_later(55, exit=True)
+    faulthandler.dump_traceback_later(110, exit=True)
     with open("README.md", encoding="utf-8") as file:
         readme = file.read()
     session(readme)
