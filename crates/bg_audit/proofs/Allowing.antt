@@ -18,8 +18,8 @@ use Rattle.bg_history.specs.Requests.{Request, open_requests, held_by, request_n
 use Rattle.bg_history.specs.Deadlines.{exists_in}
 use Rattle.bg_history.specs.Templates.{template, is_named, has_ports, owner}
 use Rattle.bg_history.specs.Allowed.{is_template, fits_owner, selection, has_value, port_in, port_of, may_enter, holds}
-use Rattle.bg_history_facts.specs.Reachable.{Reachable}
-use Rattle.bg_history_listing.specs.Listed.{sized, revision_of, revisions_of}
+use Rattle.bg_history_laws.specs.Reachable.{Reachable}
+use Rattle.bg_history_laws.specs.Listed.{sized, revision_of, revisions_of}
 use Rattle.bg_audit.specs.declared.facts.Facts.{Facts}
 use Rattle.bg_audit.specs.Requests.{request_told, greater_of, greatest_of, is_above}
 use Rattle.bg_audit.specs.Known.{Knows}

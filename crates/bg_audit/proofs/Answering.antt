@@ -18,7 +18,7 @@ use Rattle.bg_history.specs.Marks as past
 use Rattle.bg_history.specs.Requests.{Request, open_requests, open_at}
 use Rattle.bg_history.specs.Deadlines.{exists_in, is_spare, is_left, left_later, rank_after, is_over, is_reached, time_of, marks_due, is_empty, may_scale_down, is_old, old_revisions, is_first, may_remove}
 use Rattle.bg_history.specs.Steps.{is_settled}
-use Rattle.bg_history_listing.specs.Listed.{sized, revision_of, revisions_of}
+use Rattle.bg_history_laws.specs.Listed.{sized, revision_of, revisions_of}
 use Rattle.bg_audit.specs.declared.course.Course.{Course}
 use Rattle.bg_audit.specs.declared.facts.Facts.{Facts}
 use Rattle.bg_audit.specs.Standing.{IsCourse}

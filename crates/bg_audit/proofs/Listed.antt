@@ -14,8 +14,8 @@ use Rattle.bg_history.specs.Deadlines.{exists_in}
 use Rattle.bg_history.specs.Templates.{template, has_ports, owner}
 use Rattle.bg_history.specs.Promotion.{attempts}
 use Rattle.bg_history.specs.Allowed.{is_allowed, fits_owner, may_deploy}
-use Rattle.bg_history_facts.specs.Reachable.{Reachable}
-use Rattle.bg_history_listing.specs.Listed.{sized, revision_of, revisions_of}
+use Rattle.bg_history_laws.specs.Reachable.{Reachable}
+use Rattle.bg_history_laws.specs.Listed.{sized, revision_of, revisions_of}
 use Rattle.bg_audit.specs.Sizes.{wanted, desired_in}
 use Rattle.bg_audit.proofs.Tests.{and_parts, or_right, equal_itself, equal_numbers}
 

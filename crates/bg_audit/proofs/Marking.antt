@@ -14,7 +14,7 @@ use Rattle.bg_history.specs.Selections.{active_of}
 use Rattle.bg_history.specs.Sizes.{put, existing}
 use Rattle.bg_history.specs.Deadlines.{exists_in}
 use Rattle.bg_history.specs.Marks as past
-use Rattle.bg_history_facts.specs.Reachable.{Reachable}
+use Rattle.bg_history_laws.specs.Reachable.{Reachable}
 use Rattle.bg_audit.specs.declared.marks.Mark.{Mark}
 use Rattle.bg_audit.specs.declared.marks.MarkKind.{MarkKind}
 use Rattle.bg_audit.specs.declared.marks.RevisionMark.{RevisionMark}

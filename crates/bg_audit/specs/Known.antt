@@ -5,7 +5,7 @@ use Rattle.bg_history.specs.declared.entry.Entry.{Entry}
 use Rattle.bg_history.specs.Kept.{Opening}
 use Rattle.bg_history.specs.Requests.{open_requests, request_numbers}
 use Rattle.bg_history.specs.Steps.{all_allowed}
-use Rattle.bg_history_listing.specs.Listed.{revisions_of}
+use Rattle.bg_history_laws.specs.Listed.{revisions_of}
 use Rattle.bg_audit.specs.declared.facts.Facts.{Facts}
 use Rattle.bg_audit.specs.Standing.{IsCourse}
 use Rattle.bg_audit.specs.Marked.{HasMarks}

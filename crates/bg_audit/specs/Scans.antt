@@ -61,7 +61,7 @@ is_left_in Superseded = false
 is_left_in Aborted = false
 is_left_in Cleared = false
 
--- the mark is of a revision that left after `stood` entries or more
+-- the mark is of a revision that left after more than `stood` entries
 abbrev pub left_later_in : ℕ → Option Mark → Bool
 left_later_in stood None = false
 left_later_in stood (Some m) = is_left_in m.kind && nat_lt stood m.stood
@@ -73,7 +73,7 @@ time_in s Superseded at = Some at
 time_in s Aborted at = Some (at + s.abort_delay)
 time_in s Cleared at = None
 
--- how many spare revisions left after that many entries
+-- how many spare revisions left after more than `stood` entries
 abbrev pub rank_in : Facts → ℕ → ℕ
 rank_in f stood =
     count_by (λ v. is_spare_in f.course v && left_later_in stood (mark_in v.number f.marks.items))

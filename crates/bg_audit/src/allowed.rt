@@ -11,7 +11,7 @@ ghost use Rattle.bg_history.specs.Requests.{held_by};
 ghost use Rattle.bg_history.specs.Deadlines.{exists_in};
 ghost use Rattle.bg_history.specs.Templates.{template, owner};
 ghost use Rattle.bg_history.specs.Allowed.{is_allowed, may_deploy, is_template, fits_owner, holds, has_value};
-ghost use Rattle.bg_history_facts.specs.Reachable.{Reachable};
+ghost use Rattle.bg_history_laws.specs.Reachable.{Reachable};
 ghost use Rattle.bg_audit.specs.Scans.{fits_named, wants_in, has_port_in, is_held_in, enters_in};
 
 use crate::facts::Facts;
@@ -19,7 +19,7 @@ use crate::requests;
 use crate::requests::OpenRequest;
 use crate::revisions::{with_name, with_number};
 use bg_history::{Entry, Outcome};
-use bg_history_listing::laws;
+use bg_history_laws::listing;
 use bg_revisions::{Name, Ports, Revision, has_ports_form};
 use bg_strategy::{Strategy, is_dns_label};
 
@@ -38,7 +38,7 @@ impl Facts {
             → Reachable strategy.now o past → seats ≡ o.seats
             → result ≡ is_allowed strategy.now o entry.now past }
     {
-        laws::finds();
+        listing::finds();
         match entry {
             Entry::Tick(moment) => self.course.moment <= *moment && *moment <= LATEST_MOMENT,
             Entry::Deploy {
@@ -89,7 +89,7 @@ impl Facts {
             → Reachable s o past
             → result ≡ is_template name.now ports.now (template o (newest_of past) past) }
     {
-        laws::finds();
+        listing::finds();
         has_template(
             with_number(&self.revisions, self.course.newest),
             name,
@@ -104,8 +104,8 @@ impl Facts {
             → Reachable s o past
             → result ≡ fits_owner o (owner o name.now past) number ports.now past }
     {
-        laws::finds();
-        laws::names();
+        listing::finds();
+        listing::names();
         self.fits(with_name(&self.revisions, name.get()), number, ports)
     }
 
@@ -114,7 +114,7 @@ impl Facts {
         ensures { (s : Strategy) (o : Opening) (past : List Entry) → Knows s o past self.now
             → result ≡ (exists_in number past && nat_le size (desired s number past)) }
     {
-        laws::finds();
+        listing::finds();
         wants(with_number(&self.revisions, number), size)
     }
 
@@ -166,7 +166,7 @@ impl Facts {
             → Reachable strategy.now o past
             → result ≡ is_allowed strategy.now o (Entry.Outcome outcome) past }
     {
-        laws::finds();
+        listing::finds();
         let newest = self.course.newest;
         match outcome {
             Outcome::Ready(number) => {
@@ -187,7 +187,7 @@ impl Facts {
         ensures { (s : Strategy) (o : Opening) (past : List Entry) → Knows s o past self.now
             → Reachable s o past → result ≡ available (newest_of past) past }
     {
-        laws::finds();
+        listing::finds();
         match with_number(&self.revisions, self.course.newest) {
             Some(revision) => revision.available,
             None => 0,

@@ -8,7 +8,7 @@ use crate::facts::Facts;
 use crate::fault::AuditFault;
 use crate::numbers::{are_given, entry_at};
 use bg_history::History;
-use bg_history_facts::laws;
+use bg_history_laws::facts;
 use bg_revisions::has_ports_form;
 use bg_strategy::{Strategy, is_dns_label};
 use std::alloc::{AllocError, Global};
@@ -42,7 +42,7 @@ fn audit_opened(
         ↔ (IsLegal strategy.now history.now.opening history.now.closed history.now.past
         × IsTrue (is_settled strategy.now history.now.past))) }
 {
-    laws::reachable();
+    facts::reachable();
     if !has_opening_form(seats, name, ports, strategy) {
         return Ok(false);
     }
@@ -75,7 +75,7 @@ fn facts_of(
         (all_allowed strategy.now (opened seats name.now ports.now) history.now.past ≡ false)
         (λ f. StandsAt strategy.now (opened seats name.now ports.now) history.now.past f)) }
 {
-    laws::reachable();
+    facts::reachable();
     let mut facts = Facts::new(alloc, strategy, name, ports)?;
     for place in 0..history.len() {
         let entry = entry_at(history, place);

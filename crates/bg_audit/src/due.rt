@@ -9,7 +9,7 @@ ghost use Rattle.bg_history.specs.Kept.{Opening};
 ghost use Rattle.bg_history.specs.Promotion.{first_promotion};
 ghost use Rattle.bg_history.specs.Deadlines.{is_over, is_reached};
 ghost use Rattle.bg_history.specs.Steps.{is_settled};
-ghost use Rattle.bg_history_facts.specs.Reachable.{Reachable};
+ghost use Rattle.bg_history_laws.specs.Reachable.{Reachable};
 ghost use Rattle.bg_audit.specs.Marked.{mark_in};
 ghost use Rattle.bg_audit.specs.Scans.{is_spare_in, left_later_in, time_in, rank_in, marks_due_in, scales_down_in, is_old_in, is_numbered, removes_in};
 
@@ -17,7 +17,7 @@ use crate::facts::Facts;
 use crate::marks::{Mark, MarkKind};
 use crate::revisions::with_number;
 use crate::{marks, requests};
-use bg_history_listing::laws;
+use bg_history_laws::listing;
 use bg_revisions::Revision;
 use bg_strategy::Strategy;
 
@@ -29,7 +29,7 @@ impl Facts {
         ensures { (o : Opening) (past : List Entry) → Knows strategy.now o past self.now
             → Reachable strategy.now o past → result ≡ is_settled strategy.now past }
     {
-        laws::finds();
+        listing::finds();
         let steps = self.has_step(strategy);
         let ends = self.has_end(strategy);
         is_neither(steps, ends)
@@ -104,7 +104,7 @@ impl Facts {
         }
     }
 
-    /// How many spare revisions left the active service after so many entries.
+    /// How many spare revisions left the active service after more than `stood` entries.
     fn rank_after(&self, stood: u64) -> usize
         ensures { result ≡ rank_in self.now stood }
     {
@@ -114,7 +114,7 @@ impl Facts {
             .count()
     }
 
-    /// Whether the revision is spare and left the active service after so many entries.
+    /// Whether the revision is spare and left the active service after more than `stood` entries.
     fn is_later(&self, revision: &Revision, stood: u64) -> bool
         ensures { result ≡ (is_spare_in self.now.course revision.now
             && left_later_in stood (mark_in revision.now.number self.now.marks.items)) }
@@ -172,7 +172,7 @@ fn is_numbered(revision: Option<&Revision>, number: u64) -> bool
     }
 }
 
-/// Whether the mark is of a revision that left the active service after so many entries.
+/// Whether the mark is of a revision that left the active service after more than `stood` entries.
 fn left_later(stood: u64, mark: Option<Mark>) -> bool
     ensures { result ≡ left_later_in stood mark }
 {

@@ -6,7 +6,7 @@ ghost use Rattle.bg_history.specs.Kept.{Opening};
 ghost use Rattle.bg_history.specs.Turns.{newest_of};
 ghost use Rattle.bg_history.specs.Sizes.{is_scaled};
 ghost use Rattle.bg_history.specs.Allowed.{is_allowed};
-ghost use Rattle.bg_history_facts.specs.Reachable.{Reachable};
+ghost use Rattle.bg_history_laws.specs.Reachable.{Reachable};
 
 use crate::course::Course;
 use crate::marks::{Around, RevisionMark};

@@ -8,7 +8,7 @@ ghost use Rattle.bg_history.specs.Kept.{Opening};
 ghost use Rattle.bg_history.specs.Turns.{newest_of};
 ghost use Rattle.bg_history.specs.Sizes.{begins, is_scaled};
 ghost use Rattle.bg_history.specs.Marks.{kind_of, halts, supersedes, scales_down};
-ghost use Rattle.bg_history_facts.specs.Reachable.{Reachable};
+ghost use Rattle.bg_history_laws.specs.Reachable.{Reachable};
 ghost use Rattle.bg_audit.specs.Standing.{IsCourse};
 ghost use Rattle.bg_audit.specs.Marked.{IsAround, kind_told, remarked, mark_in, with_revision, prepared, HasMarks};
 

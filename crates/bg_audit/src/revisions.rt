@@ -6,14 +6,14 @@ ghost use Rattle.bg_revisions.specs.Rosters.{numbered, named, resized, reported}
 ghost use Rattle.bg_history.specs.declared.entry.Entry.{Entry};
 ghost use Rattle.bg_history.specs.Kept.{Opening};
 ghost use Rattle.bg_history.specs.Allowed.{is_allowed, may_deploy};
-ghost use Rattle.bg_history_facts.specs.Reachable.{Reachable};
-ghost use Rattle.bg_history_listing.specs.Listed.{revisions_of};
+ghost use Rattle.bg_history_laws.specs.Reachable.{Reachable};
+ghost use Rattle.bg_history_laws.specs.Listed.{revisions_of};
 ghost use Rattle.bg_audit.specs.Standing.{IsCourse};
 ghost use Rattle.bg_audit.specs.Sizes.{desired_in};
 
 use crate::course::Course;
 use bg_history::{Entry, Outcome};
-use bg_history_listing::laws;
+use bg_history_laws::listing;
 use bg_revisions::{Name, Ports, Revision};
 use bg_strategy::Strategy;
 use std::alloc::{AllocError, Global};
@@ -54,10 +54,10 @@ pub fn take(
         → revisions.old.items ≡ revisions_of strategy.now o past
         → OnOk result (revisions.new.items ≡ revisions_of strategy.now o (entry.now ∷ past)) }
 {
-    laws::reports();
-    laws::resizes();
-    laws::keeps();
-    laws::finds();
+    listing::reports();
+    listing::resizes();
+    listing::keeps();
+    listing::finds();
     match entry {
         Entry::Deploy {
             revision,
@@ -89,9 +89,9 @@ fn deploy(
         → OnOk result (revisions.new.items
         ≡ revisions_of strategy.now o (Entry.Deploy number name.now ports.now ∷ past)) }
 {
-    laws::resizes();
-    laws::appends();
-    laws::finds();
+    listing::resizes();
+    listing::appends();
+    listing::finds();
     if !has_number(revisions, number) {
         let desired = strategy.preview_replicas;
         add(alloc, revisions, number, name.get(), ports.get(), desired)?;
@@ -137,10 +137,10 @@ fn settle(revisions: &mut Vec<Revision>, strategy: &Strategy, outcome: Outcome)
         → revisions.old.items ≡ revisions_of strategy.now o past
         → revisions.new.items ≡ revisions_of strategy.now o (Entry.Outcome outcome ∷ past) }
 {
-    laws::resizes();
-    laws::removes();
-    laws::keeps();
-    laws::finds();
+    listing::resizes();
+    listing::removes();
+    listing::keeps();
+    listing::finds();
     match outcome {
         Outcome::Resumed(number) => raise(revisions, number, strategy.replicas),
         Outcome::ScaledDown(number) => resize(revisions, number, 0),

@@ -12,7 +12,7 @@ use Rattle.bg_history.specs.Requests.{open_requests, given}
 use Rattle.bg_history.specs.Allowed.{awaits, selection}
 use Rattle.bg_history.specs.Kept.{Opening}
 use Rattle.bg_history.specs.Templates.{template, owner}
-use Rattle.bg_history_listing.specs.Answers.{owner_answer}
+use Rattle.bg_history_laws.specs.Answers.{owner_answer}
 use Rattle.bg_rollout.specs.declared.control.Control.{Control}
 use Rattle.bg_rollout.specs.declared.control.Control.TheVariants.{Tick, Deploy, Available, Verdict, Promote, PromoteFull, Abort, Retry}
 use Rattle.bg_rollout.specs.declared.fault.EnterFault.TheVariants as enter_fault
@@ -23,7 +23,7 @@ use Rattle.bg_rollout.specs.Routing.{Routing}
 use Rattle.bg_rollout.specs.Refusals.{event_fault, event_of, control_refusal, enter_refusal, enter_refusal_at, is_full_for_control, is_full_for_enter, IsTicket}
 use Rattle.bg_rollout.specs.declared.ticket.Ticket.{Ticket}
 use Rattle.bg_history.specs.Compacted.{compacted}
-use Rattle.bg_history_compaction.specs.Laws.{Compacts}
+use Rattle.bg_history_laws.specs.Compaction.{Compacts}
 use Rattle.bg_rollout.specs.Compaction.{with_compacted}
 
 -- a test that holds of less

@@ -10,3 +10,6 @@ pub mod Resting
 pub mod Answering
 pub mod SameStates
 pub mod Replying
+pub mod Promises
+pub mod Serving
+pub mod Settings

@@ -11,7 +11,7 @@ use Rattle.bg_history.specs.declared.entry.Outcome as outcome
 use Rattle.bg_history.specs.Requests.{calls_of, given, request_numbers}
 use Rattle.bg_history.specs.Steps.{Step, all_given, with_outcomes}
 use Rattle.bg_history.specs.Compacted.{left_numbers, is_among, compacted, closed_after}
-use Rattle.bg_history_compaction.specs.Laws.{Answers, Compacts, Commutes, Same, enters_anew}
+use Rattle.bg_history_laws.specs.Compaction.{Answers, Compacts, Commutes, Same, enters_anew}
 use Rattle.bg_book.specs.declared.calls.Call.{Call}
 use Rattle.bg_book.specs.declared.calls.Call.TheVariants as call
 use Rattle.bg_rollout.specs.declared.control.Control.{Control}

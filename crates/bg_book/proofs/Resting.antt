@@ -3,7 +3,7 @@ use Rattle.std.proofs.Common.{◌≡◌, ◌≤◌, ℕ, List, length, is_none, 
 use Rattle.bg_history.specs.declared.entry.Entry.{Entry}
 use Rattle.bg_history.specs.Requests.{open_requests}
 use Rattle.bg_history.specs.Compacted.{compacted}
-use Rattle.bg_history_compaction.specs.Laws.{Compacts}
+use Rattle.bg_history_laws.specs.Compaction.{Compacts}
 use Rattle.bg_rollout.specs.Compaction.{midway_compacted}
 use Rattle.bg_rollout.specs.Invariant.{Midway}
 use Rattle.bg_book.specs.Invariant.{AtRest}

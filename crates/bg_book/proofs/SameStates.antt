@@ -2,8 +2,8 @@
 use Rattle.std.proofs.Common.{◌≡◌, ◌==◌, find, refl, ap, sym, ◌∙◌}
 use Rattle.bg_history.specs.Requests.{held_by, calls_of}
 use Rattle.bg_history.specs.Compacted.{compacted}
-use Rattle.bg_history_listing.specs.Listed.{revisions_of}
-use Rattle.bg_history_compaction.specs.Laws.{Compacts}
+use Rattle.bg_history_laws.specs.Listed.{revisions_of}
+use Rattle.bg_history_laws.specs.Compaction.{Compacts}
 use Rattle.bg_rollout.specs.Compaction.{with_compacted}
 use Rattle.bg_book.specs.Compaction.{SameState}
 use Rattle.bg_rollout.specs.PastState.{seated}
@@ -19,6 +19,7 @@ same_state b c revisions =
       revisions_are = revisions;
       deadlines_are = x.due_at;
       draining_is = λ r. rw (x.due r, c.same.held) refl;
+      past_limit_is = λ r. rw (x.due r, c.same.held, x.due_at r, c.same.now) refl;
       open_are = λ r. rw c.same.held refl;
       seats_are = λ i.
           ap (λ y. seated i (calls_of b.closed i b.past) (find (λ q. q.seat == i) y)) c.same.held

@@ -5,7 +5,7 @@ use Rattle.bg_history.specs.declared.entry.Entry.{Entry}
 use Rattle.bg_history.specs.declared.entry.Outcome.{Outcome}
 use Rattle.bg_history.specs.Requests.{open_requests}
 use Rattle.bg_history.specs.Steps.{is_settled, Follows, with_outcomes}
-use Rattle.bg_history_settling.specs.Work.{work}
+use Rattle.bg_history_laws.specs.Work.{work}
 use Rattle.bg_ledger.specs.declared.holding.Holding.{Holding}
 use Rattle.bg_rollout.specs.declared.control.Control.{Control}
 use Rattle.bg_rollout.specs.declared.control.Control.TheVariants.{Tick, Deploy, Available, Verdict, Promote, PromoteFull, Abort, Retry}

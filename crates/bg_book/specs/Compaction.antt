@@ -5,14 +5,14 @@ use Rattle.bg_history.specs.Turns.{moment}
 use Rattle.bg_history.specs.Selections.{selectors_of}
 use Rattle.bg_history.specs.Deadlines.{deadline}
 use Rattle.bg_history.specs.Requests.{given, open_at}
-use Rattle.bg_history_listing.specs.Listed.{revisions_of}
+use Rattle.bg_history_laws.specs.Listed.{revisions_of}
 use Rattle.bg_promotion.specs.Phases.{phase_of}
 use Rattle.bg_book.specs.declared.calls.Call.{Call}
 use Rattle.bg_book.specs.declared.calls.Reply.{Reply}
 use Rattle.bg_book.specs.declared.calls.Reply.TheVariants.{EnterRefused, ControlRefused}
 use Rattle.bg_rollout.specs.declared.fault.EnterFault.TheVariants as enter_fault
 use Rattle.bg_rollout.specs.declared.control_fault.ControlFault.TheVariants as control_fault
-use Rattle.bg_rollout.specs.PastState.{is_draining, seat_of}
+use Rattle.bg_rollout.specs.PastState.{is_draining, is_past_limit, seat_of}
 use Rattle.bg_rollout.specs.Routing.{Routing}
 use Rattle.bg_rollout.specs.Compaction.{with_compacted}
 use Rattle.bg_book.specs.Runs.{CallStep}
@@ -41,6 +41,8 @@ pub record SameState (a b : Routing) : Type 0 where
       ≡ revisions_of b.strategy b.opening b.past
   pub deadlines_are : (r : ℕ) → deadline a.strategy r a.past ≡ deadline b.strategy r b.past
   pub draining_is : (r : ℕ) → is_draining a.strategy r a.past ≡ is_draining b.strategy r b.past
+  pub past_limit_is : (r : ℕ)
+      → is_past_limit a.strategy r a.past ≡ is_past_limit b.strategy r b.past
   pub open_are : (r : ℕ) → open_at r a.past ≡ open_at r b.past
   pub seats_are : (i : ℕ) → seat_of a.closed i a.past ≡ seat_of b.closed i b.past
   pub given_is : given a.closed a.past ≡ given b.closed b.past

@@ -7,14 +7,15 @@ use Rattle.bg_history.specs.declared.entry.Outcome.TheVariants.{Switched}
 use Rattle.bg_history.specs.Turns.{is_halt, stable_of}
 use Rattle.bg_history.specs.Selections.{active_of, preview_of}
 use Rattle.bg_history.specs.Sizes.{is_scaled}
+use Rattle.bg_history.specs.Deadlines.{deadline}
 use Rattle.bg_history.specs.Promotion.{may_switch}
 use Rattle.bg_history.specs.Requests.{open_at}
 use Rattle.bg_history.specs.Steps.{IsLegal, is_settled}
-use Rattle.bg_history_facts.specs.Reachable.{stands_scaled}
+use Rattle.bg_history_laws.specs.Reachable.{stands_scaled}
 use Rattle.bg_requestlists.specs.RequestLists.{list_of}
 use Rattle.bg_rollout.specs.PastState.{lists_of, requests_at, share, SeatsStand}
 use Rattle.bg_rollout.specs.Routing.{Routing}
-use Rattle.bg_rollout.specs.State.{state_of}
+use Rattle.bg_rollout.specs.State.{deadline_at, state_of}
 
 -- the entry is a switch that is allowed
 abbrev pub switches_by_rule : Strategy → Entry → List Entry → Bool
@@ -42,6 +43,8 @@ is_reached_by_rule s (e ∷ before) = moves_by_rule s e before && is_reached_by_
 -- left undone, and so on, part by part
 pub record Headline (b : Routing) : Type 0 where
   pub fold : b.running ≡ state_of b.strategy b.opening b.closed b.past
+  -- the deadline that is shown of each revision is the past's own
+  pub deadlines : (r : ℕ) → deadline_at b.running r ≡ deadline b.strategy r b.past
   pub legal : IsLegal b.strategy b.opening b.closed b.past
   pub settled : IsTrue (is_settled b.strategy b.past)
   pub active : IsTrue (stands_scaled b.strategy (active_of b.past) b.past)

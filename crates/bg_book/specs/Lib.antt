@@ -4,3 +4,5 @@ pub mod Invariant
 pub mod Runs
 pub mod Compaction
 pub mod OpenBooks
+pub mod Promises
+pub mod Room

@@ -1,13 +1,15 @@
 //! A book that threads share.
-ghost use Rattle.std.specs.Prelude.{◌≡◌, ◌+◌, ◌<◌, ◌≤◌, length, IfOk, OnErr};
+ghost use Rattle.std.specs.Prelude.{◌≡◌, ◌+◌, ◌<◌, ◌≤◌, ℕ, length, slice_set, IfOk, OnErr};
+ghost use Rattle.bg_history.specs.declared.entry.Entry.TheVariants as entry;
 ghost use Rattle.bg_ledger.specs.Holdings.{vacated};
 ghost use Rattle.bg_rollout.specs.Compaction.{with_compacted};
-ghost use Rattle.bg_rollout.specs.Changes.{seat_in};
+ghost use Rattle.bg_rollout.specs.Changes.{enter_entry, seat_in};
 ghost use Rattle.bg_book.specs.Desks.{StepsTo};
 ghost use Rattle.bg_book.specs.Headline.{Headline};
+ghost use Rattle.bg_book.specs.Room.{entries_used as used_entries};
 ghost use Rattle.bg_rollout.specs.Meeting.{Meets};
 ghost use Rattle.bg_rollout.specs.PastState.{goes_on};
-ghost use Rattle.bg_rollout.specs.Refusals.{control_refusal, enter_refusal, AnswersBy, IsTicket};
+ghost use Rattle.bg_rollout.specs.Refusals.{control_refusal, enter_refusal, event_of, AnswersBy, IsTicket};
 ghost use Rattle.bg_rollout.specs.Routing.{Routing};
 ghost use Rattle.bg_rollout.specs.declared.control_fault.ControlFault.TheVariants as control_fault;
 ghost use Rattle.bg_rollout.specs.declared.fault.EnterFault.TheVariants as enter_fault;
@@ -32,7 +34,8 @@ pub trait Question<A> {
 /// A book behind a lock, which threads share.
 ///
 /// Each call takes the lock once, makes one call of the book and lets go. `told` says of each that the answer is one
-/// of a book that has what [`headline`] says; that it is the book under the lock is not said.
+/// of a book that has what [`headline`] says, and of each event that this book stepped by it to another that has; that
+/// it is the book under the lock is not said.
 #[derive(Drop)]
 pub struct Desk<N: Names> {
     book: Mutex<Book<N>>,
@@ -59,12 +62,17 @@ impl<N: Names> Desk<N> {
         ensures seat_unchanged { OnErr result (seat.new ≡ seat.old) }
         ensures told { (b : Routing) × Headline b × Meets b seat.old
             × AnswersBy (enter_refusal b service) enter_fault.OutOfMemory result
-            × IfOk result (IsTicket b service) }
+            × IfOk result (IsTicket b service)
+            × IfOk result (λ t. (new : Routing) × StepsTo b
+            (enter_entry seat.old.index service t)
+            (slice_set b.seats seat.old.index seat.new) new 0) }
     {
         let mut locked = self.book.lock(rt);
         let book = &mut *locked;
         headline(book);
-        book.enter(seat, service)
+        let answer = book.enter(seat, service);
+        headline(book);
+        answer
     }
 
     /// [`Book::leave`].
@@ -72,12 +80,17 @@ impl<N: Names> Desk<N> {
         requires within { 0 < seat.old.number }
         ensures left { result ≡ record { number = seat.old.number; revision = seat.old.revision } }
         ensures seat { seat.new ≡ vacated seat.old }
-        ensures told { (b : Routing) × Headline b × Meets b seat.old }
+        ensures told { (b : Routing) × Headline b × Meets b seat.old
+            × ((n : ℕ) × (new : Routing) × StepsTo b
+            (entry.Leave seat.old.index seat.old.number seat.old.revision)
+            (slice_set b.seats seat.old.index seat.new) new n × (n ≤ 2)) }
     {
         let mut locked = self.book.lock(rt);
         let book = &mut *locked;
         headline(book);
-        book.leave(seat)
+        let left = book.leave(seat);
+        headline(book);
+        left
     }
 
     /// [`Book::may_go_on`].
@@ -97,7 +110,7 @@ impl<N: Names> Desk<N> {
         ensures few { IfOk result (λ n. n ≤ 140) }
         ensures told { (b : Routing) × Headline b
             × AnswersBy (control_refusal b control.now) control_fault.OutOfMemory result
-            × IfOk result (λ n. (new : Routing) × StepsTo b control.now new n) }
+            × IfOk result (λ n. (new : Routing) × StepsTo b (event_of b control.now) b.seats new n) }
     {
         let mut locked = self.book.lock(rt);
         let book = &mut *locked;
@@ -116,6 +129,17 @@ impl<N: Names> Desk<N> {
         let book = &mut *locked;
         headline(book);
         book.compact()
+    }
+
+    /// [`Book::entries_used`].
+    pub fn entries_used<R: Wait>(&self, rt: &R) -> u64
+        ensures few { result ≤ 1000000 }
+        ensures told { (b : Routing) × Headline b × (result ≡ used_entries b.past) }
+    {
+        let locked = self.book.lock(rt);
+        let book = &*locked;
+        headline(book);
+        book.entries_used()
     }
 
     /// Answers what the question gives for the book as it is.

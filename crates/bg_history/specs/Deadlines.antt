@@ -34,12 +34,12 @@ abbrev pub is_left : MarkKind → Bool
 is_left Left = true
 is_left _ = false
 
--- the mark says that the revision left the active service after `stood` entries or more
+-- the mark says that the revision left the active service after more than `stood` entries
 abbrev pub left_later : ℕ → Option Mark → Bool
 left_later stood None = false
 left_later stood (Some m) = is_left m.kind && nat_lt stood m.stood
 
--- how many spare revisions left the active service after that many entries
+-- how many spare revisions left the active service after more than `stood` entries
 abbrev pub rank_after : Strategy → ℕ → List Entry → ℕ
 rank_after s stood past =
     count_by (λ q. is_spare s q past && left_later stood (mark s q past)) (existing past)

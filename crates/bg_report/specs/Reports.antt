@@ -12,7 +12,7 @@ use Rattle.bg_promotion.specs.Phases.{phase_of}
 use Rattle.bg_promotion.specs.PhaseNames.{phase_name}
 use Rattle.bg_history.specs.Selections.{selectors_of}
 use Rattle.bg_rollout.specs.Routing.{Routing}
-use Rattle.bg_history_listing.specs.Listed.{revisions_of}
+use Rattle.bg_history_laws.specs.Listed.{revisions_of}
 use Rattle.bg_rollout.specs.PastState.{is_draining, is_past_limit}
 
 -- a word, and its number

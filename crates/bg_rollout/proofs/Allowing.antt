@@ -10,7 +10,7 @@ use Rattle.bg_history.specs.declared.entry.Entry.TheVariants as event
 use Rattle.bg_history.specs.Sizes.{existing, last_number}
 use Rattle.bg_history.specs.Templates.{template, has_ports, owner}
 use Rattle.bg_history.specs.Turns.{newest_of}
-use Rattle.bg_history_listing.specs.Answers.{owner_answer, template_answer}
+use Rattle.bg_history_laws.specs.Answers.{owner_answer, template_answer}
 use Rattle.bg_rollout.specs.declared.control.Control.TheVariants.{Deploy}
 use Rattle.bg_rollout.specs.declared.control_fault.ControlFault.TheVariants as fault
 use Rattle.bg_rollout.specs.ControlFaults.{of_revision}

@@ -11,7 +11,7 @@ use Rattle.bg_history.specs.Steps.{all_given}
 use Rattle.bg_promotion.specs.Standing.{Standing}
 use Rattle.bg_promotion.specs.Stands.{StandsFor}
 use Rattle.bg_scaledown.specs.Past.{table_of}
-use Rattle.bg_history_listing.specs.Listed.{revisions_of}
+use Rattle.bg_history_laws.specs.Listed.{revisions_of}
 use Rattle.bg_requestlists.specs.RequestLists.{OpenAt}
 use Rattle.bg_rollout.specs.PastState.{lists_of, seated, seat_of}
 use Rattle.bg_rollout.specs.Changes.{with_past}

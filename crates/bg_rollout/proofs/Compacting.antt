@@ -8,7 +8,7 @@ use Rattle.bg_history.specs.Selections.{selectors_of}
 use Rattle.bg_history.specs.Sizes.{existing}
 use Rattle.bg_history.specs.Turns.{moment}
 use Rattle.bg_history.specs.Requests.{open_requests, held_by, given, calls_of}
-use Rattle.bg_history_listing.specs.Listed.{revision_of, revisions_of}
+use Rattle.bg_history_laws.specs.Listed.{revision_of, revisions_of}
 use Rattle.bg_ledger.specs.declared.holding.Holding.{Holding}
 use Rattle.bg_promotion.specs.Phases.{phase_of}
 use Rattle.bg_scaledown.specs.Due.{deadline_in}
@@ -19,7 +19,7 @@ use Rattle.bg_rollout.specs.State.{revision_state, seats_from, state_of}
 use Rattle.bg_rollout.specs.Routing.{Routing}
 use Rattle.bg_rollout.specs.Invariant.{has_number, Differ, RoutingStands, RunningState, Stands}
 use Rattle.bg_history.specs.Compacted.{compacted, closed_after}
-use Rattle.bg_history_compaction.specs.Laws.{Answers, Compacts, Same}
+use Rattle.bg_history_laws.specs.Compaction.{Answers, Compacts, Same}
 use Rattle.bg_rollout.specs.Compaction.{with_compacted}
 
 map-same : {X : Type 0} (f g : ℕ → X) → ((r : ℕ) → f r ≡ g r) → (xs : List ℕ) → map f xs ≡ map g xs

@@ -10,7 +10,7 @@ use Rattle.bg_history.specs.Sizes.{AllAbove, Ascends, put, existing, last_number
 use Rattle.bg_history.specs.Deadlines.{exists_in}
 use Rattle.bg_history.specs.Requests.{Request, open_requests}
 use Rattle.bg_history.specs.Templates.{template, is_named, owner}
-use Rattle.bg_history_facts.specs.Reachable.{Reachable}
+use Rattle.bg_history_laws.specs.Reachable.{Reachable}
 use Rattle.bg_requestlists.specs.declared.request_lists.OpenRequest.{OpenRequest}
 use Rattle.bg_rollout.specs.PastState.{listed, requests_at, lists_of}
 use Rattle.bg_rollout.proofs.Requests.{eq_from, eq_refl}

@@ -14,7 +14,7 @@ use Rattle.bg_history.specs.Sizes.{desired, available}
 use Rattle.bg_history.specs.Deadlines.{exists_in}
 use Rattle.bg_history.specs.Templates.{template}
 use Rattle.bg_history.specs.Allowed.{is_allowed}
-use Rattle.bg_history_listing.specs.Listed.{sized, revision_of, revisions_of}
+use Rattle.bg_history_laws.specs.Listed.{sized, revision_of, revisions_of}
 use Rattle.bg_rollout.specs.Refusals.{fault_if}
 use Rattle.bg_rollout.specs.Routing.{Routing}
 use Rattle.bg_rollout.proofs.Requests.{and_parts}

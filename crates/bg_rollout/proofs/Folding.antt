@@ -9,7 +9,7 @@ use Rattle.bg_history.specs.Turns.{moment as moment_of}
 use Rattle.bg_history.specs.Sizes.{existing}
 use Rattle.bg_history.specs.Deadlines.{exists_in}
 use Rattle.bg_history.specs.Selections.{selectors_of}
-use Rattle.bg_history_listing.specs.Listed.{revision_of}
+use Rattle.bg_history_laws.specs.Listed.{revision_of}
 use Rattle.bg_promotion.specs.Phases.{phase_of}
 use Rattle.bg_promotion.specs.Standing.{Standing}
 use Rattle.bg_promotion.specs.Stands.{StandsFor}

@@ -6,7 +6,7 @@ use Rattle.bg_history.specs.declared.entry.Entry.TheVariants.{Leave}
 use Rattle.bg_history.specs.Deadlines.{exists_in}
 use Rattle.bg_history.specs.Requests.{Request, open_requests, held_by, calls_of, given}
 use Rattle.bg_promotion.specs.Stands.{StandsFor}
-use Rattle.bg_history_facts.specs.Reachable.{stands_scaled}
+use Rattle.bg_history_laws.specs.Reachable.{stands_scaled}
 use Rattle.bg_ledger.specs.declared.holding.Holding.{Holding}
 use Rattle.bg_ledger.specs.Holdings.{vacated}
 use Rattle.bg_requestlists.specs.RequestLists.{OpenAt, has_request, without}

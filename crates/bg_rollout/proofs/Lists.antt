@@ -12,7 +12,7 @@ use Rattle.bg_history.specs.declared.entry.Outcome.TheVariants.{Removed}
 use Rattle.bg_history.specs.Sizes.{existing, AllAbove, Ascends}
 use Rattle.bg_history.specs.Deadlines.{exists_in}
 use Rattle.bg_history.specs.Requests.{Request, open_requests, open_at, held_by}
-use Rattle.bg_history_facts.specs.Reachable.{stands_scaled}
+use Rattle.bg_history_laws.specs.Reachable.{stands_scaled}
 use Rattle.bg_requestlists.specs.declared.request_lists.OpenRequest.{OpenRequest}
 use Rattle.bg_requestlists.specs.RequestLists.{OpenAt, requests_in, list_of, changed, without, has_request, is_empty_at}
 use Rattle.bg_rollout.specs.PastState.{listed, requests_at, lists_of}

@@ -7,7 +7,7 @@ use Rattle.bg_history.specs.Turns.{newest_of}
 use Rattle.bg_history.specs.Selections.{active_of, selectors_of}
 use Rattle.bg_history.specs.Sizes.{existing, is_scaled}
 use Rattle.bg_history.specs.Deadlines.{deadline, exists_in}
-use Rattle.bg_history_facts.specs.Reachable.{Reachable}
+use Rattle.bg_history_laws.specs.Reachable.{Reachable}
 use Rattle.bg_scaledown.specs.Due.{has_room_for}
 use Rattle.bg_scaledown.specs.Events.{may_mark}
 use Rattle.bg_scaledown.specs.Past.{table_of, DeadlinesStand}

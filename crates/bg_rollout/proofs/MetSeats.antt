@@ -11,7 +11,7 @@ use Rattle.bg_history.specs.Sizes.{is_scaled}
 use Rattle.bg_history.specs.Deadlines.{exists_in}
 use Rattle.bg_history.specs.Steps.{all_allowed}
 use Rattle.bg_history.specs.Templates.{template}
-use Rattle.bg_history_facts.specs.Reachable.{Reachable, stands_scaled}
+use Rattle.bg_history_laws.specs.Reachable.{Reachable, stands_scaled}
 use Rattle.bg_ledger.specs.declared.holding.Holding.{Holding}
 use Rattle.bg_requestlists.specs.declared.request_lists.OpenRequest.{OpenRequest}
 use Rattle.bg_requestlists.specs.RequestLists.{OpenAt, list_of}

@@ -17,8 +17,8 @@ use Rattle.bg_history.specs.Deadlines.{exists_in}
 use Rattle.bg_history.specs.Requests.{given}
 use Rattle.bg_history.specs.Templates.{template}
 use Rattle.bg_history.specs.Allowed.{selection, port_of, port_in}
-use Rattle.bg_history_listing.specs.Listed.{sized, revision_of}
-use Rattle.bg_history_facts.specs.Reachable.{Reachable, stands_scaled}
+use Rattle.bg_history_laws.specs.Listed.{sized, revision_of}
+use Rattle.bg_history_laws.specs.Reachable.{Reachable, stands_scaled}
 use Rattle.bg_rollout.specs.declared.fault.EnterFault.TheVariants as fault
 use Rattle.bg_rollout.specs.Refusals.{all_open, fault_if, is_full_for_enter, enter_refusal, enter_refusal_at}
 use Rattle.bg_rollout.specs.Routing.{Routing}

@@ -12,8 +12,8 @@ use Rattle.bg_history.specs.Turns.{stable_of, newest_of}
 use Rattle.bg_history.specs.Selections.{active_of, preview_of, selectors_of}
 use Rattle.bg_history.specs.Sizes.{existing, desired, is_scaled}
 use Rattle.bg_history.specs.Deadlines.{is_old, old_revisions}
-use Rattle.bg_history_listing.specs.Listed.{revision_of, revisions_of}
-use Rattle.bg_history_settling.specs.Removals.{first_of}
+use Rattle.bg_history_laws.specs.Listed.{revision_of, revisions_of}
+use Rattle.bg_history_laws.specs.Removals.{first_of}
 use Rattle.bg_rollout.specs.Settling.{old_among}
 use Rattle.bg_rollout.proofs.Events.{wants, is_numbered}
 

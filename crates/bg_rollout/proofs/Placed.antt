@@ -16,7 +16,7 @@ use Rattle.bg_history.specs.Requests.{Request, open_requests, held_by, request_n
 use Rattle.bg_history.specs.Templates.{template}
 use Rattle.bg_history.specs.Allowed.{selection, has_value, port_in, port_of, may_enter, is_allowed}
 use Rattle.bg_history.specs.Steps.{all_allowed}
-use Rattle.bg_history_facts.specs.Reachable.{Reachable}
+use Rattle.bg_history_laws.specs.Reachable.{Reachable}
 use Rattle.bg_rollout.specs.Meeting.{ports_in}
 use Rattle.bg_rollout.proofs.Requests.{and_parts, all_appended, all_kept, all_weaker, eq_from, eq_refl}
 

@@ -7,7 +7,7 @@ use Rattle.bg_history.specs.Steps.{first_allowed, is_settled, Follows, with_outc
 use Rattle.bg_strategy.specs.declared.strategy.Strategy.{Strategy}
 use Rattle.std.specs.Option.{option_or}
 use Rattle.bg_history.specs.Promotion.{first_promotion}
-use Rattle.bg_history_settling.specs.Work.{work}
+use Rattle.bg_history_laws.specs.Work.{work}
 use Rattle.bg_rollout.specs.Changes.{with_past}
 use Rattle.bg_rollout.specs.Routing.{Routing}
 use Rattle.bg_rollout.specs.PastState.{lists_of}

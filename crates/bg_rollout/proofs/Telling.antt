@@ -8,8 +8,8 @@ use Rattle.bg_history.specs.Kept.{Opening, Template}
 use Rattle.bg_history.specs.Requests.{open_requests, open_at}
 use Rattle.bg_history.specs.Sizes.{existing, desired, available}
 use Rattle.bg_history.specs.Templates.{template}
-use Rattle.bg_history_facts.specs.Reachable.{stands_scaled}
-use Rattle.bg_history_listing.specs.Listed.{revision_of, sized}
+use Rattle.bg_history_laws.specs.Reachable.{stands_scaled}
+use Rattle.bg_history_laws.specs.Listed.{revision_of, sized}
 use Rattle.bg_rollout.specs.PastState.{listed, requests_at}
 use Rattle.bg_rollout.specs.State.{revision_state, numbered, deadline_in_state, requests_in_state}
 use Rattle.bg_rollout.proofs.Lists.{list_counts, list_of_past, none_elsewhere}

@@ -18,7 +18,7 @@ use Rattle.bg_promotion.specs.Stands.{StandsFor}
 use Rattle.bg_scaledown.specs.Tables.{Table}
 use Rattle.bg_scaledown.specs.Due.{deadline_in}
 use Rattle.bg_scaledown.specs.Past.{table_of}
-use Rattle.bg_history_listing.specs.Listed.{revisions_of}
+use Rattle.bg_history_laws.specs.Listed.{revisions_of}
 use Rattle.bg_rollout.specs.declared.rollout.Rollout.TheInside.{Inside}
 use Rattle.bg_rollout.specs.PastState.{lists_of, SeatsStand}
 use Rattle.bg_rollout.specs.Refusals.{all_open, usual_limits}

@@ -15,7 +15,7 @@ use Rattle.bg_history.specs.Requests.{open_requests, given}
 use Rattle.bg_history.specs.Templates.{owner}
 use Rattle.bg_history.specs.Allowed.{selection, port_of}
 use Rattle.bg_promotion.specs.Answers.{abort_answer, retry_answer, promote_answer, promote_full_answer, verdict_answer}
-use Rattle.bg_history_listing.specs.Answers.{template_answer}
+use Rattle.bg_history_laws.specs.Answers.{template_answer}
 use Rattle.bg_rollout.specs.declared.limits.Limits.{Limits}
 use Rattle.bg_rollout.specs.declared.control.Control.{Control}
 use Rattle.bg_rollout.specs.declared.control.Control.TheVariants.{Tick, Deploy, Available, Verdict, Promote, PromoteFull, Abort, Retry}

@@ -8,7 +8,7 @@ use Rattle.bg_history.specs.Kept.{Opening}
 use Rattle.bg_history.specs.Turns.{moment as moment_of}
 use Rattle.bg_history.specs.Selections.{selectors_of}
 use Rattle.bg_history.specs.Sizes.{existing}
-use Rattle.bg_history_listing.specs.Listed.{revision_of}
+use Rattle.bg_history_laws.specs.Listed.{revision_of}
 use Rattle.bg_promotion.specs.declared.phase.Phase.{Phase}
 use Rattle.bg_promotion.specs.Phases.{phase_of}
 use Rattle.bg_scaledown.specs.Due.{deadline_in}

@@ -10,9 +10,9 @@ ghost use Rattle.bg_history.specs.Deadlines.{deadline};
 ghost use Rattle.bg_history.specs.Requests.{calls_of, open_at, open_requests};
 ghost use Rattle.bg_history.specs.Sizes.{existing};
 ghost use Rattle.bg_history.specs.Steps.{Follows};
-ghost use Rattle.bg_history_compaction.specs.Laws.{Answers, Same};
-ghost use Rattle.bg_history_listing.specs.Listed.{revisions_of};
-ghost use Rattle.bg_history_settling.specs.Work.{work};
+ghost use Rattle.bg_history_laws.specs.Compaction.{Answers, Same};
+ghost use Rattle.bg_history_laws.specs.Listed.{revisions_of};
+ghost use Rattle.bg_history_laws.specs.Work.{work};
 ghost use Rattle.bg_ledger.specs.declared.holding.Holding.{Holding};
 ghost use Rattle.bg_requestlists.specs.RequestLists.{list_of};
 ghost use Rattle.bg_rollout.specs.Compaction.{with_compacted};
@@ -24,9 +24,9 @@ ghost use Rattle.bg_rollout.specs.Routing.{Routing};
 ghost use Rattle.bg_rollout.specs.State.{deadline_at, open_count_at, revision_at, state_of};
 ghost use Rattle.bg_scaledown.specs.Past.{table_of};
 
-use bg_history_compaction::laws::{compacts, keeps_table};
-use bg_history_facts::laws::reachable;
-use bg_history_settling::laws::work_falls;
+use bg_history_laws::compaction::{compacts, keeps_table};
+use bg_history_laws::facts::reachable;
+use bg_history_laws::settling::work_falls;
 use bg_scaledown::laws::table_tells_deadlines;
 
 /// The list of each revision has just its open requests, each at the node of its seat's index, and they are as many

@@ -1,5 +1,5 @@
 //! Reads a strategy.
-ghost use Rattle.std.specs.Prelude.{◌≡◌, ◌⊎◌, ◌<◌, length, None, Err, IfOk, IfErr};
+ghost use Rattle.std.specs.Prelude.{◌≡◌, ◌⊎◌, None, IfOk, IfErr};
 ghost use Rattle.serde_json.specs.View.{view};
 ghost use Rattle.bg_strategy.specs.Lookup.{text_of as text_in};
 ghost use Rattle.bg_strategy.specs.Faults.{strategy_fault_of as strategy_fault_in};
@@ -25,7 +25,6 @@ use std::alloc::{AllocError, Global};
 pub fn read(alloc: Global, bytes: &[u8]) -> Result<Strategy, StrategyFault>
     ensures ok { IfOk result (IsStrategyIn bytes.now) }
     ensures fault { IfErr result (λ e. (e ≡ StrategyFault.OutOfMemory) ⊎ IsFaultIn bytes.now e) }
-    ensures out_of_memory { result ≡ Err StrategyFault.OutOfMemory → 0 < length bytes.now }
 {
     let document = Value::from_slice(alloc, bytes)?;
     if let Some(fault) = strategy_fault_of(&document) {

@@ -3,7 +3,7 @@ ghost use Rattle.std.specs.Prelude.{◌≡◌, ◌+◌, length};
 ghost use Rattle.bg_rollout.specs.Compaction.{with_compacted};
 
 use crate::book::Book;
-use bg_history_compaction::laws::{compacts, no_longer};
+use bg_history_laws::compaction::{compacts, no_longer};
 use bg_ledger::Names;
 
 impl<N: Names> Book<N> {

@@ -5,8 +5,8 @@ ghost use Rattle.bg_rollout.specs.Changes.{Stepped, with_past};
 ghost use Rattle.bg_rollout.specs.declared.control_fault.ControlFault.TheVariants.{OutOfMemory};
 
 use crate::book::Book;
-use bg_history_facts::laws::reachable;
-use bg_history_settling::laws::work_is_bounded;
+use bg_history_laws::facts::reachable;
+use bg_history_laws::settling::work_is_bounded;
 use bg_ledger::Names;
 use bg_rollout::laws::few_follow;
 use bg_rollout::{Control, ControlFault, MOST_ENTRIES};

@@ -6,7 +6,7 @@ ghost use Rattle.bg_rollout.specs.Meeting.{Meets};
 ghost use Rattle.bg_rollout.specs.declared.fault.EnterFault.TheVariants.{OutOfMemory};
 
 use crate::book::Book;
-use bg_history_settling::laws::entering_settles;
+use bg_history_laws::settling::entering_settles;
 use bg_ledger::{Names, Seat};
 use bg_revisions::Service;
 use bg_rollout::{EnterFault, PLACES_OF_A_REQUEST, Ticket};

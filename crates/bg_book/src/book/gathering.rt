@@ -42,14 +42,19 @@ impl<N: Names> Book<N> {
         Ok(rollout.end(seats))
     }
 
-    /// Lets each request that is in leave, in the order of the seats, and gathers. It takes no memory.
+    /// Lets each request that is in leave, in the order of the seats, and gathers: what it gives is what
+    /// [`Book::gather`] gives then. It takes no memory.
     pub fn close(self, seats: Vec<Seat<N>>) -> History
         requires all { are_all N.seats seats.items ≡ true }
         ensures left { (new : Routing) × (left : List Holding)
             × LeavesAll self seats.items (length seats.items) new left × AreOut left
             × (result.opening ≡ new.opening) × (result.closed ≡ new.closed)
-            × (result.past ≡ new.past) }
+            × (result.past ≡ new.past)
+            × ((i : ℕ) (seat : Holding) → slice_get left i ≡ Some seat
+            → seat.calls ≡ calls_of result.closed i result.past) }
         ensures seats { result.opening.seats ≡ N.seats }
+        ensures legal { IsLegal self.strategy result.opening result.closed result.past }
+        ensures settled { IsTrue (is_settled self.strategy result.past) }
         ensures none_open { open_requests result.past ≡ [] }
     {
         gathers();

@@ -6,7 +6,7 @@ ghost use Rattle.bg_rollout.specs.Changes.{Stepped, with_past};
 ghost use Rattle.bg_rollout.specs.Meeting.{Meets};
 
 use crate::book::Book;
-use bg_history_settling::laws::{leaving_allows_two, leaving_settles};
+use bg_history_laws::settling::{leaving_allows_two, leaving_settles};
 use bg_ledger::{Names, Seat};
 use bg_rollout::Left;
 use bg_rollout::laws::has_request;

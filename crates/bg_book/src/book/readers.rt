@@ -1,13 +1,15 @@
 //! What a book answers of its state.
-ghost use Rattle.std.specs.Prelude.{◌≡◌, length, slice_get, Some, option_copied};
+ghost use Rattle.std.specs.Prelude.{◌≡◌, ◌≤◌, ◌+◌, length, nat_lt, slice_get, Some, option_copied};
 ghost use Rattle.bg_history.specs.Turns.{moment as moment_of};
 ghost use Rattle.bg_history.specs.Sizes.{existing};
 ghost use Rattle.bg_history.specs.Requests.{open_at};
 ghost use Rattle.bg_history.specs.Deadlines.{deadline};
 ghost use Rattle.bg_history.specs.Selections.{selectors_of};
-ghost use Rattle.bg_history_listing.specs.Listed.{revisions_of};
+ghost use Rattle.bg_history_laws.specs.Listed.{revisions_of};
 ghost use Rattle.bg_promotion.specs.Phases.{phase_of};
 ghost use Rattle.bg_rollout.specs.PastState.{is_draining as is_draining_in, is_past_limit};
+ghost use Rattle.bg_book.specs.Room.{entries_used as used_entries};
+ghost use Rattle.bg_rollout.specs.Refusals.{is_full_for_control, is_full_for_enter};
 ghost use Rattle.bg_rollout.specs.State.{deadline_at, open_count_at, revision_at};
 
 use crate::book::Book;
@@ -107,6 +109,21 @@ impl<N: Names> Book<N> {
         ensures { result ≡ is_past_limit self.now.strategy number self.now.past }
     {
         self.rollout.past_limit(number)
+    }
+
+    /// How many entries of the history are used: those that it has, and the three that are kept for each open request.
+    /// [`Book::control`] has no room where 141 more are above the limit of entries ([`crate::Limits`]), and
+    /// [`Book::enter`] where 4 more are. It takes the same time whatever the length of the history.
+    pub fn entries_used(&self) -> u64
+        ensures used { result ≡ used_entries self.now.past }
+        ensures few { result ≤ 1000000 }
+        ensures control { is_full_for_control self.now.limits self.now.past
+            ≡ nat_lt self.now.limits.entries (result + 141) }
+        ensures enter { is_full_for_enter self.now.limits self.now.past
+            ≡ nat_lt self.now.limits.entries (result + 4) }
+    {
+        self.rollout.stands();
+        self.rollout.history().len() + self.rollout.places_kept()
     }
 
     /// The history since the opening.

@@ -3,7 +3,7 @@ ghost use Rattle.std.specs.Prelude.{◌≡◌, ◌+◌, length};
 ghost use Rattle.bg_rollout.specs.Compaction.{midway_compacted};
 
 use crate::rollout::Rollout;
-use bg_history_compaction::laws::{compacts, is_sound, keeps_table};
+use bg_history_laws::compaction::{compacts, is_sound, keeps_table};
 use bg_ledger::Names;
 
 impl<N: Names> Rollout<N> {

@@ -3,7 +3,7 @@ ghost use Rattle.std.specs.Prelude.{◌≡◌, ◌≤◌, ◌+◌, ◌*◌, leng
 ghost use Rattle.bg_history.specs.Sizes.{existing};
 ghost use Rattle.bg_history.specs.Templates.{owner};
 ghost use Rattle.bg_history.specs.Turns.{newest_of};
-ghost use Rattle.bg_history_listing.specs.Answers.{template_answer};
+ghost use Rattle.bg_history_laws.specs.Answers.{template_answer};
 ghost use Rattle.bg_rollout.specs.Refusals.{all_open, control_refusal, deploy_fault, event_fault, event_of, refuse};
 ghost use Rattle.bg_rollout.specs.Judging.{entry_of, IsAccepted};
 ghost use Rattle.bg_rollout.specs.declared.control.Control.TheVariants as control;
@@ -14,8 +14,8 @@ use crate::control_fault::ControlFault;
 use crate::limits::MOST_ENTRIES;
 use crate::rollout::Rollout;
 use bg_history::Entry;
-use bg_history_facts::laws::reachable;
-use bg_history_listing::laws::{finds, names};
+use bg_history_laws::facts::reachable;
+use bg_history_laws::listing::{finds, names};
 use bg_ledger::Names;
 use bg_revisions::{MOST_REVISIONS, RevisionFault};
 

@@ -7,7 +7,7 @@ ghost use Rattle.bg_rollout.specs.Changes.{with_past};
 use crate::rollout::Rollout;
 use crate::ticket::Left;
 use bg_history::Entry;
-use bg_history_facts::laws::reachable;
+use bg_history_laws::facts::reachable;
 use bg_ledger::{Names, Seat};
 use bg_promotion::laws::neutral;
 

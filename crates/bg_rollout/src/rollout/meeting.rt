@@ -5,7 +5,7 @@ ghost use Rattle.bg_rollout.specs.PastState.{goes_on};
 
 use crate::go_on::GoOn;
 use crate::rollout::Rollout;
-use bg_history_facts::laws::reachable;
+use bg_history_laws::facts::reachable;
 use bg_ledger::{Names, Seat};
 
 impl<N: Names> Rollout<N> {

@@ -6,14 +6,14 @@ ghost use Rattle.bg_history.specs.Requests.{open_at};
 ghost use Rattle.bg_history.specs.Deadlines.{deadline, is_reached};
 ghost use Rattle.bg_history.specs.Selections.{selectors_of};
 ghost use Rattle.bg_history.specs.Steps.{is_settled};
-ghost use Rattle.bg_history_listing.specs.Listed.{revisions_of};
+ghost use Rattle.bg_history_laws.specs.Listed.{revisions_of};
 ghost use Rattle.bg_promotion.specs.Phases.{phase_of};
 ghost use Rattle.bg_rollout.specs.PastState.{drain_end, is_draining as is_draining_in, is_past_limit};
 
 use crate::rollout::Rollout;
 use bg_history::History;
-use bg_history_facts::laws::reachable;
-use bg_history_listing::laws::finds;
+use bg_history_laws::facts::reachable;
+use bg_history_laws::listing::finds;
 use bg_ledger::Names;
 use bg_promotion::Phase;
 use bg_revisions::{Revision, Selectors};

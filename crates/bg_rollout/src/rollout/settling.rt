@@ -12,9 +12,9 @@ ghost use Rattle.bg_history.specs.declared.entry.Outcome.{Outcome};
 
 use crate::rollout::Rollout;
 use bg_history::{Entry, Outcome};
-use bg_history_facts::laws::reachable;
-use bg_history_listing::laws::{finds, keeps, removes, resizes};
-use bg_history_settling::laws::{oldest_is_removed, work_falls, work_is_bounded};
+use bg_history_laws::facts::reachable;
+use bg_history_laws::listing::{finds, keeps, removes, resizes};
+use bg_history_laws::settling::{oldest_is_removed, work_falls, work_is_bounded};
 use bg_ledger::Names;
 use bg_promotion::laws::neutral;
 use bg_revisions::{Revision, Selectors};

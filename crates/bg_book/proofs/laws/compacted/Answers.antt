@@ -40,5 +40,5 @@ returns-clause-headline g c =
     let new : Routing = with_compacted b in
     let stand = c.compaction_keeps.ensures.stands b c.stands.ensures in
     subst (λ x. Headline (with_compacted x)) c.book.view_is
-    (headline_of new stand (c.reachable.ensures new.strategy new.opening new.past stand.legal.allowed) (ap is_none k.first ∙ c.book.invariant.settled)
+    (headline_of new stand (c.reachable.ensures new.strategy new.opening new.past stand.legal.allowed) (ap is_none k.first ∙ c.book.invariant.settled) (c.state_tells.ensures.deadlines new stand)
     (c.lists_requests.ensures.nodes new stand) (c.lists_requests.ensures.numbers new stand) (c.lists_requests.ensures.shares new stand))

@@ -8,5 +8,5 @@ returns g c =
     let b = c.book.inside.rollout.routing in
     let stand = c.stands.ensures in
     subst Headline c.book.view_is
-    (headline_of b stand (c.reachable.ensures b.strategy b.opening b.past stand.legal.allowed) c.book.invariant.settled
+    (headline_of b stand (c.reachable.ensures b.strategy b.opening b.past stand.legal.allowed) c.book.invariant.settled (c.state_tells.ensures.deadlines b stand)
     (c.lists_requests.ensures.nodes b stand) (c.lists_requests.ensures.numbers b stand) (c.lists_requests.ensures.shares b stand))

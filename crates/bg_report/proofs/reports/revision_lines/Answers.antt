@@ -2,7 +2,7 @@ use Rattle.std.proofs.Common.{◌≡◌, ◌<◌, length, arith, Some, None, sli
 use Rattle.std.proofs.lemmas.List.{length-map}
 use Rattle.std.specs.Io.KnownBytes.{Appends}
 use Rattle.bg_history.specs.Sizes.{existing}
-use Rattle.bg_history_listing.specs.Listed.{revisions_of, revision_of}
+use Rattle.bg_history_laws.specs.Listed.{revisions_of, revision_of}
 use Rattle.bg_report.specs.Reports.{revision_line}
 use Rattle.bg_report.proofs.ReportLines.{writes_next, has_element}
 use Rattle.bg_report.proofs.reports.revision_lines.Goals as goal

@@ -1,7 +1,7 @@
 use Rattle.std.proofs.Common.{◌≡◌, ◌≤◌, ◌+◌, ◌*◌, ◌∷◌, ℕ, true, length, Option, Some, None, Result, Ok, Err, inl, sym, ap, ◌∙◌, subst, arith}
 use Rattle.std.specs.Result.{IsErrAnd}
 use Rattle.bg_history.specs.Steps.{is_settled}
-use Rattle.bg_history_facts.specs.Reachable.{Reachable}
+use Rattle.bg_history_laws.specs.Reachable.{Reachable}
 use Rattle.bg_history.specs.declared.entry.Entry.{Entry}
 use Rattle.bg_rollout.specs.declared.accepted.Accepted.{Accepted}
 use Rattle.bg_rollout.specs.declared.control.Control.{Control}

@@ -12,7 +12,7 @@ use Rattle.bg_book.proofs.desk.Desk.control.Goals as goal
 -- the book that it became
 steps : (b new : Routing) (control : Control) (answer : Result ℕ ControlFault) → Headline new
     → IfOk answer (λ n. Stepped b.strategy (event_of b control) b.past new.past n) → IfOk answer (λ n. new ≡ with_past b new.past b.seats)
-    → IfOk answer (λ n. (now : Routing) × StepsTo b control now n)
+    → IfOk answer (λ n. (now : Routing) × StepsTo b (event_of b control) b.seats now n)
 steps b new control (Ok n) headline step book = (new, record { headline = headline; step = step; book = book })
 steps b new control (Err e) headline step book = tt
 

@@ -1,6 +1,6 @@
 use Rattle.std.proofs.Common.{◌≡◌, ◌≤◌, ◌+◌, ◌∷◌, ◌++◌, [], ℕ, None, length, slice_set, refl, subst, sym, ap, ◌∙◌, arith}
 use Rattle.bg_revisions.specs.declared.revision.Service.{Service}
-use Rattle.bg_history_facts.specs.Reachable.{Reachable}
+use Rattle.bg_history_laws.specs.Reachable.{Reachable}
 use Rattle.bg_rollout.specs.declared.ticket.Ticket.{Ticket}
 use Rattle.bg_ledger.specs.declared.holding.Holding.{Holding}
 use Rattle.bg_requestlists.specs.RequestLists.{changed, has_request}

@@ -2,7 +2,7 @@ use Rattle.std.proofs.Common.{◌≡◌, ℕ, List, [], ◌∷◌, nat_eq, lengt
 use Rattle.std.proofs.lemmas.Bool.Decides.{nat_tests}
 use Rattle.bg_history.specs.Deadlines.{is_empty}
 use Rattle.bg_history.specs.Requests.{open_at}
-use Rattle.bg_history_facts.specs.Reachable.{Reachable}
+use Rattle.bg_history_laws.specs.Reachable.{Reachable}
 use Rattle.bg_requestlists.specs.RequestLists.{OpenAt, list_of}
 use Rattle.bg_rollout.specs.Invariant.{Midway, Stands, midway_of, running_of}
 use Rattle.bg_rollout.proofs.Lists.{list_counts}

@@ -13,8 +13,8 @@ use Rattle.bg_history.specs.Requests.{open_at}
 use Rattle.bg_history.specs.Promotion.{first_promotion}
 use Rattle.bg_history.specs.Deadlines.{exists_in, is_empty, may_scale_down, may_remove}
 use Rattle.bg_history.specs.Steps.{first_allowed}
-use Rattle.bg_history_listing.specs.Listed.{revision_of, revisions_of}
-use Rattle.bg_history_facts.specs.Reachable.{Reachable}
+use Rattle.bg_history_laws.specs.Listed.{revision_of, revisions_of}
+use Rattle.bg_history_laws.specs.Reachable.{Reachable}
 use Rattle.bg_rollout.specs.declared.rollout.Rollout.TheInside.{Inside}
 use Rattle.bg_rollout.specs.Invariant.{Midway, Stands, midway_of, running_of}
 use Rattle.bg_rollout.proofs.Events.{found_there, has}

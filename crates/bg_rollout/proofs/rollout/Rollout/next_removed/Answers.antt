@@ -5,7 +5,7 @@ use Rattle.bg_history.specs.Deadlines.{old_revisions, may_remove}
 use Rattle.bg_history.specs.Sizes.{existing}
 use Rattle.bg_history.specs.Selections.{selectors_of}
 use Rattle.bg_revisions.specs.declared.revision.Selectors.{Selectors}
-use Rattle.bg_history_settling.specs.Removals.{first_of}
+use Rattle.bg_history_laws.specs.Removals.{first_of}
 use Rattle.bg_rollout.specs.declared.rollout.Rollout.TheInside.{Inside}
 use Rattle.bg_rollout.specs.Settling.{old_among}
 use Rattle.bg_rollout.specs.Invariant.{Midway, Stands, midway_of, running_of}

@@ -6,8 +6,8 @@ use Rattle.bg_revisions.specs.declared.revision.Service.{Service}
 use Rattle.bg_revisions.specs.Rosters.{numbered, IsRoster}
 use Rattle.bg_history.specs.Sizes.{available}
 use Rattle.bg_history.specs.Allowed.{selection}
-use Rattle.bg_history_listing.specs.Listed.{revision_of}
-use Rattle.bg_history_facts.specs.Reachable.{Reachable}
+use Rattle.bg_history_laws.specs.Listed.{revision_of}
+use Rattle.bg_history_laws.specs.Reachable.{Reachable}
 use Rattle.bg_rollout.specs.declared.ticket.Ticket.{Ticket}
 use Rattle.bg_rollout.specs.declared.fault.EnterFault.{EnterFault}
 use Rattle.bg_rollout.specs.Refusals.{all_open, enter_refusal, IsTicket}

@@ -16,8 +16,8 @@ use Rattle.bg_promotion.specs.Stands.{StandsFor, is_neutral}
 use Rattle.bg_history.specs.Promotion.{first_promotion}
 use Rattle.bg_promotion.specs.Answers.{is_step}
 use Rattle.bg_scaledown.specs.Tables.{Table}
-use Rattle.bg_history_listing.specs.Listed.{revision_of, revisions_of}
-use Rattle.bg_history_facts.specs.Reachable.{Reachable}
+use Rattle.bg_history_laws.specs.Listed.{revision_of, revisions_of}
+use Rattle.bg_history_laws.specs.Reachable.{Reachable}
 use Rattle.bg_requestlists.specs.RequestLists.{OpenAt, is_empty_at}
 use Rattle.bg_rollout.specs.PastState.{lists_of}
 use Rattle.bg_rollout.specs.declared.rollout.Rollout.TheInside.{Inside}

@@ -1,5 +1,5 @@
 use Rattle.std.proofs.Common.{sym, arith}
-use Rattle.bg_history_facts.specs.Reachable.{Reachable}
+use Rattle.bg_history_laws.specs.Reachable.{Reachable}
 use Rattle.bg_rollout.proofs.Reaching.{reached_none, reached_more, place_left, work_left, follow_few}
 use Rattle.bg_rollout.proofs.rollout.Rollout.settle.Goals as goal
 

@@ -1,5 +1,5 @@
 use Rattle.std.proofs.Common.{◌≡◌, ◌+◌}
-use Rattle.bg_history_settling.specs.Work.{work}
+use Rattle.bg_history_laws.specs.Work.{work}
 use Rattle.bg_rollout.specs.Settling.{Reached}
 use Rattle.bg_rollout.proofs.rollout.Rollout.settle.Given as goal
 

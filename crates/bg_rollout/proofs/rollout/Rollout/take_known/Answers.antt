@@ -11,11 +11,11 @@ use Rattle.bg_history.specs.Turns.{stable_of}
 use Rattle.bg_history.specs.Sizes.{desired, last_number}
 use Rattle.bg_history.specs.Deadlines.{exists_in}
 use Rattle.bg_history.specs.Templates.{owner}
-use Rattle.bg_history_facts.specs.Reachable.{Reachable}
+use Rattle.bg_history_laws.specs.Reachable.{Reachable}
 use Rattle.bg_promotion.specs.Standing.{Standing}
 use Rattle.bg_promotion.specs.Stands.{StandsFor}
 use Rattle.bg_scaledown.specs.Tables.{Table}
-use Rattle.bg_history_listing.specs.Listed.{revisions_of}
+use Rattle.bg_history_laws.specs.Listed.{revisions_of}
 use Rattle.bg_rollout.specs.declared.rollout.Rollout.TheInside.{Inside}
 use Rattle.bg_rollout.specs.PastState.{lists_of}
 use Rattle.bg_rollout.specs.Invariant.{Midway, Stands, midway_of, running_of}

@@ -6,7 +6,7 @@ use Rattle.bg_history.specs.declared.entry.Entry.TheVariants as event
 use Rattle.bg_history.specs.Turns.{stable_of}
 use Rattle.bg_history.specs.Sizes.{last_number}
 use Rattle.bg_history.specs.Allowed.{is_allowed}
-use Rattle.bg_history_facts.specs.Reachable.{Reachable}
+use Rattle.bg_history_laws.specs.Reachable.{Reachable}
 use Rattle.bg_promotion.specs.Stands.{StandsFor}
 use Rattle.bg_scaledown.specs.Past.{table_of}
 use Rattle.bg_requestlists.specs.RequestLists.{OpenAt}

@@ -5,7 +5,7 @@ use Rattle.bg_revisions.specs.Rosters.{Listing, numbered, resized}
 use Rattle.bg_history.specs.declared.entry.Entry.TheVariants as event
 use Rattle.bg_history.specs.Turns.{newest_of}
 use Rattle.bg_history.specs.Sizes.{desired}
-use Rattle.bg_history_facts.specs.Reachable.{Reachable}
+use Rattle.bg_history_laws.specs.Reachable.{Reachable}
 use Rattle.bg_rollout.specs.Invariant.{Stands, midway_of, running_of}
 use Rattle.bg_rollout.proofs.Carrying.{Carries, stands_recorded, recorded_by, allowed_inside, core_inside}
 use Rattle.bg_rollout.proofs.Events.{grown}

@@ -1,0 +1,160 @@
+-- The calls that roll back, and those that promote.
+use Rattle.std.proofs.Common.{◌≡◌, ◌≤◌, ◌+◌, ℕ, zero, suc, Bool, true, false, not, cond, ◌==◌, ◌&&◌, nat_lt, nat_le, List, [], ◌∷◌, length, Option, Some, None, is_none, refl, ap, sym, subst, arith, ◌∙◌, ◌⊎◌, inl, inr}
+use Rattle.std.specs.Prelude.{Result, Ok, Err, unwrap_or}
+use Rattle.std.specs.Option.{option_or}
+use Rattle.bg_strategy.specs.Label.{is_label}
+use Rattle.bg_revisions.specs.PortLists.{are_ports}
+use Rattle.bg_revisions.specs.Rosters.{form_of}
+use Rattle.bg_revisions.specs.declared.revision_fault.RevisionFault.{RevisionFault}
+use Rattle.bg_revisions.specs.declared.revision_fault.RevisionFault.TheVariants.{BadName, BadPorts, SameTemplate, PortsDiffer}
+use Rattle.bg_history.specs.declared.entry.Entry.{Entry}
+use Rattle.bg_history.specs.declared.entry.Entry.TheVariants as entry
+use Rattle.bg_history.specs.declared.entry.Entry.TheVariants.{Outcome}
+use Rattle.bg_history.specs.declared.entry.AnalysisResult.TheVariants.{Failed, Error}
+use Rattle.bg_history.specs.declared.entry.Outcome.TheVariants.{Promoted}
+use Rattle.bg_history.specs.Turns.{stable_of, newest_of, is_running, is_halted}
+use Rattle.bg_history.specs.Sizes.{existing, last_number, desired, is_scaled}
+use Rattle.bg_history.specs.Deadlines.{exists_in}
+use Rattle.bg_history.specs.Templates.{template, has_ports, owner}
+use Rattle.bg_history.specs.Allowed.{is_template, fits_owner, may_deploy, is_allowed}
+use Rattle.bg_history.specs.Attempts.{has_promote_full}
+use Rattle.bg_history.specs.Selections.{active_of}
+use Rattle.bg_history.specs.Steps.{Step}
+use Rattle.bg_history_laws.specs.Reachable.{Reachable}
+use Rattle.bg_history_laws.specs.Answers.{template_answer, owner_answer}
+use Rattle.bg_history_laws.specs.Rollback.{RollsBack, CanRollBack}
+use Rattle.bg_history_laws.specs.FullPromotion.{next_promotion_call, CanPromote}
+use Rattle.bg_history_laws.specs.Live.{is_tested}
+use Rattle.std.proofs.lemmas.Bool.Decides.{nat_tests}
+use Rattle.std.proofs.lemmas.Option.{same_Some}
+use Rattle.bg_rollout.specs.declared.control.Control.{Control}
+use Rattle.bg_rollout.specs.declared.control.Control.TheVariants.{Deploy, Available, Verdict, PromoteFull, Abort}
+use Rattle.bg_rollout.specs.declared.control_fault.ControlFault.TheVariants.{HistoryFull, TooManyRevisions}
+use Rattle.bg_rollout.specs.ControlFaults.{of_revision}
+use Rattle.bg_rollout.specs.Refusals.{fault_if, fault_in, event_fault, event_of, deploy_fault, deployed_number, has_no_place, is_full_for_control}
+use Rattle.bg_rollout.specs.Routing.{Routing}
+use Rattle.bg_book.specs.Promises.{IsTaken, CallRollsBack, CallsRollBack, next_promotion_control, CallsPromote, EntersTested}
+use Rattle.bg_book.proofs.Tests.{and_parts, eq_from}
+
+-- an attempt that runs isn't stopped
+running-unhalted : (past : List Entry) → is_running past ≡ true → is_halted past ≡ false
+running-unhalted [] runs = refl
+running-unhalted (entry.Deploy r name ports ∷ before) runs = refl
+running-unhalted (entry.Retry ∷ before) runs = refl
+running-unhalted (Outcome (Promoted r) ∷ before) runs = refl
+running-unhalted (entry.Abort ∷ before) runs = absurd (cc)
+running-unhalted (entry.Verdict analysis Failed ∷ before) runs = absurd (cc)
+running-unhalted (entry.Verdict analysis Error ∷ before) runs = absurd (cc)
+running-unhalted (e ∷ before) runs = running-unhalted before runs
+
+-- a call whose event has no fault is refused for want of room alone
+is-taken : (b : Routing) (c : Control) → event_fault b c ≡ None → IsTaken b c
+is-taken b c none = rw none (go (is_full_for_control b.limits b.past)) where
+  go : (full : Bool) → (fault_if full HistoryFull None ≡ None) ⊎ (fault_if full HistoryFull None ≡ Some HistoryFull)
+  go true = inr refl
+  go false = inl refl
+
+-- so it is where its event rolls back, and then it does
+call-back : (b : Routing) (c : Control) (e : Entry) → event_fault b c ≡ None → event_of b c ≡ e → RollsBack b.strategy b.opening e b.past → CallRollsBack b c
+call-back b c e none is back = record {
+  taken = is-taken b c none;
+  back = λ seats n new new_seats step. back.back step.4.outcomes new.past
+      (subst (λ (e : Entry). Step b.strategy e b.past step.4.outcomes new.past) is step.4.step);
+}
+
+-- neither its form nor its template nor the count of revisions is a fault
+no-fault : (r : ℕ) (form : Result (Unit {0}) RevisionFault) (owner : Result (Option ℕ) RevisionFault) (full : Bool) → form ≡ Ok tt → owner ≡ Ok (Some r) → full ≡ false
+    → option_or (fault_in of_revision form) (option_or (fault_in of_revision owner) (fault_if full TooManyRevisions None)) ≡ None
+no-fault r form owner full is there room = rw (is, there, room) refl
+
+-- a label and a revision's ports have the form
+good-form : (label ports : Bool) → label ≡ true → ports ≡ true → ◌≡◌ {A = Result (Unit {0}) RevisionFault} (cond label (cond ports (Ok tt) (Err BadPorts)) (Err BadName)) (Ok tt)
+good-form label ports is are = rw (is, are) refl
+
+-- the deploy of an existing revision's template, where the newest one has another, is answered its number
+owned-answer : (r : ℕ) (newest same : Bool) → not newest ≡ true → same ≡ true
+    → ◌≡◌ {A = Result (Option ℕ) RevisionFault} (cond newest (Err SameTemplate) (cond same (Ok (Some r)) (Err PortsDiffer))) (Ok (Some r))
+owned-answer r true same other is = absurd (cc)
+owned-answer r false same other is = rw is refl
+
+-- what may be deployed and exists has the number of its name's owner, and no fault
+record Deploys (b : Routing) (r : ℕ) (name ports : List ℕ) : Type 0 where
+  faultless : deploy_fault b name ports ≡ None
+  numbered : deployed_number b name ≡ r
+
+deploys : (b : Routing) (r : ℕ) (name ports : List ℕ) → r ≤ last_number b.past → may_deploy b.strategy b.opening r name ports b.past ≡ true → Deploys b r name ports
+deploys b r name ports given may =
+    let fits = and_parts _ (fits_owner b.opening (owner b.opening name b.past) r ports b.past) may in
+    let other = and_parts _ (not (is_template name ports (template b.opening (newest_of b.past) b.past))) fits.0 in
+    let form = and_parts (is_label name) (are_ports b.strategy.replicas ports) other.0 in
+    go (owner b.opening name b.past) refl fits.1 (good-form (is_label name) (are_ports b.strategy.replicas ports) form.0 form.1) other.1 where
+      go : (k : Option ℕ) → owner b.opening name b.past ≡ k → fits_owner b.opening k r ports b.past ≡ true → form_of b.strategy.replicas name ports ≡ Ok tt
+          → not (is_template name ports (template b.opening (newest_of b.past) b.past)) ≡ true → Deploys b r name ports
+      go None is fits form other =
+          let next : r ≡ last_number b.past + 1 = eq_from r (last_number b.past + 1) (and_parts (r == last_number b.past + 1) _ fits).0 in
+          absurd (omega arith)
+      go (Some q) is fits form other =
+          let parts = and_parts (q == r) (has_ports ports (template b.opening q b.past)) fits in
+          let same : q ≡ r = eq_from q r parts.0 in
+          record {
+            faultless = no-fault q (form_of b.strategy.replicas name ports) (template_answer b.opening (newest_of b.past) name ports b.past) (has_no_place b name) form
+                (ap (λ k. cond (is_template name ports (template b.opening (newest_of b.past) b.past)) (Err SameTemplate) (owner_answer b.opening ports k b.past)) is
+                ∙ owned-answer q (is_template name ports (template b.opening (newest_of b.past) b.past)) (has_ports ports (template b.opening q b.past)) other parts.1)
+                (ap (λ k. is_none k && nat_le 64 (length (existing b.past))) is);
+            numbered = ap (λ k. unwrap_or k (last_number b.past + 1)) is ∙ same;
+          }
+
+pub calls-roll_back : (b : Routing) → CanRollBack b.strategy b.opening b.past → Reachable b.strategy b.opening b.past → CallsRollBack b
+calls-roll_back b way reach = record {
+  abort = λ runs. call-back b Abort entry.Abort (rw (running-unhalted b.past runs, runs) refl) refl (way.abort runs);
+  failed = λ analysis may. call-back b (Verdict analysis Failed) (entry.Verdict analysis Failed) (rw may refl) refl (way.failed analysis may);
+  error = λ analysis may. call-back b (Verdict analysis Error) (entry.Verdict analysis Error) (rw may refl) refl (way.error analysis may);
+  revert = λ t is other.
+      let back = way.revert t is other in
+      let exists : exists_in (stable_of b.past) b.past ≡ true = (and_parts (exists_in (stable_of b.past) b.past) (is_scaled b.strategy (stable_of b.past) b.past) reach.stable).0 in
+      let made = deploys b (stable_of b.past) t.name t.ports (reach.given_to (stable_of b.past) exists) back.allowed in
+      call-back b (Deploy t.name t.ports) (entry.Deploy (stable_of b.past) t.name t.ports) made.faultless (ap (λ r. entry.Deploy r t.name t.ports) made.numbered) back;
+}
+
+-- the event of a call that promotes is the next one of the past
+next-event : (b : Routing) → event_of b (next_promotion_control b) ≡ next_promotion_call b.strategy b.past
+next-event b = go (has_promote_full b.past) where
+  go : (full : Bool) → event_of b (cond full (Available (newest_of b.past) (desired b.strategy (newest_of b.past) b.past)) PromoteFull)
+      ≡ cond full (entry.Available (newest_of b.past) (desired b.strategy (newest_of b.past) b.past)) entry.PromoteFull
+  go true = refl
+  go false = refl
+
+-- which has no fault where it is allowed
+next-faultless : (b : Routing) → is_allowed b.strategy b.opening (next_promotion_call b.strategy b.past) b.past ≡ true → event_fault b (next_promotion_control b) ≡ None
+next-faultless b may = go (has_promote_full b.past) refl may where
+  r : ℕ
+  r = newest_of b.past
+
+  go : (full : Bool) → has_promote_full b.past ≡ full
+      → is_allowed b.strategy b.opening (cond full (entry.Available r (desired b.strategy r b.past)) entry.PromoteFull) b.past ≡ true
+      → event_fault b (cond full (Available r (desired b.strategy r b.past)) PromoteFull) ≡ None
+  go true is h =
+      let both = and_parts (exists_in r b.past) (nat_le (desired b.strategy r b.past) (desired b.strategy r b.past)) h in
+      let less : nat_lt (desired b.strategy r b.past) (desired b.strategy r b.past) ≡ false = grind (arith, nat_tests) in
+      rw (both.0, less) refl
+  go false is h =
+      let both = and_parts (is_running b.past) (not (has_promote_full b.past)) h in
+      rw (running-unhalted b.past both.0, both.0, is) refl
+
+-- so at most as many calls promote as events do
+pub calls-promote : (calls : ℕ) (b : Routing) (r : ℕ) → CanPromote calls b.strategy b.opening r b.past → CallsPromote calls b r
+calls-promote zero b r way = way
+calls-promote (suc calls) b r (inl there) = inl there
+calls-promote (suc calls) b r (inr (may, on)) = inr (
+  is-taken b (next_promotion_control b) (next-faultless b may),
+  λ seats n new new_seats step.
+      let made : Step b.strategy (next_promotion_call b.strategy b.past) b.past step.4.outcomes new.past =
+      subst (λ (e : Entry). Step b.strategy e b.past step.4.outcomes new.past) (next-event b) step.4.step in
+      let next : CanPromote calls b.strategy b.opening r new.past = on step.4.outcomes new.past made in
+      calls-promote calls new r (subst (λ (m : Routing). CanPromote calls m.strategy m.opening r new.past) (sym step.2) next),
+)
+
+-- a request that enters by the active service meets a tested revision, where the active one is
+pub enters-tested : (b : Routing) → is_tested b.strategy (active_of b.past) b.past ≡ true → EntersTested b
+enters-tested b tested seats place seat t new new_seats step =
+    subst (λ (r : ℕ). is_tested b.strategy r b.past ≡ true) (same_Some (active_of b.past) t.revision step.1.revision_is) tested

@@ -1,0 +1,58 @@
+-- The templates of a past.
+use Rattle.std.proofs.Common.{◌≡◌, ◌<◌, ℕ, Bool, true, false, not, cond, ◌==◌, ◌||◌, List, [], ◌∷◌, Option, Some, None, refl, arith, inl, inr}
+use Rattle.std.specs.Option.{option_or, is_some}
+use Rattle.std.proofs.lemmas.Bool.Decides.{nat_tests, eqb_tells}
+use Rattle.bg_history.specs.declared.entry.Entry.{Entry}
+use Rattle.bg_history.specs.declared.entry.Entry.TheVariants.{Deploy, Outcome}
+use Rattle.bg_history.specs.declared.entry.Outcome.TheVariants.{Removed}
+use Rattle.bg_history.specs.Kept.{Opening}
+use Rattle.bg_history.specs.Sizes.{existing, last_number}
+use Rattle.bg_history.specs.Deadlines.{exists_in}
+use Rattle.bg_history.specs.Templates.{template}
+use Rattle.bg_history_laws.proofs.Listed.Members.{member-filter}
+use Rattle.bg_history_laws.proofs.Lists.{member-put}
+
+-- where there is one, a second one doesn't count
+or-some : {A : Type 0} (t u : Option A) → is_some t ≡ true → option_or t u ≡ t
+or-some None u some = absurd (grind arith)
+or-some (Some t) u some = refl
+
+-- where there is no second one, the first counts
+or-none : {A : Type 0} (t : Option A) → option_or t None ≡ t
+or-none None = refl
+or-none (Some t) = refl
+
+-- one of the two is there where the second is given, or the first is there
+or-there : {A : Type 0} (t : Option A) (b : Bool) (u : A) (within : Bool) → (within ≡ true → is_some t ≡ true) → (b || within) ≡ true → is_some (option_or t (cond b (Some u) None)) ≡ true
+or-there (Some t) b u within first either = refl
+or-there None true u within first either = refl
+or-there None false u within first either = first either
+
+-- each existing revision has a template
+pub template-there : (o : Opening) (r : ℕ) (past : List Entry) → exists_in r past ≡ true → is_some (template o r past) ≡ true
+template-there o r [] within = grind (arith, nat_tests)
+template-there o r (Deploy q name ports ∷ before) within =
+    or-there (template o r before) (q == r) (record { name = name; ports = ports }) (exists_in r before)
+    (template-there o r before) (rw (member-put r q (existing before)) at within)
+template-there o r (Outcome (Removed q) ∷ before) within =
+    template-there o r before (member-filter (λ x. not (x == q)) r (existing before) within)
+template-there o r (_ ∷ before) within = template-there o r before within
+
+-- a number that wasn't given has none
+pub template-unborn : (o : Opening) (r : ℕ) (past : List Entry) → last_number past < r → template o r past ≡ None
+template-unborn o r [] above = grind (arith, nat_tests)
+template-unborn o r (Deploy q name ports ∷ before) above =
+    let other : (q == r) ≡ false = grind (arith, nat_tests) in
+    rw (other, template-unborn o r before (omega arith)) refl
+template-unborn o r (_ ∷ before) above = template-unborn o r before above
+
+-- a deploy changes the template of no other revision
+pub template-other : (o : Opening) (q r : ℕ) (name ports : List ℕ) (past : List Entry) → (r == q) ≡ false → template o q (Deploy r name ports ∷ past) ≡ template o q past
+template-other o q r name ports past other = rw other (or-none (template o q past))
+
+-- nor that of its own where it has one
+pub template-kept : (o : Opening) (q r : ℕ) (name ports : List ℕ) (past : List Entry) → is_some (template o r past) ≡ true → template o q (Deploy r name ports ∷ past) ≡ template o q past
+template-kept o q r name ports past there = elim (eqb_tells r q) [
+  | inl h ↦ or-some (template o q past) _ (rw h.1 at there)
+  | inr h ↦ template-other o q r name ports past h.0
+]

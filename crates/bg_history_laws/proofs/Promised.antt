@@ -1,0 +1,17 @@
+-- What a legal history promises to those who use the switch.
+pub mod Outcomes
+pub mod Attempts
+pub mod Names
+pub mod Sizes
+pub mod Rollbacks
+pub mod Promoting
+pub mod Live
+pub mod OpenRequests
+pub mod Ports
+pub mod Serving
+pub mod Draining
+pub mod Examples
+pub mod WorkedRollbacks
+pub mod WorkedPromotions
+pub mod WorkedLive
+pub mod WorkedRequests

@@ -1,0 +1,69 @@
+-- While an attempt runs, and once it was stopped, the newest revision isn't the stable one.
+use Rattle.std.proofs.Common.{◌≡◌, Bool, true, false, not, ◌==◌, ◌&&◌, ◌||◌, List, [], ◌∷◌, refl}
+use Rattle.bg_strategy.specs.declared.strategy.Strategy.{Strategy}
+use Rattle.bg_history.specs.declared.entry.Entry.{Entry}
+use Rattle.bg_history.specs.declared.entry.Entry.TheVariants.{Deploy, Verdict, Abort, Retry, Outcome}
+use Rattle.bg_history.specs.declared.entry.Outcome.TheVariants.{Promoted}
+use Rattle.bg_history.specs.declared.entry.Analysis.{Analysis}
+use Rattle.bg_history.specs.declared.entry.Analysis.TheVariants.{Pre, Post}
+use Rattle.bg_history.specs.declared.entry.AnalysisResult.TheVariants.{Failed, Error}
+use Rattle.bg_history.specs.Kept.{Opening}
+use Rattle.bg_history.specs.Turns.{stable_of, newest_of, is_halt, is_running, is_halted}
+use Rattle.bg_history.specs.Attempts.{in_attempt, is_ready, has_ready, has_resumed, is_switched, has_switched, is_passed}
+use Rattle.bg_history.specs.Allowed.{awaits}
+use Rattle.bg_history.specs.Steps.{all_allowed}
+use Rattle.bg_history_laws.proofs.Tests.{and_parts, or_right, not_true, or_left}
+use Rattle.bg_history_laws.proofs.Reached.Allowing.{allowed_now, allowed_before}
+
+-- an entry of the attempt is this one or an earlier one
+this_or_earlier : (test running earlier : Bool) → (earlier ≡ true → running ≡ true) → (test && running) || earlier ≡ true → running ≡ true
+this_or_earlier test true earlier rest h = refl
+this_or_earlier true false earlier rest h = rest h
+this_or_earlier false false earlier rest h = rest h
+
+-- what stands in an attempt stands in one that runs
+pub in_attempt-running : (test : Entry → Bool) (past : List Entry) → in_attempt test past ≡ true → is_running past ≡ true
+in_attempt-running test [] h = absurd (cc)
+in_attempt-running test (Deploy r name ports ∷ before) h = absurd (cc)
+in_attempt-running test (Retry ∷ before) h = absurd (cc)
+in_attempt-running test (Outcome (Promoted r) ∷ before) h = absurd (cc)
+in_attempt-running test (Abort ∷ before) h = absurd (cc)
+in_attempt-running test (Verdict analysis Failed ∷ before) h = absurd (cc)
+in_attempt-running test (Verdict analysis Error ∷ before) h = absurd (cc)
+in_attempt-running test (e ∷ before) h = this_or_earlier (test e) (is_running before) (in_attempt test before) (in_attempt-running test before) h
+
+-- an analysis is awaited in an attempt that runs
+awaits-running : (s : Strategy) (analysis : Analysis) (past : List Entry) → awaits analysis s past ≡ true → is_running past ≡ true
+awaits-running s Pre past h =
+    let unpassed = and_parts (has_ready past && not (has_resumed past) && s.pre) (not (is_passed s past)) h in
+    let unresumed = and_parts (has_ready past && not (has_resumed past)) s.pre unpassed.0 in
+    in_attempt-running is_ready past (and_parts (has_ready past) (not (has_resumed past)) unresumed.0).0
+awaits-running s Post past h = in_attempt-running is_switched past (and_parts (has_switched past) s.post h).0
+
+-- what stops an attempt comes while one runs
+pub halt-running : (s : Strategy) (o : Opening) (e : Entry) (before : List Entry) → all_allowed s o (e ∷ before) ≡ true → is_halt e ≡ true → is_running before ≡ true
+halt-running s o Abort before a h = allowed_now s o Abort before a
+halt-running s o (Verdict analysis Failed) before a h = awaits-running s analysis before (allowed_now s o (Verdict analysis Failed) before a)
+halt-running s o (Verdict analysis Error) before a h = awaits-running s analysis before (allowed_now s o (Verdict analysis Error) before a)
+halt-running s o e before a h = absurd (cc)
+
+-- the newest revision isn't the stable one
+pub newest_not_stable : (s : Strategy) (o : Opening) (past : List Entry) → all_allowed s o past ≡ true → is_running past || is_halted past ≡ true
+    → (newest_of past == stable_of past) ≡ false
+newest_not_stable s o [] a h = absurd (cc)
+newest_not_stable s o (Deploy r name ports ∷ before) a h = not_true (r == stable_of before) (deployed (r == stable_of before) h) where
+  deployed : (b : Bool) → not b || false ≡ true → not b ≡ true
+  deployed true h = absurd (cc)
+  deployed false h = refl
+newest_not_stable s o (Abort ∷ before) a h =
+    newest_not_stable s o before (allowed_before s o Abort before a) (or_left (is_running before) (is_halted before) (halt-running s o Abort before a refl))
+newest_not_stable s o (Verdict analysis Failed ∷ before) a h =
+    newest_not_stable s o before (allowed_before s o (Verdict analysis Failed) before a)
+    (or_left (is_running before) (is_halted before) (halt-running s o (Verdict analysis Failed) before a refl))
+newest_not_stable s o (Verdict analysis Error ∷ before) a h =
+    newest_not_stable s o before (allowed_before s o (Verdict analysis Error) before a)
+    (or_left (is_running before) (is_halted before) (halt-running s o (Verdict analysis Error) before a refl))
+newest_not_stable s o (Retry ∷ before) a h =
+    newest_not_stable s o before (allowed_before s o Retry before a) (or_right (is_running before) (is_halted before) (allowed_now s o Retry before a))
+newest_not_stable s o (Outcome (Promoted r) ∷ before) a h = absurd (cc)
+newest_not_stable s o (e ∷ before) a h = newest_not_stable s o before (allowed_before s o e before a) h

@@ -1,0 +1,14 @@
+pub mod Alike
+pub mod Answers
+pub mod Changes
+pub mod Compaction
+pub mod Draining
+pub mod FullPromotion
+pub mod Listed
+pub mod Live
+pub mod OpenRequests
+pub mod Reachable
+pub mod Removals
+pub mod Rollback
+pub mod Settling
+pub mod Work

@@ -1,0 +1,33 @@
+-- The revisions that a past asks for.
+use Rattle.std.specs.Prelude.{ℕ, List, [], map, Option, Some, None}
+use Rattle.bg_strategy.specs.declared.strategy.Strategy.{Strategy}
+use Rattle.bg_revisions.specs.declared.revision.Revision.{Revision}
+use Rattle.bg_history.specs.declared.entry.Entry.{Entry}
+use Rattle.bg_history.specs.Kept.{Opening, Template}
+use Rattle.bg_history.specs.Sizes.{existing, desired, available}
+use Rattle.bg_history.specs.Templates.{template}
+
+-- a revision of this number, template and sizes; each revision that exists has a template
+abbrev pub sized : ℕ → ℕ → ℕ → Option Template → Revision
+sized r wanted there None = record {
+  number = r;
+  name = [];
+  ports = [];
+  desired = wanted;
+  available = there;
+}
+sized r wanted there (Some t) = record {
+  number = r;
+  name = t.name;
+  ports = t.ports;
+  desired = wanted;
+  available = there;
+}
+
+-- revision r
+abbrev pub revision_of : Strategy → Opening → List Entry → ℕ → Revision
+revision_of s o past r = sized r (desired s r past) (available r past) (template o r past)
+
+-- the existing revisions, in order of number
+abbrev pub revisions_of : Strategy → Opening → List Entry → List Revision
+revisions_of s o past = map (revision_of s o past) (existing past)

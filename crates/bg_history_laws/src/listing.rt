@@ -1,0 +1,105 @@
+//! What an entry makes of the revisions that a past asks for, and where these stand in their list.
+ghost use Rattle.std.specs.Prelude.{◌≡◌, ◌<◌, ℕ, [], ◌∷◌, ◌++◌, ◌==◌, not, max, if◌then◌else◌, List, length, map, filter, Some, None, IsTrue, IsFalse};
+ghost use Rattle.std.specs.Option.{option_map};
+ghost use Rattle.bg_strategy.specs.declared.strategy.Strategy.{Strategy};
+ghost use Rattle.bg_revisions.specs.Rosters.{numbered, named, template_of, resized, reported};
+ghost use Rattle.bg_history.specs.declared.entry.Entry.{Entry};
+ghost use Rattle.bg_history.specs.declared.entry.Entry.TheVariants.{Deploy, Available, Retry, Outcome};
+ghost use Rattle.bg_history.specs.declared.entry.Outcome.TheVariants.{Resumed, ScaledDown, Removed};
+ghost use Rattle.bg_history.specs.Kept.{Opening};
+ghost use Rattle.bg_history.specs.Turns.{stable_of, newest_of};
+ghost use Rattle.bg_history.specs.Sizes.{existing, last_number, desired, available};
+ghost use Rattle.bg_history.specs.Deadlines.{exists_in};
+ghost use Rattle.bg_history.specs.Templates.{owner};
+ghost use Rattle.bg_history_laws.specs.Listed.{revision_of, revisions_of};
+ghost use Rattle.bg_history_laws.specs.Changes.{resizes_none};
+ghost use Rattle.bg_history_laws.specs.Answers.{template_answer};
+
+use bg_history::laws::existing_ascends;
+
+/// A report of `n` endpoints sets what is available of its revision, and changes no other one.
+pub fn reports()
+    ensures { (s : Strategy) (o : Opening) (past : List Entry) (r n : ℕ)
+        → revisions_of s o (Available r n ∷ past)
+        ≡ map (reported r n) (revisions_of s o past) }
+{}
+
+/// What an entry wants of one revision: a retry and a deploy at least the preview's size, the end
+/// of the pause at least full size, scaling down none (Argo Rollouts, "BlueGreen Deployment
+/// Strategy"). A deploy of the stable revision changes no size. The revision of a deploy exists
+/// here; `appends` has the others.
+pub fn resizes()
+    ensures retry { (s : Strategy) (o : Opening) (past : List Entry)
+        → revisions_of s o (Retry ∷ past)
+        ≡ map (resized (newest_of past)
+        (max s.preview_replicas (desired s (newest_of past) past))) (revisions_of s o past) }
+    ensures resumed { (s : Strategy) (o : Opening) (past : List Entry) (q : ℕ)
+        → revisions_of s o (Outcome (Resumed q) ∷ past)
+        ≡ map (resized q (max s.replicas (desired s q past))) (revisions_of s o past) }
+    ensures scaled_down { (s : Strategy) (o : Opening) (past : List Entry) (q : ℕ)
+        → revisions_of s o (Outcome (ScaledDown q) ∷ past)
+        ≡ map (resized q 0) (revisions_of s o past) }
+    ensures deploy { (s : Strategy) (o : Opening) (past : List Entry) (r : ℕ)
+        (name ports : List ℕ)
+        → IsTrue (exists_in r past) → IsFalse (r == stable_of past)
+        → revisions_of s o (Deploy r name ports ∷ past)
+        ≡ map (resized r (max s.preview_replicas (desired s r past))) (revisions_of s o past) }
+    ensures deploy_stable { (s : Strategy) (o : Opening) (past : List Entry) (r : ℕ)
+        (name ports : List ℕ)
+        → IsTrue (exists_in r past) → IsTrue (r == stable_of past)
+        → revisions_of s o (Deploy r name ports ∷ past) ≡ revisions_of s o past }
+{
+    existing_ascends();
+}
+
+/// A deploy of a number above all that were given puts a revision of the preview's size at the
+/// end, with this name, these ports and no endpoint available. It asks that nothing was wanted or
+/// reported of the number before.
+pub fn appends()
+    ensures { (s : Strategy) (o : Opening) (past : List Entry) (r : ℕ) (name ports : List ℕ)
+        → last_number past < r → IsFalse (r == stable_of past)
+        → desired s r past ≡ 0 → available r past ≡ 0
+        → revisions_of s o (Deploy r name ports ∷ past) ≡ revisions_of s o past ++ record {
+          number = r;
+          name = name;
+          ports = ports;
+          desired = s.preview_replicas;
+          available = 0;
+        } ∷ [] }
+{}
+
+/// Removing a revision leaves the others.
+pub fn removes()
+    ensures { (s : Strategy) (o : Opening) (past : List Entry) (r : ℕ)
+        → revisions_of s o (Outcome (Removed r) ∷ past)
+        ≡ filter (λ v. not (v.number == r)) (revisions_of s o past) }
+{}
+
+/// Each other entry leaves the revisions as they are.
+pub fn keeps()
+    ensures { (s : Strategy) (o : Opening) (past : List Entry) (e : Entry)
+        → IsTrue (resizes_none e) → revisions_of s o (e ∷ past) ≡ revisions_of s o past }
+{}
+
+/// The list has a revision of each number that exists and of no other, and is as long as there are
+/// existing ones.
+pub fn finds()
+    ensures number { (s : Strategy) (o : Opening) (past : List Entry) (r : ℕ)
+        → numbered r (revisions_of s o past)
+        ≡ (if exists_in r past then Some (revision_of s o past r) else None) }
+    ensures count { (s : Strategy) (o : Opening) (past : List Entry)
+        → length (revisions_of s o past) ≡ length (existing past) }
+{}
+
+/// The revision of a name is that of the number that owns it. Where the newest revision exists, a
+/// template is answered `SameTemplate` if that one has it, else `PortsDiffer` if a revision of this
+/// name has other ports, else the number of the revision that has it, or none.
+pub fn names()
+    ensures owner { (s : Strategy) (o : Opening) (past : List Entry) (name : List ℕ)
+        → named name (revisions_of s o past)
+        ≡ option_map (revision_of s o past) (owner o name past) }
+    ensures template { (s : Strategy) (o : Opening) (past : List Entry) (newest : ℕ)
+        (name ports : List ℕ) → IsTrue (exists_in newest past)
+        → template_of newest name ports (revisions_of s o past)
+        ≡ template_answer o newest name ports past }
+{}
