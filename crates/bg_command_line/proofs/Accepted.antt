@@ -1,14 +1,14 @@
 -- What holds of words that the program takes.
 use Rattle.std.proofs.Common.{◌≡◌, ◌≢◌, ◌⊎◌, inl, inr, arith, slice_index, ℕ, List, [], ◌∷◌, refl, sym, ◌∙◌, ap, subst}
 use Rattle.std.specs.Prelude.{Bool, true, false, ◌&&◌, ◌||◌, not, Option, Some, None, is_some, find, cond, codes, fold, length, option_map, option_and_then, slice_get, bytes_eq}
-use Rattle.std.specs.List.{list_any}
+use Rattle.std.specs.List.{list_all, list_any}
 use Rattle.std.specs.Option.{option_map_or}
 use Rattle.clap.specs.Takes.{is_given, value_passes}
 use Rattle.clap.specs.Facts.{explicit_source}
 use Rattle.clap.specs.ValueTests.{accepts}
 use Rattle.clap.specs.Walk.{Row, Text, Rule, arg_by_id, first_of, walk, nothing_held, rows_after, stop_after, walk_from, settled, used, with_default, has_row, answers_to, default_rows, reading_by}
 use Rattle.clap.specs.Simple.{Shape, App, built, built_leaf, argument_words, names_of, entered, subcommand_of, rows_at, inherited, with_leaf_noted, marked_built, label_of, with_index, filled, help_rule}
-use Rattle.clap.specs.Kinds.{check_kinds, range_kinds}
+use Rattle.clap.specs.Kinds.{HasKind, IsAmong, Kinds, check_kinds, or_else, range_kinds}
 use Rattle.clap.specs.Faults.{fault_of, built_fault, level_fault, use_fault, walk_fault, settle_fault, defaults_fault, entered_fault, repeat_fault}
 use Rattle.clap.specs.Words.{HasMatchesOf, subcommand_name_of, is_simple, is_simple_and_free, subcommand_rows_of}
 use Rattle.clap.specs.declared.parser.matches.ArgMatches.{ArgMatches}
@@ -17,10 +17,16 @@ use Rattle.clap.specs.declared.builder.value_parser.Reading.TheVariants as readi
 use Rattle.clap.specs.declared.parser.matches.ValueSource.TheVariants as value_source
 use Rattle.clap.proofs.OnLiterals.{clap_on_literals}
 use Rattle.clap.proofs.ValueTestLemmas.{accepts-Accepts}
+use Rattle.clap.specs.Values.{kind_of}
+use Rattle.clap.specs.declared.error.Error.{Error}
+use Rattle.clap.specs.declared.error.kind.ErrorKind.{ErrorKind}
+use Rattle.clap.specs.declared.error.kind.ErrorKind.TheVariants as kind
 use Rattle.bg_command_line.specs.declared.orders.Order.{Order}
-use Rattle.bg_command_line.specs.CommandLine.{IsOrderOf, IsIn, IsKnown, HasWordsOfServe, program, check_app, replay_app, serve_app, number_rule, required_rule}
+use Rattle.bg_command_line.specs.declared.orders.OrderFault.{OrderFault}
+use Rattle.bg_command_line.specs.declared.orders.OrderFault.TheVariants.{OutOfMemory, Words}
+use Rattle.bg_command_line.specs.CommandLine.{IsFaultFrom, IsFaultIn, IsOrderOf, IsIn, has_forever, is_in_conflict, kinds_of, IsKnown, HasWordsOfServe, program, check_app, replay_app, serve_app, number_rule, required_rule, count_rule, forever_rule}
 use Rattle.bg_command_line.proofs.WordsTaken.{none_else, walk_keeps, settled_keeps}
-use Rattle.bg_command_line.proofs.ValuesPass.{AreGood, has_none, first_passes, use_keeps}
+use Rattle.bg_command_line.proofs.ValuesPass.{AreGood, has_none, passes, first_passes, flag_full, option_full, use_keeps, with_values_keeps}
 
 -- ---- the subcommand that is entered
 
@@ -94,36 +100,63 @@ found_each K p (x ∷ xs) a all e = go (p x) e (λ h. found_each K p xs a all.1 
 abbrev held : Rule → Rule
 held r = with_index 1 (filled r)
 
-number_keeps : (c : List Rule) (name : Text) (most : ℕ) → arg_by_id c name ≡ Some (held (number_rule name most)) → Keeps c (held (number_rule name most))
+number_keeps : (c : List Rule) (name : Text) (most : ℕ) → arg_by_id c (number_rule name most).id ≡ Some (held (number_rule name most)) → Keeps c (held (number_rule name most))
 number_keeps c name most own values rows g e =
     let f = none_else (range_kinds 1 1 (length values)) _ e in
-    let h = none_else (repeat_fault false name rows) _ f.1 in
-    use_keeps c (held (number_rule name most)) reading.AsWritten value_source.CommandLine values rows own f.0 h.1 g
+    let h = none_else (repeat_fault false (number_rule name most).id rows) _ f.1 in
+    use_keeps c (held (number_rule name most)) reading.AsWritten value_source.CommandLine _ rows own (option_full (held (number_rule name most)) values f.0) h.1 g
 
-required_keeps : (c : List Rule) (name : Text) (most : ℕ) → arg_by_id c name ≡ Some (held (required_rule name most)) → Keeps c (held (required_rule name most))
+required_keeps : (c : List Rule) (name : Text) (most : ℕ) → arg_by_id c (required_rule name most).id ≡ Some (held (required_rule name most)) → Keeps c (held (required_rule name most))
 required_keeps c name most own values rows g e =
     let f = none_else (range_kinds 1 1 (length values)) _ e in
-    let h = none_else (repeat_fault false name rows) _ f.1 in
-    use_keeps c (held (required_rule name most)) reading.AsWritten value_source.CommandLine values rows own f.0 h.1 g
+    let h = none_else (repeat_fault false (required_rule name most).id rows) _ f.1 in
+    use_keeps c (held (required_rule name most)) reading.AsWritten value_source.CommandLine _ rows own (option_full (held (required_rule name most)) values f.0) h.1 g
+
+count_keeps : (c : List Rule) (forever : Bool) → arg_by_id c (count_rule forever).id ≡ Some (held (count_rule forever)) → Keeps c (held (count_rule forever))
+count_keeps c forever own values rows g e =
+    let f = none_else (range_kinds 1 1 (length values)) _ e in
+    let h = none_else (repeat_fault false (count_rule forever).id rows) _ f.1 in
+    use_keeps c (held (count_rule forever)) reading.AsWritten value_source.CommandLine _ rows own (option_full (held (count_rule forever)) values f.0) h.1 g
+
+flag_keeps : (c : List Rule) (forever : Bool) → arg_by_id c (codes "forever") ≡ Some (held (forever_rule forever)) → Keeps c (held (forever_rule forever))
+flag_keeps c forever own values rows g e =
+    let f = none_else (range_kinds 0 0 (length values)) _ e in
+    let h = none_else (repeat_fault false (codes "forever") rows) _ f.1 in
+    use_keeps c (held (forever_rule forever)) reading.AsWritten value_source.CommandLine _ rows own (flag_full (held (forever_rule forever)) values refl) h.1 g
 
 -- a use of `--help` adds no row
-help_keeps : (c : List Rule) → Keeps c (with_index 1 (filled help_rule))
+help_keeps : (c : List Rule) → Keeps c (held help_rule)
 help_keeps c values rows g e = g
 
-default_one : (R : List Row → Type 0) (b : Bool) (rows : List Row) → R rows → R (cond b rows rows)
-default_one R true rows g = g
-default_one R false rows g = g
+default_one : (c : List Rule) (b : Bool) (other rows : List Row) → AreGood c other → AreGood c rows → AreGood c (cond b rows other)
+default_one c true other rows h g = g
+default_one c false other rows h g = h
 
-default_keeps : (R : List Row → Type 0) (a : Rule) (defaults : List Text) (rows : List Row) → defaults ≡ [] → R rows
-    → R (cond (has_row a.id rows) rows (default_rows a.id (reading_by a) defaults rows))
-default_keeps R a [] rows e g = default_one R (has_row a.id rows) rows g
-default_keeps R a (x ∷ xs) rows e g = cc
+-- the default of an argument keeps what holds of the rows
+abbrev DefaultKeeps : List Rule → Rule → Type 0
+DefaultKeeps c a = (rows : List Row) → AreGood c rows → AreGood c (with_default rows a)
 
-defaults_keep : (R : List Row → Type 0) (xs : List Rule) (rows : List Row) → Each (λ a. a.defaults ≡ []) xs → R rows → R (fold with_default rows xs)
-defaults_keep R [] rows all g = g
-defaults_keep R (x ∷ xs) rows all g = defaults_keep R xs (with_default rows x) all.1 (default_keeps R x x.defaults rows all.0 g)
+no_default_keeps : (c : List Rule) (a : Rule) → a.defaults ≡ [] → DefaultKeeps c a
+no_default_keeps c a e rows g = default_one c (has_row a.id rows) _ rows (go a.defaults e) g
+  where
+    go : (defaults : List Text) → defaults ≡ [] → AreGood c (default_rows a.id (reading_by a) defaults rows)
+    go [] e = g
+    go (x ∷ xs) e = cc
 
-leaf_good : (s : Shape) (words : List Text) → s.args_override_self ≡ false → Each (Keeps s.rules) s.rules → Each (λ a. a.defaults ≡ []) s.rules
+flag_default_keeps : (c : List Rule) (forever : Bool) → arg_by_id c (codes "forever") ≡ Some (held (forever_rule forever)) → DefaultKeeps c (held (forever_rule forever))
+flag_default_keeps c forever own rows g =
+    let pass : list_all (passes c (codes "forever")) (codes "false" ∷ []) ≡ true = rw own refl in
+    default_one c (has_row (codes "forever") rows) _ rows
+    (with_values_keeps c (codes "forever") reading.AsWritten value_source.DefaultValue (codes "false" ∷ []) rows refl pass g) g
+
+help_default_keeps : (c : List Rule) → DefaultKeeps c (held help_rule)
+help_default_keeps c = no_default_keeps c (held help_rule) refl
+
+defaults_keep : (c xs : List Rule) (rows : List Row) → Each (DefaultKeeps c) xs → AreGood c rows → AreGood c (fold with_default rows xs)
+defaults_keep c [] rows all g = g
+defaults_keep c (x ∷ xs) rows all g = defaults_keep c xs (with_default rows x) all.1 (all.0 rows g)
+
+leaf_good : (s : Shape) (words : List Text) → s.args_override_self ≡ false → Each (Keeps s.rules) s.rules → Each (DefaultKeeps s.rules) s.rules
     → level_fault s [] nothing_held words false [] ≡ [] → AreGood s.rules (rows_after s.rules [] words)
 leaf_good s words again keep plain e =
     let f = none_else (walk_fault s [] (walk_from nothing_held) words) _ e in
@@ -134,10 +167,10 @@ leaf_good s words again keep plain e =
     λ p a is values rows r u. found_each (Keeps s.rules) p s.rules a keep is values rows r (ap (λ (b : Bool). use_fault b a values rows) (sym again) ∙ u) in
     let walked_good : AreGood s.rules end.rows = walk_keeps (AreGood s.rules) s keeps [] words (walk_from nothing_held) tt f.0 in
     let settled_good : AreGood s.rules (settled s.rules end).rows = settled_keeps (AreGood s.rules) s keeps end walked_good g.0 in
-    defaults_keep (AreGood s.rules) s.rules (settled s.rules end).rows plain settled_good
+    defaults_keep s.rules s.rules (settled s.rules end).rows plain settled_good
 
 abbrev built_sub : Shape → Shape
-built_sub s = built_leaf (inherited (with_leaf_noted (marked_built program.top)) s)
+built_sub s = built_leaf (inherited (with_leaf_noted (marked_built (program false).top)) s)
 
 abbrev replay : Shape
 replay = built_sub replay_app.top
@@ -159,21 +192,40 @@ replay_known : (words : List Text) → level_fault replay [] nothing_held words 
 replay_known words e =
     let rows = rows_after replay.rules [] words in
     in_range replay.rules (held (number_rule (codes "seats") 8)) (codes "seats") 8 rows refl refl refl
-    (leaf_good replay words refl replay_keeps (refl, (refl, tt)) e)
+    (leaf_good replay words refl replay_keeps
+    (no_default_keeps replay.rules (held (number_rule (codes "seats") 8)) refl, (help_default_keeps replay.rules, tt)) e)
 
-abbrev serve : Shape
-serve = built_sub serve_app.top
+abbrev serve : Bool → Shape
+serve forever = built_sub (serve_app forever).top
 
-serve_keeps : Each (Keeps serve.rules) serve.rules
-serve_keeps = (
-  required_keeps serve.rules (codes "active") 65535 refl,
+serve_keeps : (forever : Bool) → Each (Keeps (serve forever).rules) (serve forever).rules
+serve_keeps forever = let c = (serve forever).rules in (
+  required_keeps c (codes "active") 65535 refl,
   (
-    number_keeps serve.rules (codes "preview") 65535 refl,
+    number_keeps c (codes "preview") 65535 refl,
     (
-      required_keeps serve.rules (codes "control") 65535 refl,
+      required_keeps c (codes "control") 65535 refl,
       (
-        required_keeps serve.rules (codes "workers") 7 refl,
-        (required_keeps serve.rules (codes "count") 1000000 refl, (help_keeps serve.rules, tt)),
+        required_keeps c (codes "workers") 7 refl,
+        (count_keeps c forever refl, (flag_keeps c forever refl, (help_keeps c, tt))),
+      ),
+    ),
+  ),
+)
+
+serve_defaults : (forever : Bool) → Each (DefaultKeeps (serve forever).rules) (serve forever).rules
+serve_defaults forever = let c = (serve forever).rules in (
+  no_default_keeps c (held (required_rule (codes "active") 65535)) refl,
+  (
+    no_default_keeps c (held (number_rule (codes "preview") 65535)) refl,
+    (
+      no_default_keeps c (held (required_rule (codes "control") 65535)) refl,
+      (
+        no_default_keeps c (held (required_rule (codes "workers") 7)) refl,
+        (
+          no_default_keeps c (held (count_rule forever)) refl,
+          (flag_default_keeps c forever refl, (help_default_keeps c, tt)),
+        ),
       ),
     ),
   ),
@@ -220,20 +272,28 @@ first_given : (given other : Bool) → (not given || other) ≡ false → (given
 first_given true other e = (refl, e)
 first_given false other e = cc
 
-serve_known : (words : List Text) → level_fault serve [] nothing_held words false [] ≡ [] → HasWordsOfServe (rows_after serve.rules [] words)
-serve_known words e =
-    let rows = rows_after serve.rules [] words in
-    let good : AreGood serve.rules rows = leaf_good serve words refl serve_keeps (refl, (refl, (refl, (refl, (refl, (refl, tt)))))) e in
-    let active = first_given (is_given (codes "active") rows) _ (all_given serve words refl e) in
+-- an argument that has to be given unless `forever` holds
+unless_given : (forever given other : Bool) → ((not forever && not given) || other) ≡ false → forever ≡ false → given ≡ true
+unless_given true given other e limited = cc
+unless_given false true other e limited = refl
+unless_given false false other e limited = cc
+
+serve_known : (forever : Bool) (words : List Text) → level_fault (serve forever) [] nothing_held words false [] ≡ []
+    → HasWordsOfServe forever (rows_after (serve forever).rules [] words)
+serve_known forever words e =
+    let c = (serve forever).rules in
+    let rows = rows_after c [] words in
+    let good : AreGood c rows = leaf_good (serve forever) words refl (serve_keeps forever) (serve_defaults forever) e in
+    let active = first_given (is_given (codes "active") rows) _ (all_given (serve forever) words refl e) in
     let control = first_given (is_given (codes "control") rows) _ active.1 in
     let workers = first_given (is_given (codes "workers") rows) _ control.1 in
-    let count = first_given (is_given (codes "count") rows) _ workers.1 in
     record {
-      active = (given_has serve.rules (codes "active") rows good active.0, in_range serve.rules (held (required_rule (codes "active") 65535)) (codes "active") 65535 rows refl refl refl good);
-      preview = in_range serve.rules (held (number_rule (codes "preview") 65535)) (codes "preview") 65535 rows refl refl refl good;
-      control = (given_has serve.rules (codes "control") rows good control.0, in_range serve.rules (held (required_rule (codes "control") 65535)) (codes "control") 65535 rows refl refl refl good);
-      workers = (given_has serve.rules (codes "workers") rows good workers.0, in_range serve.rules (held (required_rule (codes "workers") 7)) (codes "workers") 7 rows refl refl refl good);
-      count = (given_has serve.rules (codes "count") rows good count.0, in_range serve.rules (held (required_rule (codes "count") 1000000)) (codes "count") 1000000 rows refl refl refl good);
+      active = (given_has c (codes "active") rows good active.0, in_range c (held (required_rule (codes "active") 65535)) (codes "active") 65535 rows refl refl refl good);
+      preview = in_range c (held (number_rule (codes "preview") 65535)) (codes "preview") 65535 rows refl refl refl good;
+      control = (given_has c (codes "control") rows good control.0, in_range c (held (required_rule (codes "control") 65535)) (codes "control") 65535 rows refl refl refl good);
+      workers = (given_has c (codes "workers") rows good workers.0, in_range c (held (required_rule (codes "workers") 7)) (codes "workers") 7 rows refl refl refl good);
+      count = in_range c (held (count_rule forever)) (codes "count") 1000000 rows refl refl refl good;
+      count_given = λ limited. given_has c (codes "count") rows good (unless_given forever (is_given (codes "count") rows) _ workers.1 limited);
     }
 
 -- ---- the matches
@@ -253,22 +313,22 @@ check_is_no_serve e = differ (codes "check") (codes "serve") (omega arith) e
 replay_is_no_serve : Not (codes "replay") (codes "serve")
 replay_is_no_serve e = differ (codes "replay") (codes "serve") (omega arith) e
 
-check_known : (rows : List Row) → IsKnown (codes "check") rows
-check_known rows = record {
+check_known : (forever : Bool) (rows : List Row) → IsKnown forever (codes "check") rows
+check_known forever rows = record {
   is_serve = λ n _. absurd (n refl);
   seats = λ e. absurd (check_is_no_replay e);
   words = λ e. absurd (check_is_no_serve e);
 }
 
-replay_is_known : (rows : List Row) → IsIn 1 8 (codes "seats") rows → IsKnown (codes "replay") rows
-replay_is_known rows h = record {
+replay_is_known : (forever : Bool) (rows : List Row) → IsIn 1 8 (codes "seats") rows → IsKnown forever (codes "replay") rows
+replay_is_known forever rows h = record {
   is_serve = λ _ n. absurd (n refl);
   seats = λ _. h;
   words = λ e. absurd (replay_is_no_serve e);
 }
 
-serve_is_known : (rows : List Row) → HasWordsOfServe rows → IsKnown (codes "serve") rows
-serve_is_known rows h = record {
+serve_is_known : (forever : Bool) (rows : List Row) → HasWordsOfServe forever rows → IsKnown forever (codes "serve") rows
+serve_is_known forever rows h = record {
   is_serve = λ _ _. refl;
   seats = λ e. absurd (replay_is_no_serve (sym e));
   words = λ _. h;
@@ -277,52 +337,54 @@ serve_is_known rows h = record {
 abbrev check : Shape
 check = built_sub check_app.top
 
-abbrev Knows : List Text → Shape → Type 0
-Knows rest s = level_fault s [] nothing_held rest false [] ≡ [] → IsKnown s.name (rows_after s.rules [] rest)
+abbrev Knows : Bool → List Text → Shape → Type 0
+Knows forever rest s = level_fault s [] nothing_held rest false [] ≡ [] → IsKnown forever s.name (rows_after s.rules [] rest)
 
-known_of : (s : Shape) (rest : List Text) → Among s (check ∷ replay ∷ serve ∷ []) → Knows rest s
-known_of s rest among = elim among [
-  | inl is ↦ subst (Knows rest) is (λ e. check_known (rows_after check.rules [] rest))
+known_of : (forever : Bool) (s : Shape) (rest : List Text) → Among s (check ∷ replay ∷ serve forever ∷ []) → Knows forever rest s
+known_of forever s rest among = elim among [
+  | inl is ↦ subst (Knows forever rest) is (λ e. check_known forever (rows_after check.rules [] rest))
   | inr m ↦ elim m [
-    | inl is ↦ subst (Knows rest) is (λ e. replay_is_known (rows_after replay.rules [] rest) (replay_known rest e))
+    | inl is ↦ subst (Knows forever rest) is (λ e. replay_is_known forever (rows_after replay.rules [] rest) (replay_known rest e))
     | inr l ↦ elim l [
-      | inl is ↦ subst (Knows rest) is (λ e. serve_is_known (rows_after serve.rules [] rest) (serve_known rest e))
+      | inl is ↦ subst (Knows forever rest) is (λ e. serve_is_known forever (rows_after (serve forever).rules [] rest) (serve_known forever rest e))
       | inr never ↦ absurd never
     ]
   ]
 ]
 
 -- what the matches of the program's words are
-pub record IsMet (words : List Text) (m : ArgMatches) : Type 0 where
-  pub none : fault_of program words ≡ []
+pub record IsMet (forever : Bool) (words : List Text) (m : ArgMatches) : Type 0 where
+  pub none : fault_of (program forever) words ≡ []
   pub name : Text
   pub rows : List Row
-  pub is : subcommand_of program words ≡ Some (name, rows)
+  pub is : subcommand_of (program forever) words ≡ Some (name, rows)
   pub same : subcommand_rows_of m ≡ Some (name, rows)
-  pub known : IsKnown name rows
+  pub known : IsKnown forever name rows
 
-is_simple_program : is_simple program ≡ true
+is_simple_program : (forever : Bool) → is_simple (program forever) ≡ true
 unfolding clap_on_literals
-is_simple_program = refl
+is_simple_program true = refl
+is_simple_program false = refl
 
-is_free_program : is_simple_and_free program ≡ true
+pub is_free_program : (forever : Bool) → is_simple_and_free (program forever) ≡ true
 unfolding clap_on_literals
-is_free_program = refl
+is_free_program true = refl
+is_free_program false = refl
 
-pub met : (app : App) (words : List Text) (m : ArgMatches) → app ≡ program → (is_simple_and_free app ≡ true → fault_of app words ≡ [])
-    → HasMatchesOf app words m → IsMet words m
-met app words m is none has =
-    let free : is_simple_and_free app ≡ true = ap is_simple_and_free is ∙ is_free_program in
-    let simple : is_simple app ≡ true = ap is_simple is ∙ is_simple_program in
-    let no_fault : fault_of program words ≡ [] = sym (ap (λ (a : App). fault_of a words) is) ∙ none free in
-    let x = one_entered (built program) (argument_words program words) refl no_fault in
+pub met : (forever : Bool) (app : App) (words : List Text) (m : ArgMatches) → app ≡ program forever → (is_simple_and_free app ≡ true → fault_of app words ≡ [])
+    → HasMatchesOf app words m → IsMet forever words m
+met forever app words m is none has =
+    let free : is_simple_and_free app ≡ true = ap is_simple_and_free is ∙ is_free_program forever in
+    let simple : is_simple app ≡ true = ap is_simple is ∙ is_simple_program forever in
+    let no_fault : fault_of (program forever) words ≡ [] = sym (ap (λ (a : App). fault_of a words) is) ∙ none free in
+    let x = one_entered (built (program forever)) (argument_words (program forever) words) refl no_fault in
     record {
       none = no_fault;
       name = x.shape.name;
       rows = rows_after x.shape.rules [] x.rest;
       is = x.is;
       same = (has simple).1 ∙ (ap (λ (a : App). subcommand_of a words) is ∙ x.is);
-      known = known_of x.shape x.rest x.among x.passes;
+      known = known_of forever x.shape x.rest x.among x.passes;
     }
 
 pub inner_rows : {P : Type 0} (f : P → List Row) (o : Option P) (v : P) (q : Option (Text × List Row)) (x : Text × List Row)
@@ -341,8 +403,49 @@ inner_name f o v m x e same is =
     let k = h ∙ named in
     cc
 
-pub known_as : (n name : Text) (r rows : List Row) → n ≡ name → r ≡ rows → IsKnown name rows → IsKnown n r
-known_as n name r rows e f h = rw (e, f) h
+pub known_as : (forever : Bool) (n name : Text) (r rows : List Row) → n ≡ name → r ≡ rows → IsKnown forever name rows → IsKnown forever n r
+known_as forever n name r rows e f h = rw (e, f) h
 
-pub order_as : (n name : Text) (r rows : List Row) (o : Order) → n ≡ name → r ≡ rows → IsOrderOf n r o → IsOrderOf name rows o
-order_as n name r rows o e f h = subst (λ (t : Text). IsOrderOf t rows o) e (subst (λ (x : List Row). IsOrderOf n x o) f h)
+pub order_as : {f forever : Bool} {n name : Text} {r rows : List Row} (o : Order) → f ≡ forever → n ≡ name → r ≡ rows → IsOrderOf f n r o → IsOrderOf forever name rows o
+order_as {f} {forever} {n} {name} {r} {rows} o d e k h =
+    subst (λ (b : Bool). IsOrderOf b name rows o) d (subst (λ (t : Text). IsOrderOf f t rows o) e (subst (λ (x : List Row). IsOrderOf f n x o) k h))
+
+pub still_in_conflict : {f forever b : Bool} {r rows : List Row} → f ≡ forever → r ≡ rows → b ≡ is_in_conflict f r → is_in_conflict forever rows ≡ b
+still_in_conflict d k h = rw (← d, ← k) (sym h)
+
+-- ---- the kinds of error
+
+among_first : (k : ErrorKind) (first second : Kinds) → IsAmong k first → IsAmong k (or_else first second)
+among_first k [] second among = absurd among
+among_first k (x ∷ xs) second among = among
+
+-- an error of `clap` is among those that the words may give
+pub fault_as : (words : List Text) (app : App) (e : Error) (fault : OrderFault) → app ≡ program (has_forever words)
+    → (is_simple_and_free app ≡ true → HasKind (fault_of app words) e) → IsFaultFrom e fault → IsFaultIn words fault
+fault_as words app e OutOfMemory is has from = tt
+fault_as words app e (Words x) is has from =
+    let free : is_simple_and_free app ≡ true = ap is_simple_and_free is ∙ is_free_program (has_forever words) in
+    let kinds : HasKind (fault_of (program (has_forever words)) words) e = subst (λ (a : App). HasKind (fault_of a words) e) is (has free) in
+    let among : IsAmong (kind_of e) (kinds_of words) = elim kinds [
+      | inl memory ↦ absurd (from.1 memory)
+      | inr h ↦ among_first (kind_of e) (fault_of (program (has_forever words)) words) _ h
+    ] in
+    rw from.0 (among, from.1)
+
+-- words that `clap` takes give no error but that of a conflict
+kinds_are : (words : List Text) (name : Text) (rows : List Row) (b : Bool) → fault_of (program (has_forever words)) words ≡ []
+    → subcommand_of (program (has_forever words)) words ≡ Some (name, rows) → is_in_conflict (has_forever words) rows ≡ b
+    → kinds_of words ≡ cond b (kind.ArgumentConflict ∷ []) []
+kinds_are words name rows b none is conflict = rw (none, is, conflict) refl
+
+pub no_kinds : (words : List Text) (name : Text) (rows : List Row) → fault_of (program (has_forever words)) words ≡ []
+    → subcommand_of (program (has_forever words)) words ≡ Some (name, rows) → is_in_conflict (has_forever words) rows ≡ false
+    → kinds_of words ≡ []
+no_kinds words name rows none is conflict = kinds_are words name rows false none is conflict
+
+pub conflict_as : (words : List Text) (name : Text) (rows : List Row) (e : Error) → fault_of (program (has_forever words)) words ≡ []
+    → subcommand_of (program (has_forever words)) words ≡ Some (name, rows) → is_in_conflict (has_forever words) rows ≡ true
+    → kind_of e ≡ kind.ArgumentConflict → IsFaultIn words (Words e)
+conflict_as words name rows e none is conflict e_is =
+    let kinds : kinds_of words ≡ kind.ArgumentConflict ∷ [] = kinds_are words name rows true none is conflict in
+    (rw kinds (inl e_is), λ memory. cc)

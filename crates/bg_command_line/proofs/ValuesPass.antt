@@ -57,13 +57,16 @@ full_both [] ys e = cc
 full_both (x ∷ xs) ys e = refl
 
 pub with_values_keeps : (c : List Rule) (id : Text) (how : Reading) (from : ValueSource) (values : List Text) (rows : List Row)
-    → has_none values ≡ false → list_all (passes c id) values ≡ true → AreGood c rows → AreGood c (with_values id how from values (without id rows))
+    → has_none values ≡ false → list_all (passes c id) values ≡ true → AreGood c rows → AreGood c (with_values id how from values rows)
 with_values_keeps c id how from values rows full pass g =
-    at_row_keeps c id (more_values from values) _ (without id rows)
+    at_row_keeps c id (more_values from values) _ rows
     (λ r same h. let e : r.id ≡ id = (bytes_eq-Decides r.id id).0 same in
     ((full_both r.values values h.0, all_both (passes c r.id) r.values values h.1 (rw e pass)), tt))
     ((full, pass), tt)
-    (at_row_keeps c id (λ _. []) [] rows (λ r same h. tt) tt g)
+    g
+
+without_keeps : (c : List Rule) (id : Text) (rows : List Row) → AreGood c rows → AreGood c (without id rows)
+without_keeps c id rows g = at_row_keeps c id (λ _. []) [] rows (λ r same h. tt) tt g
 
 values_pass : (ignore_case : Bool) (parser : ValueParser) (values : List Text) → values_kinds ignore_case parser values ≡ [] → list_all (accepts ignore_case parser) values ≡ true
 values_pass ignore_case parser [] e = refl
@@ -86,15 +89,23 @@ all_same p q (v ∷ vs) e h = go (p v) (e v) h (all_same p q vs e)
 passes_own : (c : List Rule) (a : Rule) (v : Text) → arg_by_id c a.id ≡ Some a → value_passes a v ≡ passes c a.id v
 passes_own c a v own = sym (ap (λ (o : Option Rule). option_map_or (λ x. value_passes x v) o true) own)
 
--- a use of an option with one value
+-- a use that has these values
 pub use_keeps : (c : List Rule) (a : Rule) (how : Reading) (from : ValueSource) (values : List Text) (rows : List Row) → arg_by_id c a.id ≡ Some a
-    → range_kinds 1 1 (length values) ≡ [] → values_fault a (values_or_missing a values) ≡ [] → AreGood c rows
-    → AreGood c (with_values a.id how from (values_or_missing a values) (without a.id rows))
-use_keeps c a how from [] rows own one pass g = cc
-use_keeps c a how from (v ∷ vs) rows own one pass g =
-    let all : list_all (value_passes a) (v ∷ vs) ≡ true = values_pass _ _ (v ∷ vs) pass in
-    let same : list_all (passes c a.id) (v ∷ vs) ≡ true = all_same (value_passes a) (passes c a.id) (v ∷ vs) (λ x. passes_own c a x own) all in
-    with_values_keeps c a.id how from (v ∷ vs) rows refl same g
+    → has_none values ≡ false → values_fault a values ≡ [] → AreGood c rows → AreGood c (with_values a.id how from values (without a.id rows))
+use_keeps c a how from values rows own full pass g =
+    let all : list_all (value_passes a) values ≡ true = values_pass _ _ values pass in
+    let same : list_all (passes c a.id) values ≡ true = all_same (value_passes a) (passes c a.id) values (λ x. passes_own c a x own) all in
+    with_values_keeps c a.id how from values (without a.id rows) full same (without_keeps c a.id rows g)
+
+-- a use of an option that wants one value has one
+pub option_full : (a : Rule) (values : List Text) → range_kinds 1 1 (length values) ≡ [] → has_none (values_or_missing a values) ≡ false
+option_full a [] one = cc
+option_full a (v ∷ vs) one = refl
+
+-- a use of a flag has a value, also where none is written
+pub flag_full : (a : Rule) (values : List Text) → has_none a.missing ≡ false → has_none (values_or_missing a values) ≡ false
+flag_full a [] missing = missing
+flag_full a (v ∷ vs) missing = refl
 
 first_value : (test : Text → Bool) (values : List Text) (t : Text) → list_all test values ≡ true → slice_get values 0 ≡ Some t → test t ≡ true
 first_value test [] t all at = cc

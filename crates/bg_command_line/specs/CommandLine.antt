@@ -1,10 +1,16 @@
 -- The program's command line, and the order that words give.
-use Rattle.std.specs.Prelude.{◌≡◌, ◌≢◌, ◌≤◌, ℕ, List, [], codes, Option, Some, IfSome, is_some, true, option_map, unwrap_or}
+use Rattle.std.specs.Prelude.{◌≡◌, ◌≢◌, ◌≤◌, ◌&&◌, ℕ, Bool, List, [], ◌∷◌, codes, drop, Option, Some, None, IfSome, if◌then◌else◌, is_some, not, false, true, option_map, unwrap_or}
+use Rattle.std.specs.List.{list_any}
+use Rattle.std.specs.Str.{bytes_eq}
 use Rattle.std.specs.Str.Parse.{digits_value, without_leading_plus}
-use Rattle.clap.specs.Words.{App, IsAmong, IsUnsignedIn, Row, Rule, Text, fault_of, first_of, kind_of, new_app, new_rule, subcommand_of, with_rule, with_subcommand}
+use Rattle.clap.specs.Kinds.{or_else}
+use Rattle.clap.specs.Words.{App, IsAmong, IsUnsignedIn, Kinds, Row, Rule, Text, fault_of, first_of, kind_of, new_app, new_rule, subcommand_of, with_rule, with_subcommand}
 use Rattle.clap.specs.declared.error.Error.{Error}
 use Rattle.clap.specs.declared.error.kind.ErrorKind.TheVariants as kind
+use Rattle.clap.specs.declared.builder.action.ArgAction.TheVariants.{SetTrue}
 use Rattle.clap.specs.declared.builder.value_parser.ValueParser.TheVariants as value_parser
+use Rattle.bg_command_line.specs.declared.orders.Connections.{Connections}
+use Rattle.bg_command_line.specs.declared.orders.Connections.TheVariants.{Count, Forever}
 use Rattle.bg_command_line.specs.declared.orders.Order.{Order}
 use Rattle.bg_command_line.specs.declared.orders.Order.TheVariants.{Check, Replay, Serve}
 use Rattle.bg_command_line.specs.declared.orders.Site.{Site}
@@ -36,25 +42,60 @@ abbrev pub with_port_rules : App → App
 with_port_rules a = with_rule (with_rule (with_rule a (required_rule (codes "active") 65535))
     (number_rule (codes "preview") 65535)) (required_rule (codes "control") 65535)
 
--- `serve --active P [--preview P] --control P --workers N --count K`
-abbrev pub serve_app : App
-serve_app = with_rule (with_rule (with_port_rules (new_app (codes "serve")))
-    (required_rule (codes "workers") 7)) (required_rule (codes "count") 1000000)
+-- `--count K`, K from 1 to 1,000,000, which has to be given unless `--forever` is
+abbrev pub count_rule : Bool → Rule
+count_rule forever = record (number_rule (codes "count") 1000000) { required = not forever }
 
--- `bg_switch`, which has to be followed by a subcommand; there is no subcommand `help`
+-- `--forever`, which has no value
+abbrev pub forever_rule : Bool → Rule
+forever_rule forever = record (new_rule (codes "forever")) {
+  long = Some (codes "forever");
+  action = Some SetTrue;
+  required = forever;
+}
+
+-- `serve --active P [--preview P] --control P --workers N`, and `--count K` or `--forever`, of which the
+-- one has to be given that `forever` says
+abbrev pub serve_app : Bool → App
+serve_app forever = with_rule (with_rule (with_rule (with_port_rules (new_app (codes "serve")))
+    (required_rule (codes "workers") 7)) (count_rule forever)) (forever_rule forever)
+
+-- `bg_switch`, which tells its version, and has to be followed by a subcommand; there is no subcommand
+-- `help`
 abbrev pub top_app : App
 top_app = record {
   top = record (new_app (codes "bg_switch")).top {
     disable_help_subcommand = true;
+    has_version = true;
     subcommand_required = true;
   };
   subs = [];
 }
 
--- the whole command line
-abbrev pub program : App
-program = with_subcommand (with_subcommand (with_subcommand top_app check_app.top) replay_app.top)
-    serve_app.top
+-- the whole command line, for words that have `--forever` or not
+abbrev pub program : Bool → App
+program forever = with_subcommand (with_subcommand (with_subcommand top_app check_app.top)
+    replay_app.top) (serve_app forever).top
+
+-- one of the words after the program's name is `--forever`
+abbrev pub has_forever : List Text → Bool
+has_forever words = list_any (λ w. bytes_eq w (codes "--forever")) (drop 1 words)
+
+-- `--count` is given beside `--forever`
+abbrev pub is_in_conflict : Bool → List Row → Bool
+is_in_conflict forever rows = forever && is_some (first_of (codes "count") rows)
+
+abbrev pub conflict_kinds : Bool → Option (Text × List Row) → Kinds
+conflict_kinds forever None = []
+conflict_kinds forever (Some s) =
+    if is_in_conflict forever s.1 then kind.ArgumentConflict ∷ [] else []
+
+-- the kinds of error that words may give: those of `clap`, and where it takes them that of a conflict
+abbrev pub kinds_of : List Text → Kinds
+kinds_of words =
+    let forever = has_forever words in
+    or_else (fault_of (program forever) words)
+    (conflict_kinds forever (subcommand_of (program forever) words))
 
 -- the number that a text of digits is
 abbrev pub number : Text → ℕ
@@ -72,33 +113,41 @@ IsBetween least most n = (least ≤ n) × (n ≤ most)
 abbrev pub IsGiven : ℕ → ℕ → Text → List Row → ℕ → Type 0
 IsGiven least most id rows n = (number_of id rows ≡ Some n) × IsBetween least most n
 
+-- how many connections each worker takes: as many as `--count` says, or no limit where `--forever` is
+-- given
+abbrev pub AreConnections : Bool → List Row → Connections → Type 0
+AreConnections forever rows (Count n) =
+    (forever ≡ false) × IsGiven 1 1000000 (codes "count") rows n
+AreConnections forever rows Forever = forever ≡ true
+
 -- what `serve` is given
-pub record IsServe (rows : List Row) (site : Site) : Type 0 where
+pub record IsServe (forever : Bool) (rows : List Row) (site : Site) : Type 0 where
   pub active_is : IsGiven 1 65535 (codes "active") rows site.active
   pub preview_is : site.preview ≡ number_of (codes "preview") rows
   pub preview_range : IfSome site.preview (IsBetween 1 65535)
   pub control_is : IsGiven 1 65535 (codes "control") rows site.control
   pub workers_is : IsGiven 1 7 (codes "workers") rows site.workers
-  pub count_is : IsGiven 1 1000000 (codes "count") rows site.count
+  pub connections_are : AreConnections forever rows site.connections
 
 -- the order is the subcommand of this name with these matches; 4 seats where no number is given
-abbrev pub IsOrderOf : Text → List Row → Order → Type 0
-IsOrderOf name rows Check = name ≡ codes "check"
-IsOrderOf name rows (Replay seats) = (name ≡ codes "replay")
+abbrev pub IsOrderOf : Bool → Text → List Row → Order → Type 0
+IsOrderOf forever name rows Check = name ≡ codes "check"
+IsOrderOf forever name rows (Replay seats) = (name ≡ codes "replay")
     × (seats ≡ unwrap_or (number_of (codes "seats") rows) 4) × IsBetween 1 8 seats
-IsOrderOf name rows (Serve site) = (name ≡ codes "serve") × IsServe rows site
+IsOrderOf forever name rows (Serve site) = (name ≡ codes "serve") × IsServe forever rows site
 
--- `clap` accepts the words, and the order is the subcommand of its matches
+-- the words are accepted, and the order is the subcommand of their matches
 abbrev pub IsOrderIn : List Text → Order → Type 0
-IsOrderIn words o = (fault_of program words ≡ [])
-    × ((name : Text) × (rows : List Row) × (subcommand_of program words ≡ Some (name, rows))
-    × IsOrderOf name rows o)
+IsOrderIn words o = (kinds_of words ≡ [])
+    × ((name : Text) × (rows : List Row)
+    × (subcommand_of (program (has_forever words)) words ≡ Some (name, rows))
+    × IsOrderOf (has_forever words) name rows o)
 
--- memory was refused, or `clap` refuses the words with this error
+-- memory was refused, or the words are refused with this error
 abbrev pub IsFaultIn : List Text → OrderFault → Type 0
 IsFaultIn words OutOfMemory = Unit {0}
 IsFaultIn words (Words e) =
-    IsAmong (kind_of e) (fault_of program words) × (kind_of e ≢ kind.OutOfMemory)
+    IsAmong (kind_of e) (kinds_of words) × (kind_of e ≢ kind.OutOfMemory)
 
 -- the fault that an error of `clap` is
 abbrev pub IsFaultFrom : Error → OrderFault → Type 0
@@ -114,16 +163,17 @@ abbrev pub IsNumber : ℕ → ℕ → Text → List Row → Type 0
 IsNumber least most id rows =
     (is_some (first_of id rows) ≡ true) × IsIn least most id rows
 
--- the words of `serve` are numbers in their ranges
-pub record HasWordsOfServe (rows : List Row) : Type 0 where
+-- the words of `serve` are numbers in their ranges, and `--count` is given unless `--forever` is
+pub record HasWordsOfServe (forever : Bool) (rows : List Row) : Type 0 where
   pub active : IsNumber 1 65535 (codes "active") rows
   pub preview : IsIn 1 65535 (codes "preview") rows
   pub control : IsNumber 1 65535 (codes "control") rows
   pub workers : IsNumber 1 7 (codes "workers") rows
-  pub count : IsNumber 1 1000000 (codes "count") rows
+  pub count : IsIn 1 1000000 (codes "count") rows
+  pub count_given : forever ≡ false → is_some (first_of (codes "count") rows) ≡ true
 
 -- what the name of a subcommand that was taken says of its matches
-pub record IsKnown (name : Text) (rows : List Row) : Type 0 where
+pub record IsKnown (forever : Bool) (name : Text) (rows : List Row) : Type 0 where
   pub is_serve : name ≢ codes "check" → name ≢ codes "replay" → name ≡ codes "serve"
   pub seats : name ≡ codes "replay" → IsIn 1 8 (codes "seats") rows
-  pub words : name ≡ codes "serve" → HasWordsOfServe rows
+  pub words : name ≡ codes "serve" → HasWordsOfServe forever rows

@@ -1,24 +1,31 @@
 //! The program's command line, as `clap` reads it.
 ghost use Rattle.std.specs.Prelude.{◌≡◌, IfOk, false};
-ghost use Rattle.clap.specs.Words.{app_of, rule_of};
+ghost use Rattle.clap.specs.Words.{app_of, kind_of, rule_of};
 ghost use Rattle.clap.specs.declared.builder.command.Command.TheViews.{out-Command as fields_of};
-ghost use Rattle.bg_command_line.specs.CommandLine.{check_app, number_rule, program, replay_app, required_rule, serve_app, top_app, with_port_rules};
+ghost use Rattle.bg_command_line.specs.CommandLine.{check_app, count_rule, forever_rule, number_rule, program, replay_app, required_rule, serve_app, top_app, with_port_rules};
 
 use clap::builder::ValueParser;
-use clap::{Arg, Command};
+use clap::error::ErrorKind;
+use clap::{Arg, ArgAction, Command, Error};
 use std::alloc::{AllocError, Global};
 
 const GREATEST_PORT: u64 = 65_535;
 
+/// The program's version.
+const VERSION: &str = "0.1.0";
+
 /// What the help of `serve` says beside its words.
 const NOTES_ON_SERVING: &str = "\
-Any connection counts towards --count, a health check too, and one that sends nothing. Once the
-workers of a port have taken all of theirs, the port is closed, and clients are refused at once.
+One of --count and --forever has to be given, and not both.
+With --count, any connection counts, a health check too, and one that sends nothing. Once the workers
+of a port have taken all of theirs, the port is closed, and clients are refused at once.
+With --forever, the workers take connections without a limit, up to a graceful shutdown.
 The active port has --workers workers, the preview port one.
-A line quit ends the operators' side, not the workers': the program ends once both are done. It then
-prints the report, and ends with status 0; 1 where the strategy has a fault or a port can't be bound.
+With --count, a line quit ends the operators' side, not the workers': the program ends once both are
+done. It then prints the report, and ends with status 0; 1 where the strategy has a fault or a port
+can't be bound.
 In the environment, BG_SWITCH_PATIENCE_SECONDS is how many seconds a request may take from its
-connection on, and a response from the dial on, until it is whole: 1 to 60; 60 where it isn't given.";
+connection on, and a response from the dial on, until it is whole: 1 to 3600; 60 where it isn't given.";
 
 /// What the help of the program says beside its commands.
 const NOTES: &str = "\
@@ -28,9 +35,11 @@ check has no words of its own. replay takes --seats N: how many requests can be 
   --preview P  that of the revision under preview, 1 to 65535; no such port where it isn't given
   --control P  port at which operators' lines are answered, 1 to 65535; has to be given
   --workers N  how many requests the active port forwards at a time, 1 to 7; has to be given
-  --count K    how many connections each worker takes until it ends, 1 to 1000000; has to be given;
-               any connection counts, a health check too, and the port is closed after the last
-A line quit ends the operators' side of serve, not the workers'.
+  --count K    how many connections each worker takes until it ends, 1 to 1000000; has to be given,
+               unless --forever is; any connection counts, a health check too, and the port is
+               closed after the last
+  --forever    in the place of --count: the workers end at a graceful shutdown
+A line quit ends the operators' side of serve, and with --count not the workers'.
 The strategy comes on standard input, as `kubectl get rollout NAME -o json` writes it.
 Status: 0; 1 after a fault, and where the run ends early; 2 after words that are no order, and after
 this help.";
@@ -110,9 +119,36 @@ fn with_ports<'a>(alloc: Global, command: Command<'a>) -> Result<Command<'a>, Al
     command.arg(active)?.arg(preview)?.arg(control)
 }
 
-/// `serve --active P [--preview P] --control P --workers N --count K`.
-fn serve_command<'a>(alloc: Global) -> Result<Command<'a>, AllocError>
-    ensures app { IfOk result (λ c. app_of c ≡ serve_app) }
+/// `--count K`, which has to be given unless `--forever` is.
+fn count_option<'a>(alloc: Global, forever: bool) -> Arg<'a>
+    ensures rule { rule_of result ≡ count_rule forever }
+    ensures local { result.global ≡ false }
+{
+    let count = number_option(
+        alloc,
+        "count",
+        1_000_000,
+        "How many connections each worker takes before it ends, 1 to 1000000; has to be given, unless --forever is",
+    );
+    count.required(!forever)
+}
+
+/// `--forever`, which the words have where `forever` says so.
+fn forever_flag<'a>(alloc: Global, forever: bool) -> Arg<'a>
+    ensures rule { rule_of result ≡ forever_rule forever }
+    ensures local { result.global ≡ false }
+{
+    Arg::new(alloc, "forever")
+        .long("forever")
+        .action(ArgAction::SetTrue)
+        .required(forever)
+        .help("No limit in the place of --count: the workers end at a graceful shutdown")
+}
+
+/// `serve --active P [--preview P] --control P --workers N`, and `--count K` or `--forever`: the one
+/// of the two that has to be given is `--forever` where `forever` says so.
+fn serve_command<'a>(alloc: Global, forever: bool) -> Result<Command<'a>, AllocError>
+    ensures app { IfOk result (λ c. app_of c ≡ serve_app forever) }
     ensures local { IfOk result (λ c. (fields_of c).has_globals ≡ false) }
 {
     let command = Command::new(alloc, "serve")
@@ -124,13 +160,24 @@ fn serve_command<'a>(alloc: Global) -> Result<Command<'a>, AllocError>
         7,
         "How many workers the active port has, 1 to 7; each forwards one request at a time; has to be given",
     );
-    let count = required_option(
-        alloc,
-        "count",
-        1_000_000,
-        "How many connections each worker takes before it ends, 1 to 1000000; has to be given",
-    );
-    with_ports(alloc, command)?.arg(workers)?.arg(count)
+    let count = count_option(alloc, forever);
+    let flag = forever_flag(alloc, forever);
+    with_ports(alloc, command)?
+        .arg(workers)?
+        .arg(count)?
+        .arg(flag)
+}
+
+/// The error of words of a subcommand that give both `--count` and `--forever`.
+pub fn conflict<'a>(alloc: Global, subcommand: &'a str) -> Result<Error, AllocError>
+    ensures { IfOk result (λ e. kind_of e ≡ ErrorKind.ArgumentConflict) }
+{
+    let name = format!(in alloc; "bg_switch {subcommand}")?;
+    let mut command: Command<'a> = serve_command(alloc, true)?.bin_name(name.as_str())?;
+    command.error(
+        ErrorKind::ArgumentConflict,
+        "the argument '--count <N>' cannot be used with '--forever'",
+    )
 }
 
 /// `bg_switch`, without its subcommands.
@@ -139,17 +186,19 @@ fn top_command<'a>(alloc: Global) -> Command<'a>
 {
     Command::new(alloc, "bg_switch")
         .about("A blue-green traffic switch for one rollout")
+        .version(VERSION)
         .after_help(NOTES)
         .subcommand_required(true)
         .disable_help_subcommand(true)
 }
 
 /// `bg_switch check`, `bg_switch replay ..` and `bg_switch serve ..`; one of the three is required.
-pub fn program_command<'a>(alloc: Global) -> Result<Command<'a>, AllocError>
-    ensures { IfOk result (λ c. app_of c ≡ program) }
+/// `forever` says whether the words have `--forever`.
+pub fn program_command<'a>(alloc: Global, forever: bool) -> Result<Command<'a>, AllocError>
+    ensures { IfOk result (λ c. app_of c ≡ program forever) }
 {
     top_command(alloc)
         .subcommand(check_command(alloc))?
         .subcommand(replay_command(alloc)?)?
-        .subcommand(serve_command(alloc)?)
+        .subcommand(serve_command(alloc, forever)?)
 }

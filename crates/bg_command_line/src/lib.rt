@@ -2,10 +2,10 @@
 #![tactic(auto)]
 
 mod command_line;
+mod message_timeout;
 mod orders;
-mod patience;
 mod words;
 
-pub use orders::{Order, OrderFault, Site};
-pub use patience::patience_seconds;
+pub use message_timeout::{MessageTimeout, TIMEOUT_VARIABLE};
+pub use orders::{Connections, Order, OrderFault, Site};
 pub use words::order;

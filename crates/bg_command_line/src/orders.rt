@@ -17,6 +17,15 @@ pub enum Order {
     Serve(Site),
 }
 
+/// How many connections a worker takes.
+#[derive(Clone, Copy, Debug, Drop, PartialEq, Eq)]
+pub enum Connections {
+    /// Each worker takes so many connections, 1 to 1,000,000, and then ends.
+    Count(u32),
+    /// No limit: the workers end at a graceful shutdown.
+    Forever,
+}
+
 /// Where `serve` takes connections, and how many. Ports are from 1 to 65535.
 #[derive(Clone, Copy, Debug, Drop, PartialEq, Eq)]
 pub struct Site {
@@ -28,8 +37,8 @@ pub struct Site {
     pub control: u16,
     /// How many workers the active service has, 1 to 7. The preview service has one.
     pub workers: u8,
-    /// How many connections each worker takes, 1 to 1,000,000.
-    pub count: u32,
+    /// How many connections each worker takes.
+    pub connections: Connections,
 }
 
 /// Why the words are no order.

@@ -1,10 +1,10 @@
 //! Reads the program's words.
-ghost use Rattle.std.specs.Prelude.{◌≡◌, IfOk, IfErr, map, codes, option_map, is_some, true};
+ghost use Rattle.std.specs.Prelude.{◌≡◌, IfOk, IfErr, map, codes, option_map, is_some, false, true, unwrap_or};
 ghost use Rattle.clap.specs.Words.{IsUnsignedIn, first_of, found_of, rows_of};
-ghost use Rattle.bg_command_line.specs.CommandLine.{HasWordsOfServe, IsBetween, IsFaultFrom, IsFaultIn, IsIn, IsKnown, IsOrderIn, IsOrderOf, number};
+ghost use Rattle.bg_command_line.specs.CommandLine.{AreConnections, HasWordsOfServe, IsBetween, IsFaultFrom, IsFaultIn, IsIn, IsKnown, IsOrderIn, IsOrderOf, has_forever, is_in_conflict, number, number_of};
 
-use crate::command_line::program_command;
-use crate::orders::{Order, OrderFault, Site};
+use crate::command_line::{conflict, program_command};
+use crate::orders::{Connections, Order, OrderFault, Site};
 use clap::error::ErrorKind;
 use clap::{ArgMatches, Error};
 use std::alloc::Global;
@@ -14,22 +14,43 @@ const DEFAULT_SEATS: u8 = 4;
 
 /// Reads the program's words, of which the first is the program's name: `check`;
 /// `replay [--seats N]` with N from 1 to 8, and 4 seats where no number is given; or
-/// `serve --active P [--preview P] --control P --workers N --count K` with ports from 1 to 65535, N
-/// from 1 to 7 and K from 1 to 1,000,000.
+/// `serve --active P [--preview P] --control P --workers N` with ports from 1 to 65535 and N from 1 to
+/// 7, and either `--count K` with K from 1 to 1,000,000 or `--forever`.
 ///
-/// `Words` comes only where `clap` refuses the words, or was asked for help, and `OutOfMemory` where
-/// memory is refused.
+/// `Words` comes only where `clap` refuses the words, or was asked for help, or where both `--count`
+/// and `--forever` are given, and `OutOfMemory` where memory is refused.
 pub fn order(alloc: Global, words: &[&str]) -> Result<Order, OrderFault>
     ensures ok { IfOk result (IsOrderIn (map (λ w. w.now) words.now)) }
     ensures fault { IfErr result (IsFaultIn (map (λ w. w.now) words.now)) }
 {
-    let command = program_command(alloc)?;
+    let forever = has_forever(words);
+    let command = program_command(alloc, forever)?;
     let matches = match command.try_get_matches_from(words) {
         Ok(matches) => matches,
         Err(error) => return Err(fault_of(error)),
     };
     let (name, inner) = matches.subcommand().unwrap();
-    Ok(order_of(name, inner))
+    if is_in_conflict(forever, inner) {
+        return Err(OrderFault::Words(conflict(alloc, name)?));
+    }
+    Ok(order_of(forever, name, inner))
+}
+
+/// Whether one of the words after the program's name is `--forever`.
+fn has_forever(words: &[&str]) -> bool
+    ensures { result ≡ has_forever (map (λ w. w.now) words.now) }
+{
+    match words.get(1..) {
+        Some(arguments) => arguments.contains(&"--forever"),
+        None => false,
+    }
+}
+
+/// Whether `--count` is given beside `--forever`.
+fn is_in_conflict(forever: bool, matches: &ArgMatches) -> bool
+    ensures { result ≡ is_in_conflict forever (rows_of (found_of matches.now)) }
+{
+    forever && text_of(matches, "count").is_some()
 }
 
 fn fault_of(error: Error) -> OrderFault
@@ -41,34 +62,36 @@ fn fault_of(error: Error) -> OrderFault
     }
 }
 
-fn order_of(name: &str, matches: &ArgMatches) -> Order
-    requires { IsKnown name.now (rows_of (found_of matches.now)) }
-    ensures { IsOrderOf name.now (rows_of (found_of matches.now)) result }
+fn order_of(forever: bool, name: &str, matches: &ArgMatches) -> Order
+    requires { IsKnown forever name.now (rows_of (found_of matches.now)) }
+    ensures { IsOrderOf forever name.now (rows_of (found_of matches.now)) result }
 {
     if name == "check" {
         Order::Check
     } else if name == "replay" {
-        replay_of(matches)
+        Order::Replay {
+            seats: seats_of(matches),
+        }
     } else {
-        serve_of(matches)
+        serve_of(forever, matches)
     }
 }
 
-fn replay_of(matches: &ArgMatches) -> Order
+/// The seats of a replay.
+fn seats_of(matches: &ArgMatches) -> u8
     requires { IsIn 1 8 (codes "seats") (rows_of (found_of matches.now)) }
-    ensures { IsOrderOf (codes "replay") (rows_of (found_of matches.now)) result }
+    ensures value { result ≡ unwrap_or (number_of (codes "seats") (rows_of (found_of matches.now))) 4 }
+    ensures range { IsBetween 1 8 result }
 {
-    Order::Replay {
-        seats: match text_of(matches, "seats") {
-            Some(text) => seats_in(text),
-            None => DEFAULT_SEATS,
-        },
+    match text_of(matches, "seats") {
+        Some(text) => seats_in(text),
+        None => DEFAULT_SEATS,
     }
 }
 
-fn serve_of(matches: &ArgMatches) -> Order
-    requires { HasWordsOfServe (rows_of (found_of matches.now)) }
-    ensures { IsOrderOf (codes "serve") (rows_of (found_of matches.now)) result }
+fn serve_of(forever: bool, matches: &ArgMatches) -> Order
+    requires { HasWordsOfServe forever (rows_of (found_of matches.now)) }
+    ensures { IsOrderOf forever (codes "serve") (rows_of (found_of matches.now)) result }
 {
     Order::Serve(Site {
         active: port_in(given(matches, "active")),
@@ -78,8 +101,20 @@ fn serve_of(matches: &ArgMatches) -> Order
         },
         control: port_in(given(matches, "control")),
         workers: workers_in(given(matches, "workers")),
-        count: count_in(given(matches, "count")),
+        connections: connections_of(forever, matches),
     })
+}
+
+fn connections_of(forever: bool, matches: &ArgMatches) -> Connections
+    requires count { IsIn 1 1000000 (codes "count") (rows_of (found_of matches.now)) }
+    requires given { forever ≡ false → is_some (first_of (codes "count") (rows_of (found_of matches.now))) ≡ true }
+    ensures { AreConnections forever (rows_of (found_of matches.now)) result }
+{
+    if forever {
+        Connections::Forever
+    } else {
+        Connections::Count(count_in(given(matches, "count")))
+    }
 }
 
 fn text_of<'a>(matches: &ArgMatches<'a>, id: &str) -> Option<&'a str>

@@ -21,6 +21,19 @@ kept None new k = tt
 kept (Some x) None k = absurd k
 kept (Some x) (Some y) k = k ∙ sym (append-nil x)
 
+-- the client was written nothing before what it was written last
+pub kept_before : (old mid new : Option (List ℕ)) (read : ReadOutcome) (e : End) → Keeps old mid
+    → WroteLast mid new read e → WroteLast old new read e
+kept_before old mid new read end.WriteFailed k w = tt
+kept_before old mid new read end.Closed k w =
+    (w.0, w.1, Appends-trans old mid new [] w.0 (kept old mid k) w.2)
+kept_before old mid new read end.ReadFailed k w =
+    (w.0, w.1, Appends-trans old mid new [] w.0 (kept old mid k) w.2)
+kept_before old mid new read (end.Refused status) k w =
+    (w.0, w.1, Appends-trans old mid new [] w.0 (kept old mid k) w.2)
+kept_before old mid new read (end.Answered code) k w =
+    (w.0, w.1, Appends-trans old mid new [] w.0 (kept old mid k) w.2)
+
 owed : (is_owed : Bool) (old new : Option (List ℕ)) → WritesContinue is_owed old new
     → Appends old new (if is_owed then continue_text else [])
 owed true old new w = w

@@ -4,12 +4,6 @@ use Rattle.bg_rollout.specs.declared.ticket.Ticket.{Ticket}
 use Rattle.bg_ledger.specs.declared.holding.Holding.{Holding}
 use Rattle.bg_forward.specs.Seats.{Worked, calls_made}
 
--- an accept failed
-pub round_lost : (n : ℕ) (first now : Holding) → Worked n first now → Worked (n + 1) first now
-round_lost n first now w =
-    let most = w.most in
-    record { entered = w.entered; most = omega arith; out = w.out; index = w.index; calls = w.calls }
-
 -- a connection was served
 pub round_served : (n : ℕ) (first now next : Holding) (entered : Option Ticket) → Worked n first now
     → next.number ≡ 0 → next.index ≡ now.index → next.calls ≡ now.calls + calls_made entered

@@ -1,6 +1,6 @@
 //! What is done with a request that entered, and what its client is answered.
 ghost use Rattle.std.specs.Prelude.{◌≡◌, ◌<◌, ◌⊎◌, [], IfErr, IsTrue, OnOk, Ok};
-ghost use Rattle.std.specs.Io.KnownBytes.{Appends};
+ghost use Rattle.std.specs.Io.KnownBytes.{Appends, Keeps};
 ghost use Rattle.bg_http.specs.Statuses.{is_refusal};
 ghost use Rattle.bg_http.specs.Texts.{refusal_text, response_text};
 ghost use Rattle.bg_forward.specs.Buffers.{held, stream_of};
@@ -11,7 +11,7 @@ ghost use Rattle.bg_forward.specs.declared.serving.End.TheVariants as end;
 use crate::buffered::Buffered;
 use crate::gate::Gate;
 use crate::serving::End;
-use crate::streams::Dial;
+use crate::streams::{ClientStream, Dial};
 use bg_book::GoOn;
 use bg_http::{MOST_TURNS, Request, Response, write_refusal, write_request, write_response};
 use bg_http_read::ResponseParser;
@@ -24,7 +24,7 @@ use std::io::{ErrorKind, Read, Write};
 const PIECE: usize = 8192;
 
 /// Forwards a request to a port, and answers its client with the response or a refusal.
-pub(crate) fn exchange<N: Names, G: Gate<N>, S: Write, D: Dial>(
+pub(crate) fn exchange<N: Names, G: Gate<N>, S: ClientStream, D: Dial>(
     alloc: Global,
     gate: &G,
     seat: &mut Seat<N>,
@@ -40,7 +40,7 @@ pub(crate) fn exchange<N: Names, G: Gate<N>, S: Write, D: Dial>(
     ensures wrote { WroteLast (S.contents (stream_of client.old))
         (S.contents (stream_of client.new)) (Ok request.now) result }
 {
-    match forward(alloc, gate, seat, request, port, dial) {
+    match forward(alloc, gate, seat, request, port, &mut client.stream, dial) {
         Ok(response) => answer(request, &response, client),
         Err(status) => refuse(status, client),
     }
@@ -48,18 +48,20 @@ pub(crate) fn exchange<N: Names, G: Gate<N>, S: Write, D: Dial>(
 
 /// Forwards a request to a port and reads the response. A fault is the status in which the client
 /// is refused: 503 where the request is given up, or memory is refused as the response is read, and
-/// 502 otherwise (RFC 9110 sections 15.6.3 and 15.6.4).
-fn forward<N: Names, G: Gate<N>, D: Dial>(
+/// 502 otherwise (RFC 9110 sections 15.6.3 and 15.6.4). The client is written nothing.
+fn forward<N: Names, G: Gate<N>, S: ClientStream, D: Dial>(
     alloc: Global,
     gate: &G,
     seat: &mut Seat<N>,
     request: &Request,
     port: u16,
+    client: &mut S,
     dial: &D,
 ) -> Result<Response, u16>
     requires { 0 < seat.old.number }
     ensures status { IfErr result IsGatewayStatus }
     ensures seat { seat.new ≡ seat.old }
+    ensures client { Keeps (S.contents client.old) (S.contents client.new) }
 {
     let Ok(stream) = dial.dial(port) else {
         return Err(502);
@@ -71,26 +73,41 @@ fn forward<N: Names, G: Gate<N>, D: Dial>(
     if write_request(request, port, &mut upstream).is_err() || upstream.flush().is_err() {
         return Err(502);
     }
-    receive(alloc, gate, seat, request, &mut upstream.stream)
+    receive(alloc, gate, seat, request, client, &mut upstream.stream)
 }
 
-/// Reads the response to a request, and asks the gate before each read whether the request goes on.
-/// A read that was interrupted is tried again. Faults are those of `forward`.
-fn receive<N: Names, G: Gate<N>, R: Read>(
+/// Whether a request is given up: its gate says so, or its client has gone.
+fn is_given_up<N: Names, G: Gate<N>, S: ClientStream>(
+    gate: &G,
+    seat: &mut Seat<N>,
+    client: &mut S,
+) -> bool
+    requires { 0 < seat.old.number }
+    ensures seat { seat.new ≡ seat.old }
+    ensures client { Keeps (S.contents client.old) (S.contents client.new) }
+{
+    gate.may_go_on(seat) == GoOn::Cut || client.has_gone()
+}
+
+/// Reads the response to a request, and asks before each read whether the request is given up. A
+/// read that was interrupted is tried again. Faults are those of `forward`.
+fn receive<N: Names, G: Gate<N>, S: ClientStream, R: Read>(
     alloc: Global,
     gate: &G,
     seat: &mut Seat<N>,
     request: &Request,
+    client: &mut S,
     reader: &mut R,
 ) -> Result<Response, u16>
     requires { 0 < seat.old.number }
     ensures status { IfErr result IsGatewayStatus }
     ensures seat { seat.new ≡ seat.old }
+    ensures client { Keeps (S.contents client.old) (S.contents client.new) }
 {
     let mut parser = ResponseParser::new(alloc, request);
     let mut piece = [0; PIECE];
     for _ in 0..MOST_TURNS {
-        if gate.may_go_on(seat) == GoOn::Cut {
+        if is_given_up(gate, seat, client) {
             return Err(503);
         }
         match reader.read(&mut piece) {

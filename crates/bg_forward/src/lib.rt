@@ -19,5 +19,5 @@ pub use door::Door;
 pub use gate::Gate;
 pub use in_memory::{Exchange, serve_in_memory};
 pub use serving::{End, Served, serve_one};
-pub use streams::{Accept, Dial};
+pub use streams::{Accept, ClientStream, Dial};
 pub use workers::run_workers;

@@ -8,9 +8,9 @@ ghost use Rattle.bg_forward.specs.Seats.{calls_made, seat_after};
 use crate::buffered::Buffered;
 use crate::exchange::{exchange, refuse};
 use crate::gate::Gate;
-use crate::streams::Dial;
+use crate::streams::{ClientStream, Dial};
 use bg_book::Ticket;
-use bg_http::{Duplex, Request, RequestFault};
+use bg_http::{Request, RequestFault};
 use bg_http_read::read_request;
 use bg_ledger::{Names, Seat};
 use bg_revisions::Service;
@@ -50,12 +50,14 @@ pub struct Served {
 /// endpoint that can't be dialled or written to, or whose response can't be read, is answered 502,
 /// and 503 where memory was refused as that response was read. The gate is asked once after the dial
 /// and before each read of the response: where it gives the request up, the endpoint is let go, and
-/// the client is answered 503. The request leaves once its answer or refusal was written or its
-/// writing failed.
+/// the client is answered 503. The client's stream is asked too before each read of the response:
+/// where the client has gone, the request ends in the same way, and writing the 503 mostly fails.
+/// So nobody holds a seat and an endpoint by asking and going (nginx's `proxy_ignore_client_abort
+/// off`). The request leaves once its answer or refusal was written or its writing failed.
 ///
 /// The client and the endpoint are written through a buffer, which is flushed before anything
 /// further is done; a flush that fails counts as a failed write.
-pub fn serve_one<N: Names, G: Gate<N>, S: Duplex, D: Dial>(
+pub fn serve_one<N: Names, G: Gate<N>, S: ClientStream, D: Dial>(
     alloc: Global,
     gate: &G,
     seat: &mut Seat<N>,
@@ -85,7 +87,7 @@ pub fn serve_one<N: Names, G: Gate<N>, S: Duplex, D: Dial>(
 }
 
 /// Passes a request through the gate, answers it, and leaves.
-fn pass<N: Names, G: Gate<N>, S: Write, D: Dial>(
+fn pass<N: Names, G: Gate<N>, S: ClientStream, D: Dial>(
     alloc: Global,
     gate: &G,
     seat: &mut Seat<N>,

@@ -1,6 +1,8 @@
 //! Where connections come from and where they go to.
+ghost use Rattle.std.specs.Prelude.{◌≡◌, false, Some};
+ghost use Rattle.std.specs.Io.KnownBytes.{Keeps};
 
-use bg_http::Duplex;
+use bg_http::{Duplex, Memory};
 use bg_revisions::Service;
 use std::io;
 use std::io::{Read, Write};
@@ -14,13 +16,39 @@ pub trait Dial {
     fn dial(&self, port: u16) -> io::Result<Self::Stream>;
 }
 
+/// A connection of a client. It says whether the client still waits for its answer.
+pub trait ClientStream: Duplex {
+    /// Whether the client has closed or reset its connection, so that no answer can reach it. A
+    /// client that has only shut its writing side hasn't gone: it still reads (RFC 9112 section
+    /// 9.6).
+    ///
+    /// What is left to read and what was written stay as they were. It is called before each read
+    /// of an endpoint's response. So it never waits, and it decides itself how often it asks the
+    /// system.
+    fn has_gone(&mut self) -> bool
+        ensures left { Keeps (Self.remaining self.old) (Self.remaining self.new) }
+        ensures kept { Keeps (Self.contents self.old) (Self.contents self.new) };
+}
+
+/// A client in memory has never gone.
+impl ClientStream for Memory<'_> {
+    fn has_gone(&mut self) -> bool
+        ensures left { Keeps (Some self.old.input.now) (Some self.new.input.now) }
+        ensures kept { Keeps (Some self.old.written.items) (Some self.new.written.items) }
+        ensures stays { result ≡ false }
+    {
+        false
+    }
+}
+
 /// Gives the connections of clients, and ends them. All workers share it.
 pub trait Accept {
     /// A connection of a client.
-    type Stream: Duplex + Drop;
+    type Stream: ClientStream + Drop;
 
-    /// Waits for the next client of a service.
-    fn accept(&self, service: Service) -> io::Result<Self::Stream>;
+    /// Waits for the next client of a service. None says that no further connection comes: the
+    /// worker that is told so asks no more. An error counts as one connection.
+    fn accept(&self, service: Service) -> io::Result<Option<Self::Stream>>;
 
     /// Ends the connection of a client, once its seat is out. `whole` is true only where its request
     /// was read whole; else the client may still be sending it.

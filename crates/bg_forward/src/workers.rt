@@ -12,9 +12,10 @@ use std::alloc::Global;
 use std::thread;
 use std::thread::Threads;
 
-/// Serves `count` connections on each seat, one thread for each seat; `services` has the service of
-/// each. An accept that fails counts as one of the connections. Where no thread can be had, seats
-/// are worked one after the other.
+/// Serves up to `count` connections on each seat, one thread for each seat; `services` has the
+/// service of each. An accept that fails counts as one of the connections, and the worker of a seat
+/// ends early where no further connection comes. `u64::MAX` is no limit that is ever met. Where no
+/// thread can be had, seats are worked one after the other.
 ///
 /// Every seat is out at the end, and its calls have risen by two for each of its connections that
 /// entered.
@@ -32,7 +33,7 @@ pub fn run_workers<
     services: &[Service],
     accept: &A,
     dial: &D,
-    count: u32,
+    count: u64,
 )
 where
     A::Stream: Send,
@@ -56,7 +57,7 @@ where
     );
 }
 
-/// Serves `count` connections on one seat.
+/// Serves up to `count` connections on one seat.
 fn work<N: Names, G: Gate<N>, A: Accept, D: Dial>(
     alloc: Global,
     gate: &G,
@@ -64,17 +65,20 @@ fn work<N: Names, G: Gate<N>, A: Accept, D: Dial>(
     service: Service,
     accept: &A,
     dial: &D,
-    count: u32,
+    count: u64,
 )
     requires { seat.old.number ≡ 0 }
     ensures { Worked count seat.old seat.new }
 {
     for _ in 0..count {
-        if let Ok(stream) = accept.accept(service) {
-            let mut client = Buffered::new(alloc, stream);
-            let served = serve_one(alloc, gate, seat, service, &mut client, dial);
-            // a request that entered was read whole
-            accept.close(client.into_inner(), served.entered.is_some());
-        }
+        let stream = match accept.accept(service) {
+            Ok(Some(stream)) => stream,
+            Ok(None) => break,
+            Err(_) => continue,
+        };
+        let mut client = Buffered::new(alloc, stream);
+        let served = serve_one(alloc, gate, seat, service, &mut client, dial);
+        // a request that entered was read whole
+        accept.close(client.into_inner(), served.entered.is_some());
     }
 }

@@ -14,6 +14,9 @@ impl Model for Seen {
     ghost also_owns = { λ _. ftrue };
 }
 
+// Its bytes exist only in proofs, so another thread may have it.
+unsafe impl Send for Seen {}
+
 impl Seen {
     /// No bytes.
     pub(crate) fn new() -> Seen

@@ -6,3 +6,4 @@ pub mod WordNumbers
 pub mod PlainLines
 pub mod LongLines
 pub mod LineReadings
+mod HttpLineCases

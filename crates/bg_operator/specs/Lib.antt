@@ -5,5 +5,6 @@ pub mod Parting
 pub mod Words
 pub mod Shapes
 pub mod Commands
+pub mod HttpLines
 pub mod FaultNames
 pub mod OperatorLines

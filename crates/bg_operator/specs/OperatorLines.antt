@@ -1,17 +1,24 @@
 -- How the lines of a script or of a control connection are read, one after the other.
 use Rattle.std.specs.Prelude.{◌≡◌, ℕ, Bool, true, false, List, [], ◌∷◌, Option, Some, None, Result, Ok}
 use Rattle.bg_operator.specs.Commands.{IsReadAs, line_reading}
+use Rattle.bg_operator.specs.HttpLines.{speaks_http}
 use Rattle.bg_operator.specs.Lines.{lines_of}
+use Rattle.bg_operator.specs.declared.operator_lines.OperatorLines.{OperatorLines}
 use Rattle.bg_operator.specs.declared.command.Command.{Command}
 use Rattle.bg_operator.specs.declared.command.Command.TheVariants.{Quit}
 use Rattle.bg_operator.specs.declared.line_fault.LineFault.{LineFault}
 
 -- what comes next in the lines of the bytes xs, where ys are unread then: what a line orders, or why
--- it orders nothing; none at the end
-abbrev pub NextIs : Option (Result Command LineFault) → List ℕ → List ℕ → Type 0
-NextIs (Some read) xs ys =
+-- it orders nothing, and whether it orders nothing and is a line of HTTP; none at the end
+abbrev pub NextIs : Option (Result Command LineFault) → Bool → List ℕ → List ℕ → Type 0
+NextIs (Some read) http xs ys =
     (line : List ℕ) × (lines_of xs ≡ line ∷ lines_of ys) × IsReadAs (line_reading line) read
-NextIs None xs ys = lines_of xs ≡ []
+    × (http ≡ speaks_http read line)
+NextIs None http xs ys = (lines_of xs ≡ []) × (http ≡ false)
+
+-- whether the line that was read last orders nothing and is a line of HTTP
+abbrev pub last_speaks_http : OperatorLines → Bool
+last_speaks_http lines = lines.speaks_http
 
 -- the line is `quit`
 abbrev pub orders_quit : Result Command LineFault → Bool

@@ -6,6 +6,7 @@
 #![tactic(auto)]
 
 mod command;
+mod http_lines;
 mod line_fault;
 mod lines;
 mod operator_lines;

@@ -1,9 +1,11 @@
 //! The lines of an operator, read one after the other.
-ghost use Rattle.std.specs.Prelude.{◌≡◌, List, ℕ, IfOk};
+ghost use Rattle.std.specs.Prelude.{◌≡◌, ◌≤◌, List, ℕ, IfOk, length};
 ghost use Rattle.bg_operator.specs.Reading.{Gives, Known};
-ghost use Rattle.bg_operator.specs.OperatorLines.{NextIs, orders_quit};
+ghost use Rattle.bg_operator.specs.HttpLines.{speaks_http};
+ghost use Rattle.bg_operator.specs.OperatorLines.{NextIs, last_speaks_http, orders_quit};
 
 use crate::command::Command;
+use crate::http_lines::is_field_or_request;
 use crate::line_fault::LineFault;
 use crate::lines::{Found, next_line};
 use crate::parsing::parse_line;
@@ -16,6 +18,8 @@ use std::io::BufRead;
 pub struct OperatorLines {
     alloc: Global,
     line: Vec<u8>,
+    /// Whether the line that was read last orders nothing and is a line of HTTP.
+    speaks_http: bool,
 }
 
 impl OperatorLines {
@@ -24,6 +28,7 @@ impl OperatorLines {
         OperatorLines {
             alloc,
             line: Vec::new(alloc),
+            speaks_http: false,
         }
     }
 
@@ -36,10 +41,21 @@ impl OperatorLines {
         reader: &mut B,
     ) -> Result<Option<Result<Command, LineFault>>, ReadFault>
         ensures { IfOk result (λ next. Known (B.remaining reader.old) (B.remaining reader.new)
-            (NextIs next)) }
+            (NextIs next (last_speaks_http self.new))) }
     {
         let found = next_line(reader, &mut self.line)?;
-        Ok(line_read(self.alloc, found, &self.line))
+        let (read, speaks_http) = line_read(self.alloc, found, &self.line);
+        self.speaks_http = speaks_http;
+        Ok(read)
+    }
+
+    /// Whether the line that was read last orders nothing and is a line of HTTP: a request line, or a field
+    /// line (RFC 9112 sections 3 and 5). Any bytes are taken for a request target, and a line that is too
+    /// long is no line of HTTP. False before the first line and at the end.
+    pub fn speaks_http(&self) -> bool
+        ensures { result ≡ last_speaks_http self.now }
+    {
+        self.speaks_http
     }
 }
 
@@ -50,13 +66,25 @@ pub fn is_quit(read: &Result<Command, LineFault>) -> bool
     matches!(read, Ok(Command::Quit))
 }
 
-/// What a line that was found so orders, if there is one.
-fn line_read(alloc: Global, found: Found, line: &[u8]) -> Option<Result<Command, LineFault>>
-    ensures { (xs ys : List ℕ) → Gives found line.now xs ys → NextIs result xs ys }
+/// What a line that was found so orders, if there is one, and whether it orders nothing and is a line of
+/// HTTP.
+fn line_read(alloc: Global, found: Found, line: &[u8]) -> (Option<Result<Command, LineFault>>, bool)
+    ensures { (xs ys : List ℕ) → Gives found line.now xs ys → NextIs result.0 result.1 xs ys }
 {
     match found {
-        Found::End => None,
-        Found::TooLong => Some(Err(LineFault::TooLong)),
-        Found::Line => Some(parse_line(alloc, line)),
+        Found::End => (None, false),
+        Found::TooLong => (Some(Err(LineFault::TooLong)), false),
+        Found::Line => {
+            let read = parse_line(alloc, line);
+            let http = is_http_fault(&read, line);
+            (Some(read), http)
+        }
     }
+}
+
+/// Whether a line that was read so orders nothing and is a line of HTTP.
+fn is_http_fault(read: &Result<Command, LineFault>, line: &[u8]) -> bool
+    ensures { length line.now ≤ 4096 → result ≡ speaks_http read.now line.now }
+{
+    read.is_err() && is_field_or_request(line)
 }

@@ -1,6 +1,6 @@
 -- Lemmas on the lines of a control connection.
-use Rattle.std.proofs.Common.{◌≡◌, ℕ, true, false, List, [], ◌∷◌, refl, sym, subst, Option, Some, None}
-use Rattle.std.specs.Prelude.{Result, Ok, OnOk}
+use Rattle.std.proofs.Common.{◌≡◌, ℕ, Bool, true, false, List, [], ◌∷◌, refl, sym, ◌∙◌, subst, Option, Some, None}
+use Rattle.std.specs.Prelude.{Result, Ok, Err, OnOk}
 use Rattle.std.proofs.lemmas.Result.{on_ok_weaker}
 use Rattle.bg_book.specs.Headline.{Headline}
 use Rattle.bg_rollout.specs.Routing.{Routing}
@@ -12,6 +12,7 @@ use Rattle.bg_operator.specs.declared.command.Command.{Command}
 use Rattle.bg_operator.specs.declared.command.Command.TheVariants as command
 use Rattle.bg_operator.specs.declared.line_fault.LineFault.{LineFault}
 use Rattle.bg_operator.specs.Commands.{IsReadAs, line_reading}
+use Rattle.bg_operator.specs.HttpLines.{is_http_line, speaks_http}
 use Rattle.bg_operator.specs.Lines.{lines_of}
 use Rattle.bg_operator.specs.OperatorLines.{NextIs, orders_quit}
 use Rattle.bg_script.specs.declared.answer.Answer.{Answer}
@@ -24,7 +25,7 @@ use Rattle.bg_script.specs.declared.control_side.ControlEnd.TheVariants as contr
 use Rattle.bg_script.proofs.Quitting.{is_the_quit, not_quit}
 use Rattle.bg_script.specs.AnswerTexts.{answer_text}
 use Rattle.bg_script.specs.Scripts.{IsDropped, Written, Said, Reported, text_of, written_text}
-use Rattle.bg_script.specs.Connections.{AnsweredBy, AnswersAtDesk, AnswersBeforeOpen, ClosedAnswer, StepBeforeOpen, DeskStep, EventAnswer, MayBeAsked, Orders, WroteAnswers, WroteAtDesk, WroteReport}
+use Rattle.bg_script.specs.Connections.{AnsweredBy, AnswersAtDesk, AnswersBeforeOpen, ClosedAnswer, EndsByHttp, StepBeforeOpen, DeskStep, EventAnswer, MayBeAsked, Orders, WroteAnswers, WroteAtDesk, WroteReport}
 
 abbrev pub Step : Type 1
 Step = Result Command LineFault → Written → Type 0
@@ -40,64 +41,132 @@ Goes step first now xs ys =
 pub goes_nowhere : (step : Step) (first : Option (List ℕ)) (xs : List ℕ) → Goes step first first xs xs
 goes_nowhere step first xs = λ last rest later answers appended. record { all = later; answers = answers; appended = appended }
 
--- one more line is answered
-goes_on : (step : Step) (first now new : Option (List ℕ)) (read : Result Command LineFault) (written : Written) (xs ys zs : List ℕ)
-    → Goes step first now xs ys → NextIs (Some read) ys zs → orders_quit read ≡ false → (MayBeAsked read → step read written) → Appends now new (written_text written)
-    → Goes step first new xs zs
-goes_on step first now new read written xs ys zs p line other s wrote = λ last rest later answers appended.
+-- one more line is answered, which is no fault that is a line of HTTP
+goes_on : (step : Step) (first now new : Option (List ℕ)) (read : Result Command LineFault) (written : Written) (http : Bool) (xs ys zs : List ℕ)
+    → Goes step first now xs ys → NextIs (Some read) http ys zs → http ≡ false → orders_quit read ≡ false → (MayBeAsked read → step read written)
+    → Appends now new (written_text written) → Goes step first new xs zs
+goes_on step first now new read written http xs ys zs p line plain other s wrote = λ last rest later answers appended.
     let more : AnsweredBy step (lines_of ys) rest (written ∷ later) =
-    subst (λ ls. AnsweredBy step ls rest (written ∷ later)) (sym line.1) ((read, line.2, s (not_quit read other)), answers) in
+    subst (λ ls. AnsweredBy step ls rest (written ∷ later)) (sym line.1) ((read, line.2, sym line.3 ∙ plain, s (not_quit read other)), answers) in
     p last rest (written ∷ later) more (Appends-trans now new last _ _ wrote appended)
 
-pub goes_on_closed : (first now new : Option (List ℕ)) (read : Result Command LineFault) (said : Answer) (xs ys zs : List ℕ)
-    → Goes StepBeforeOpen first now xs ys → NextIs (Some read) ys zs → orders_quit read ≡ false → (MayBeAsked read → ClosedAnswer read said) → Appends now new (answer_text said)
-    → Goes StepBeforeOpen first new xs zs
-goes_on_closed first now new read said xs ys zs p line other s wrote = goes_on StepBeforeOpen first now new read (Said said) xs ys zs p line other s wrote
+pub goes_on_closed : (first now new : Option (List ℕ)) (read : Result Command LineFault) (said : Answer) (http : Bool) (xs ys zs : List ℕ)
+    → Goes StepBeforeOpen first now xs ys → NextIs (Some read) http ys zs → http ≡ false → orders_quit read ≡ false → (MayBeAsked read → ClosedAnswer read said)
+    → Appends now new (answer_text said) → Goes StepBeforeOpen first new xs zs
+goes_on_closed first now new read said http xs ys zs p line plain other s wrote =
+    goes_on StepBeforeOpen first now new read (Said said) http xs ys zs p line plain other s wrote
 
-pub goes_on_at_desk : (first now new : Option (List ℕ)) (read : Result Command LineFault) (xs ys zs : List ℕ)
-    → Goes DeskStep first now xs ys → NextIs (Some read) ys zs → orders_quit read ≡ false → WroteAtDesk read now new → Goes DeskStep first new xs zs
-goes_on_at_desk first now new read xs ys zs p line other w = goes_on DeskStep first now new read w.written xs ys zs p line other w.step w.appended
+pub goes_on_at_desk : (first now new : Option (List ℕ)) (read : Result Command LineFault) (http : Bool) (xs ys zs : List ℕ)
+    → Goes DeskStep first now xs ys → NextIs (Some read) http ys zs → http ≡ false → orders_quit read ≡ false → WroteAtDesk read now new → Goes DeskStep first new xs zs
+goes_on_at_desk first now new read http xs ys zs p line plain other w =
+    goes_on DeskStep first now new read w.written http xs ys zs p line plain other w.step w.appended
 
 -- no further line is answered
 stops : (step : Step) (first now : Option (List ℕ)) (xs ys : List ℕ) → Goes step first now xs ys → WroteAnswers step first now (lines_of xs) (lines_of ys)
 stops step first now xs ys p = p now (lines_of ys) [] refl (Appends-nil now)
 
 -- the next line orders this
-ordered : (order : Command) (read : Result Command LineFault) (ys zs : List ℕ) → NextIs (Some read) ys zs → read ≡ Ok order
+ordered : (order : Command) (read : Result Command LineFault) (http : Bool) (ys zs : List ℕ) → NextIs (Some read) http ys zs → read ≡ Ok order
     → Orders order (lines_of ys) (lines_of zs)
-ordered order read ys zs line is = (line.0, line.1, subst (λ r. IsReadAs (line_reading line.0) r) is line.2)
+ordered order read http ys zs line is = (line.0, line.1, subst (λ r. IsReadAs (line_reading line.0) r) is line.2)
 
-pub opens : (first now : Option (List ℕ)) (read : Result Command LineFault) (revision : FirstRevision) (xs ys zs : List ℕ) → Goes StepBeforeOpen first now xs ys
-    → NextIs (Some read) ys zs → read ≡ Ok (command.Open revision.name revision.ports) → AnswersBeforeOpen (before_open.Open revision) first now xs zs
-opens first now read revision xs ys zs p line is = record {
+pub opens : (first now : Option (List ℕ)) (read : Result Command LineFault) (revision : FirstRevision) (http : Bool) (xs ys zs : List ℕ) → Goes StepBeforeOpen first now xs ys
+    → NextIs (Some read) http ys zs → read ≡ Ok (command.Open revision.name revision.ports) → AnswersBeforeOpen (before_open.Open revision) first now xs zs
+opens first now read revision http xs ys zs p line is = record {
   rest = lines_of ys;
+  answered = now;
   wrote = stops StepBeforeOpen first now xs ys p;
-  ends = ordered (command.Open revision.name revision.ports) read ys zs line is;
+  ends = (ordered (command.Open revision.name revision.ports) read http ys zs line is, refl);
 }
 
-pub quits_before_open : (first now : Option (List ℕ)) (read : Result Command LineFault) (xs ys zs : List ℕ) → Goes StepBeforeOpen first now xs ys
-    → NextIs (Some read) ys zs → orders_quit read ≡ true → AnswersBeforeOpen before_open.Quit first now xs zs
-quits_before_open first now read xs ys zs p line quit = record {
+pub quits_before_open : (first now : Option (List ℕ)) (read : Result Command LineFault) (http : Bool) (xs ys zs : List ℕ) → Goes StepBeforeOpen first now xs ys
+    → NextIs (Some read) http ys zs → orders_quit read ≡ true → AnswersBeforeOpen before_open.Quit first now xs zs
+quits_before_open first now read http xs ys zs p line quit = record {
   rest = lines_of ys;
+  answered = now;
   wrote = stops StepBeforeOpen first now xs ys p;
-  ends = ordered command.Quit read ys zs line (is_the_quit read quit);
+  ends = (ordered command.Quit read http ys zs line (is_the_quit read quit), refl);
 }
 
-pub ends_before_open : (first now : Option (List ℕ)) (xs ys zs : List ℕ) → Goes StepBeforeOpen first now xs ys → NextIs None ys zs
+pub ends_before_open : (first now : Option (List ℕ)) (http : Bool) (xs ys zs : List ℕ) → Goes StepBeforeOpen first now xs ys → NextIs None http ys zs
     → AnswersBeforeOpen before_open.End first now xs zs
-ends_before_open first now xs ys zs p line = record { rest = lines_of ys; wrote = stops StepBeforeOpen first now xs ys p; ends = line }
-
-pub quits_at_desk : (first now : Option (List ℕ)) (read : Result Command LineFault) (xs ys zs : List ℕ) → Goes DeskStep first now xs ys
-    → NextIs (Some read) ys zs → orders_quit read ≡ true → AnswersAtDesk control_end.Quit first now xs zs
-quits_at_desk first now read xs ys zs p line quit = record {
+ends_before_open first now http xs ys zs p line = record {
   rest = lines_of ys;
-  wrote = stops DeskStep first now xs ys p;
-  ends = ordered command.Quit read ys zs line (is_the_quit read quit);
+  answered = now;
+  wrote = stops StepBeforeOpen first now xs ys p;
+  ends = (line.0, refl);
 }
 
-pub ends_at_desk : (first now : Option (List ℕ)) (xs ys zs : List ℕ) → Goes DeskStep first now xs ys → NextIs None ys zs
+pub quits_at_desk : (first now : Option (List ℕ)) (read : Result Command LineFault) (http : Bool) (xs ys zs : List ℕ) → Goes DeskStep first now xs ys
+    → NextIs (Some read) http ys zs → orders_quit read ≡ true → AnswersAtDesk control_end.Quit first now xs zs
+quits_at_desk first now read http xs ys zs p line quit = record {
+  rest = lines_of ys;
+  answered = now;
+  wrote = stops DeskStep first now xs ys p;
+  ends = (ordered command.Quit read http ys zs line (is_the_quit read quit), refl);
+}
+
+pub ends_at_desk : (first now : Option (List ℕ)) (http : Bool) (xs ys zs : List ℕ) → Goes DeskStep first now xs ys → NextIs None http ys zs
     → AnswersAtDesk control_end.End first now xs zs
-ends_at_desk first now xs ys zs p line = record { rest = lines_of ys; wrote = stops DeskStep first now xs ys p; ends = line }
+ends_at_desk first now http xs ys zs p line = record {
+  rest = lines_of ys;
+  answered = now;
+  wrote = stops DeskStep first now xs ys p;
+  ends = (line.0, refl);
+}
+
+-- what speaks HTTP is a fault
+fault_of_http : (read : Result Command LineFault) (line : List ℕ) → speaks_http read line ≡ true → (fault : LineFault) × (read ≡ Err fault) × (is_http_line line ≡ true)
+fault_of_http (Err fault) line http = (fault, refl, http)
+fault_of_http (Ok command) line http = cc
+
+-- the next line was answered, and speaks HTTP
+ended_by_http : (now new : Option (List ℕ)) (read : Result Command LineFault) (http : Bool) (ys zs : List ℕ) → NextIs (Some read) http ys zs → http ≡ true
+    → ((fault : LineFault) → read ≡ Err fault → Appends now new (answer_text (answer.Unread fault))) → EndsByHttp now new (lines_of ys) (lines_of zs)
+ended_by_http now new read http ys zs line is told =
+    let found = fault_of_http read line.0 (sym line.3 ∙ is) in
+    record {
+      line = line.0;
+      fault = found.0;
+      next = line.1;
+      is_read = subst (λ r. IsReadAs (line_reading line.0) r) found.1 line.2;
+      is_http = found.2;
+      answered = told found.0 found.1;
+    }
+
+-- what a fault was answered while no book is open
+fault_told : (now new : Option (List ℕ)) (read : Result Command LineFault) (said : Answer) (fault : LineFault) → orders_quit read ≡ false
+    → (MayBeAsked read → ClosedAnswer read said) → Appends now new (answer_text said) → read ≡ Err fault → Appends now new (answer_text (answer.Unread fault))
+fault_told now new read said fault other s wrote is =
+    let same : said ≡ answer.Unread fault = subst (λ r. ClosedAnswer r said) is (s (not_quit read other)) in
+    subst (λ a. Appends now new (answer_text a)) same wrote
+
+-- the same at a desk
+fault_told_at_desk : (now new : Option (List ℕ)) (read : Result Command LineFault) (fault : LineFault) → orders_quit read ≡ false
+    → WroteAtDesk read now new → read ≡ Err fault → Appends now new (answer_text (answer.Unread fault))
+fault_told_at_desk now new read fault other w is =
+    let same : w.written ≡ Said (answer.Unread fault) = subst (λ r. DeskStep r w.written) is (w.step (not_quit read other)) in
+    subst (λ a. Appends now new (written_text a)) same w.appended
+
+pub speaks_before_open : (first now new : Option (List ℕ)) (read : Result Command LineFault) (said : Answer) (http : Bool) (xs ys zs : List ℕ)
+    → Goes StepBeforeOpen first now xs ys → NextIs (Some read) http ys zs → http ≡ true → orders_quit read ≡ false → (MayBeAsked read → ClosedAnswer read said)
+    → Appends now new (answer_text said) → AnswersBeforeOpen before_open.SpeaksHttp first new xs zs
+speaks_before_open first now new read said http xs ys zs p line is other s wrote = record {
+  rest = lines_of ys;
+  answered = now;
+  wrote = stops StepBeforeOpen first now xs ys p;
+  ends = ended_by_http now new read http ys zs line is (λ fault e. fault_told now new read said fault other s wrote e);
+}
+
+pub speaks_at_desk : (first now new : Option (List ℕ)) (read : Result Command LineFault) (http : Bool) (xs ys zs : List ℕ)
+    → Goes DeskStep first now xs ys → NextIs (Some read) http ys zs → http ≡ true → orders_quit read ≡ false → WroteAtDesk read now new
+    → AnswersAtDesk control_end.SpeaksHttp first new xs zs
+speaks_at_desk first now new read http xs ys zs p line is other w = record {
+  rest = lines_of ys;
+  answered = now;
+  wrote = stops DeskStep first now xs ys p;
+  ends = ended_by_http now new read http ys zs line is (λ fault e. fault_told_at_desk now new read fault other w e);
+}
 
 -- a line was answered
 pub said_at_desk : (read : Result Command LineFault) (said : Answer) (first last : Option (List ℕ)) (r : Result Unit RunEnd) → (MayBeAsked read → DeskStep read (Said said))

@@ -31,10 +31,10 @@ or_false true = refl
 or_false false = refl
 
 -- one more line is answered
-pub goes_on : (start stage next : Stage) (first now new : Option (List ℕ)) (faulted fault : Bool) (read : Result Command LineFault) (xs ys zs : List ℕ)
-    → Goes start first now stage faulted xs ys → NextIs (Some read) ys zs → orders_quit read ≡ false → Served stage read now new next fault
+pub goes_on : (start stage next : Stage) (first now new : Option (List ℕ)) (faulted fault : Bool) (read : Result Command LineFault) (http : Bool) (xs ys zs : List ℕ)
+    → Goes start first now stage faulted xs ys → NextIs (Some read) http ys zs → orders_quit read ≡ false → Served stage read now new next fault
     → Goes start first new next (faulted || fault) xs zs
-goes_on start stage next first now new faulted fault read xs ys zs p line other s = λ last later answers appended.
+goes_on start stage next first now new faulted fault read http xs ys zs p line other s = λ last later answers appended.
     let more : Answered stage (lines_of ys) (s.written ∷ later) =
     subst (λ ls. Answered stage ls (s.written ∷ later)) (sym line.1) (next, (read, line.2, s.step (not_quit read other)), answers) in
     let all = p last (s.written ∷ later) more (Appends-trans now new last _ _ s.wrote.appended appended) in
@@ -49,16 +49,16 @@ goes_through start stage first now last faulted later xs ys p r =
     subst (λ (t : Bool). Ran start first last (faulted || t) xs) (sym r.fault_is) (p last r.all r.answers r.appended)
 
 -- a book is opened, which is no fault, and all later lines are answered
-pub goes_opened : (start stage next : Stage) (first now last : Option (List ℕ)) (faulted later : Bool) (read : Result Command LineFault) (xs ys zs : List ℕ)
-    → Goes start first now stage faulted xs ys → NextIs (Some read) ys zs → orders_quit read ≡ false → StepRead stage read (Said Opened) next → RanOpened next now last later zs
+pub goes_opened : (start stage next : Stage) (first now last : Option (List ℕ)) (faulted later : Bool) (read : Result Command LineFault) (http : Bool) (xs ys zs : List ℕ)
+    → Goes start first now stage faulted xs ys → NextIs (Some read) http ys zs → orders_quit read ≡ false → StepRead stage read (Said Opened) next → RanOpened next now last later zs
     → Ran start first last (faulted || later) xs
-goes_opened start stage next first now last faulted later read xs ys zs p line other step r =
+goes_opened start stage next first now last faulted later read http xs ys zs p line other step r =
     let served : Served stage read now r.begun next false =
     record { written = Said Opened; step = step; wrote = record { appended = r.said; fault_is = refl } } in
     let same : ((faulted || false) || later) ≡ (faulted || later) = ap (λ t. t || later) (or_false faulted) in
     subst (λ (t : Bool). Ran start first last t xs) same
     (goes_through start next first r.begun last (faulted || false) later xs zs
-    (goes_on start stage next first now r.begun faulted false read xs ys zs p line other served) r.ran)
+    (goes_on start stage next first now r.begun faulted false read http xs ys zs p line other served) r.ran)
 
 -- the script ends here
 goes_to_end : (start stage : Stage) (first now : Option (List ℕ)) (faulted : Bool) (xs ys : List ℕ)
@@ -67,10 +67,10 @@ goes_to_end start stage first now faulted xs ys p none =
     subst (λ (t : Bool). Ran start first now t xs) (or_false faulted) (p now [] none (Appends-nil now))
 
 -- there is no further line
-pub ends : (start stage : Stage) (first now : Option (List ℕ)) (faulted : Bool) (xs ys zs : List ℕ)
-    → Goes start first now stage faulted xs ys → NextIs None ys zs → Ran start first now faulted xs
-ends start stage first now faulted xs ys zs p line =
-    goes_to_end start stage first now faulted xs ys p (subst (λ (l : List (List ℕ)). Answered stage l []) (sym line) tt)
+pub ends : (start stage : Stage) (first now : Option (List ℕ)) (faulted http : Bool) (xs ys zs : List ℕ)
+    → Goes start first now stage faulted xs ys → NextIs None http ys zs → Ran start first now faulted xs
+ends start stage first now faulted http xs ys zs p line =
+    goes_to_end start stage first now faulted xs ys p (subst (λ (l : List (List ℕ)). Answered stage l []) (sym line.0) tt)
 
 -- the reading of a line that was read as `quit`
 quit_reading : (line : List ℕ) (read : Result Command LineFault) → IsReadAs (line_reading line) read → read ≡ Ok Quit → line_reading line ≡ Ok Quit
@@ -78,9 +78,9 @@ quit_reading line read (inl same) is = sym same ∙ is
 quit_reading line read (inr refused) is = cc
 
 -- the next line is `quit`
-pub quits : (start stage : Stage) (first now : Option (List ℕ)) (faulted : Bool) (read : Result Command LineFault) (xs ys zs : List ℕ)
-    → Goes start first now stage faulted xs ys → NextIs (Some read) ys zs → orders_quit read ≡ true → Ran start first now faulted xs
-quits start stage first now faulted read xs ys zs p line quit =
+pub quits : (start stage : Stage) (first now : Option (List ℕ)) (faulted : Bool) (read : Result Command LineFault) (http : Bool) (xs ys zs : List ℕ)
+    → Goes start first now stage faulted xs ys → NextIs (Some read) http ys zs → orders_quit read ≡ true → Ran start first now faulted xs
+quits start stage first now faulted read http xs ys zs p line quit =
     goes_to_end start stage first now faulted xs ys p (subst (λ (l : List (List ℕ)). Answered stage l []) (sym line.1)
     (quit_reading line.0 read line.2 (is_the_quit read quit)))
 

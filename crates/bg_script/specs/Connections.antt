@@ -1,5 +1,5 @@
 -- What the lines of a control connection are answered.
-use Rattle.std.specs.Prelude.{◌≡◌, ◌≢◌, ◌≤◌, ℕ, List, [], ◌∷◌, Option, None, Result, Ok, Err}
+use Rattle.std.specs.Prelude.{◌≡◌, ◌≢◌, ◌≤◌, ℕ, true, false, List, [], ◌∷◌, Option, None, Result, Ok, Err}
 use Rattle.std.specs.Io.KnownBytes.{Appends}
 use Rattle.bg_rollout.specs.declared.control.Control.{Control}
 use Rattle.bg_book.specs.declared.calls.Reply.{Reply}
@@ -7,12 +7,13 @@ use Rattle.bg_book.specs.declared.calls.Reply.TheVariants.{Done, ControlRefused}
 use Rattle.bg_rollout.specs.declared.control_fault.ControlFault.TheVariants as control_fault
 use Rattle.bg_book.specs.Desks.{StepsTo}
 use Rattle.bg_book.specs.Headline.{Headline}
-use Rattle.bg_rollout.specs.Refusals.{control_refusal, IsRefusedBy}
+use Rattle.bg_rollout.specs.Refusals.{control_refusal, event_of, IsRefusedBy}
 use Rattle.bg_rollout.specs.Routing.{Routing}
 use Rattle.bg_operator.specs.declared.command.Command.{Command}
 use Rattle.bg_operator.specs.declared.command.Command.TheVariants as command
 use Rattle.bg_operator.specs.declared.line_fault.LineFault.{LineFault}
 use Rattle.bg_operator.specs.Commands.{IsReadAs, line_reading}
+use Rattle.bg_operator.specs.HttpLines.{is_http_line, speaks_http}
 use Rattle.bg_operator.specs.Lines.{lines_of}
 use Rattle.bg_script.specs.declared.answer.Answer.{Answer}
 use Rattle.bg_script.specs.declared.answer.Answer.TheVariants as answer
@@ -22,6 +23,7 @@ use Rattle.bg_script.specs.declared.control_side.BeforeOpen.{BeforeOpen}
 use Rattle.bg_script.specs.declared.control_side.BeforeOpen.TheVariants as before_open
 use Rattle.bg_script.specs.declared.control_side.ControlEnd.{ControlEnd}
 use Rattle.bg_script.specs.declared.control_side.ControlEnd.TheVariants as control_end
+use Rattle.bg_script.specs.AnswerTexts.{answer_text}
 use Rattle.bg_script.specs.Scripts.{IsDropped, Written, Said, Reported, text_of, written_text}
 
 -- a line that was read so is one to be answered
@@ -48,7 +50,7 @@ StepBeforeOpen read (Reported book) = ⊥
 abbrev pub EventReply : Routing → Control → Reply → Type 0
 EventReply book event (Done outcomes) =
     (control_refusal book event ≡ None) × (outcomes ≤ 140)
-    × ((new : Routing) × StepsTo book event new outcomes)
+    × ((new : Routing) × StepsTo book (event_of book event) book.seats new outcomes)
 EventReply book event (ControlRefused fault) =
     IsRefusedBy (control_refusal book event) control_fault.OutOfMemory fault
 EventReply book event _ = ⊥
@@ -104,13 +106,15 @@ pub record WroteAtDesk (read : Result Command LineFault) (first last : Option (L
   pub step : MayBeAsked read → DeskStep read written
   pub appended : Appends first last (written_text written)
 
--- The lines may be answered so by this step, one after the other, and the rest is not answered.
+-- The lines may be answered so by this step, one after the other, and the rest is not answered. None of
+-- those that are answered is a fault and a line of HTTP.
 abbrev pub AnsweredBy : (Result Command LineFault → Written → Type 0) → List (List ℕ)
     → List (List ℕ) → List Written → Type 0
 AnsweredBy step lines rest [] = lines ≡ rest
 AnsweredBy step [] rest (written ∷ later) = ⊥
 AnsweredBy step (line ∷ lines) rest (written ∷ later) = ((read : Result Command LineFault)
-    × IsReadAs (line_reading line) read × step read written) × AnsweredBy step lines rest later
+    × IsReadAs (line_reading line) read × (speaks_http read line ≡ false)
+    × step read written) × AnsweredBy step lines rest later
 
 -- from first to last such answers were written to the lines of xs before those of ys
 pub record WroteAnswers (step : Result Command LineFault → Written → Type 0)
@@ -124,28 +128,46 @@ abbrev pub Orders : Command → List (List ℕ) → List (List ℕ) → Type 0
 Orders command lines later = (line : List ℕ) × (lines ≡ line ∷ later)
     × IsReadAs (line_reading line) (Ok command)
 
--- why lines are not answered any more while no book is open, where these are unread then
-abbrev pub EndsBeforeOpen : BeforeOpen → List (List ℕ) → List (List ℕ) → Type 0
-EndsBeforeOpen (before_open.Open first) rest later =
-    Orders (command.Open first.name first.ports) rest later
-EndsBeforeOpen before_open.Quit rest later = Orders command.Quit rest later
-EndsBeforeOpen before_open.End rest later = rest ≡ []
+-- the first line is a fault and a line of HTTP; from first to last its fault was answered, and the
+-- later lines are unread
+pub record EndsByHttp (first last : Option (List ℕ)) (lines later : List (List ℕ)) : Type 0 where
+  pub line : List ℕ
+  pub fault : LineFault
+  pub next : lines ≡ line ∷ later
+  pub is_read : IsReadAs (line_reading line) (Err fault)
+  pub is_http : is_http_line line ≡ true
+  pub answered : Appends first last (answer_text (answer.Unread fault))
 
--- why lines are not answered any more at a desk, where these are unread then
-abbrev pub EndsAtDesk : ControlEnd → List (List ℕ) → List (List ℕ) → Type 0
-EndsAtDesk control_end.Quit rest later = Orders command.Quit rest later
-EndsAtDesk control_end.End rest later = rest ≡ []
+-- why lines are not answered any more while no book is open, where these are unread then; from first
+-- to last nothing was written but the fault of a line of HTTP
+abbrev pub EndsBeforeOpen : BeforeOpen → Option (List ℕ) → Option (List ℕ) → List (List ℕ)
+    → List (List ℕ) → Type 0
+EndsBeforeOpen (before_open.Open revision) first last rest later =
+    Orders (command.Open revision.name revision.ports) rest later × (last ≡ first)
+EndsBeforeOpen before_open.Quit first last rest later =
+    Orders command.Quit rest later × (last ≡ first)
+EndsBeforeOpen before_open.SpeaksHttp first last rest later = EndsByHttp first last rest later
+EndsBeforeOpen before_open.End first last rest later = (rest ≡ []) × (last ≡ first)
 
--- from first to last the lines of xs were answered while no book is open; ys are unread
+-- the same at a desk
+abbrev pub EndsAtDesk : ControlEnd → Option (List ℕ) → Option (List ℕ) → List (List ℕ)
+    → List (List ℕ) → Type 0
+EndsAtDesk control_end.Quit first last rest later = Orders command.Quit rest later × (last ≡ first)
+EndsAtDesk control_end.SpeaksHttp first last rest later = EndsByHttp first last rest later
+EndsAtDesk control_end.End first last rest later = (rest ≡ []) × (last ≡ first)
+
+-- from first to last the lines of xs were answered while no book is open, up to its end; ys are unread
 pub record AnswersBeforeOpen (end : BeforeOpen) (first last : Option (List ℕ)) (xs ys : List ℕ)
     : Type 0 where
   pub rest : List (List ℕ)
-  pub wrote : WroteAnswers StepBeforeOpen first last (lines_of xs) rest
-  pub ends : EndsBeforeOpen end rest (lines_of ys)
+  pub answered : Option (List ℕ)
+  pub wrote : WroteAnswers StepBeforeOpen first answered (lines_of xs) rest
+  pub ends : EndsBeforeOpen end answered last rest (lines_of ys)
 
--- from first to last the lines of xs were answered at a desk; ys are unread
+-- from first to last the lines of xs were answered at a desk, up to its end; ys are unread
 pub record AnswersAtDesk (end : ControlEnd) (first last : Option (List ℕ)) (xs ys : List ℕ)
     : Type 0 where
   pub rest : List (List ℕ)
-  pub wrote : WroteAnswers DeskStep first last (lines_of xs) rest
-  pub ends : EndsAtDesk end rest (lines_of ys)
+  pub answered : Option (List ℕ)
+  pub wrote : WroteAnswers DeskStep first answered (lines_of xs) rest
+  pub ends : EndsAtDesk end answered last rest (lines_of ys)

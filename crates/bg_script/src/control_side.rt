@@ -33,6 +33,8 @@ pub enum BeforeOpen {
     Open(FirstRevision),
     /// The line is `quit`.
     Quit,
+    /// The line is a fault and a line of HTTP. It was answered its fault.
+    SpeaksHttp,
     /// The connection has no further line.
     End,
 }
@@ -42,13 +44,18 @@ pub enum BeforeOpen {
 pub enum ControlEnd {
     /// The line is `quit`.
     Quit,
+    /// The line is a fault and a line of HTTP. It was answered its fault.
+    SpeaksHttp,
     /// The connection has no further line.
     End,
 }
 
 /// Answers each line while no book is open, up to an `open`, which is left to the caller, to `quit`,
-/// which is not answered, or to the end of the connection.
+/// which is not answered, to a line that speaks HTTP, or to the end of the connection.
 ///
+/// A line that orders nothing and is a request line or a field line of HTTP
+/// ([`OperatorLines::speaks_http`]) is answered its fault, and no line behind it is read. A browser sends
+/// such lines before those of a request's body, which no operator has written.
 /// `enter` and `leave` are answered `refused NotHere`, other calls `refused NotOpen`, and a line that
 /// orders nothing its fault. A `RunEnd` comes where a read or a write fails, where memory for a line
 /// is refused, and after 2^24 lines.
@@ -71,6 +78,9 @@ pub fn answer_before_open<B: BufRead, W: Write>(
             Ok(first) => return Ok(BeforeOpen::Open(first)),
             Err(answer) => tell(&answer, writer)?,
         }
+        if lines.speaks_http() {
+            return Ok(BeforeOpen::SpeaksHttp);
+        }
     }
     Err(RunEnd::ReadFailed)
 }
@@ -90,9 +100,11 @@ fn opening(read: Result<Command, LineFault>) -> Result<FirstRevision, Answer>
     }
 }
 
-/// Answers each line by the book of a desk, up to `quit`, which is not answered, or to the end of
-/// the connection.
+/// Answers each line by the book of a desk, up to `quit`, which is not answered, to a line that speaks
+/// HTTP, or to the end of the connection.
 ///
+/// A line that orders nothing and is a request line or a field line of HTTP is answered its fault, and no
+/// line behind it is read.
 /// An event is answered as [`Desk::control`] answers it (where that is `HistoryFull`, after the history was
 /// compacted), `report` the report, and `compact` the number of entries that were dropped; `open` is answered
 /// `refused AlreadyOpen`, `enter` and `leave` `refused NotHere`, and a line that orders nothing its
@@ -117,6 +129,9 @@ pub fn answer_at_desk<N: Names, R: Wait, B: BufRead, W: Write>(
             return Ok(ControlEnd::Quit);
         }
         answer_line(rt, alloc, desk, read, writer)?;
+        if lines.speaks_http() {
+            return Ok(ControlEnd::SpeaksHttp);
+        }
     }
     Err(RunEnd::ReadFailed)
 }

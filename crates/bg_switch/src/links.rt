@@ -2,7 +2,7 @@
 
 use crate::listeners::Listeners;
 use crate::patience::Timed;
-use bg_forward::{Accept, Dial};
+use bg_forward::{Accept, ClientStream, Dial};
 use bg_http::Duplex;
 use bg_revisions::Service;
 use std::io;
@@ -50,6 +50,13 @@ impl<C: Clock> Duplex for Client<'_, C> {
 
     fn send(&mut self, bytes: &[u8]) -> io::Result<()> {
         self.request.stream.write_all(bytes)
+    }
+}
+
+/// Whether a client has gone isn't looked for: a worker waits for its endpoint to the end.
+impl<C: Clock> ClientStream for Client<'_, C> {
+    fn has_gone(&mut self) -> bool {
+        false
     }
 }
 
@@ -110,13 +117,15 @@ impl<'a, R: Clock + Wait> Clients<'a, R> {
 impl<'a, R: Clock + Wait> Accept for Clients<'a, R> {
     type Stream = Client<'a, R>;
 
-    fn accept(&self, service: Service) -> io::Result<Client<'a, R>> {
+    fn accept(&self, service: Service) -> io::Result<Option<Client<'a, R>>> {
         let Some(port) = self.listeners.of(service) else {
             return Err(io::Error::from(ErrorKind::NotFound));
         };
-        let stream = port.accept(self.rt)?;
+        let Some(stream) = port.accept(self.rt)? else {
+            return Ok(None);
+        };
         let request = Timed::begin(stream, self.rt, self.patience)?;
-        Ok(Client { request })
+        Ok(Some(Client { request }))
     }
 
     /// A socket that is closed with bytes unread resets the connection, and the client may lose its

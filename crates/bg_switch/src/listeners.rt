@@ -1,11 +1,13 @@
 //! The ports at which `serve` listens.
 
 use crate::links::home;
-use bg_command_line::Site;
+use bg_command_line::{Connections, Site};
 use bg_revisions::Service;
+use libc::net::{SHUT_RDWR, shutdown};
 use std::io::ErrorKind;
 use std::net::{Net, TcpListener, TcpStream};
-use std::sync::atomic::{AtomicU64, Ordering};
+use std::os::fd::AsRawFd;
+use std::sync::atomic::{AtomicBool, AtomicU64, Ordering};
 use std::sync::{RwLock, Wait};
 use std::time::{Clock, Duration};
 use std::{fmt, io, thread};
@@ -22,6 +24,8 @@ pub struct ClientPort {
     listener: RwLock<Option<TcpListener>>,
     /// How many connections are still to be taken.
     left: AtomicU64,
+    /// Whether a graceful shutdown has begun.
+    is_closing: AtomicBool,
 }
 
 impl ClientPort {
@@ -30,12 +34,22 @@ impl ClientPort {
         ClientPort {
             listener: RwLock::new(Some(listener)),
             left: AtomicU64::new(connections),
+            is_closing: AtomicBool::new(false),
+        }
+    }
+
+    /// Begins a graceful shutdown: no further connection is taken, and an accept that waits ends.
+    pub fn close<R: Wait>(&self, rt: &R) {
+        self.is_closing.store(true, Ordering::SeqCst);
+        if let Some(listener) = self.listener.read(rt).as_ref() {
+            // Linux ends an accept that waits at a socket that is shut down
+            shutdown(listener.as_raw_fd(), SHUT_RDWR);
         }
     }
 
     /// Takes the next connection. One that can't be had counts too; the last one closes the port, so
-    /// that a client is refused at once from then on.
-    pub fn accept<R: Clock + Wait>(&self, rt: &R) -> io::Result<TcpStream> {
+    /// that a client is refused at once from then on. None comes once a graceful shutdown has begun.
+    pub fn accept<R: Clock + Wait>(&self, rt: &R) -> io::Result<Option<TcpStream>> {
         let taken = self.next_stream(rt);
         if self.left.fetch_sub(1, Ordering::SeqCst) == 1 {
             // no other accept is under way, so nobody holds the lock
@@ -46,19 +60,22 @@ impl ClientPort {
 
     /// The next connection. An accept that fails, as where no file descriptor is free, is tried again
     /// after a pause.
-    fn next_stream<R: Clock + Wait>(&self, rt: &R) -> io::Result<TcpStream> {
+    fn next_stream<R: Clock + Wait>(&self, rt: &R) -> io::Result<Option<TcpStream>> {
         let guard = self.listener.read(rt);
         let Some(listener) = guard.as_ref() else {
             return Err(io::Error::from(ErrorKind::NotConnected));
         };
         for _ in 1..ACCEPT_TRIES {
             if let Ok((stream, _from)) = listener.accept() {
-                return Ok(stream);
+                return Ok(Some(stream));
+            }
+            if self.is_closing.load(Ordering::SeqCst) {
+                return Ok(None);
             }
             thread::sleep(rt, Duration::from_millis(ACCEPT_PAUSE_MILLIS));
         }
         let (stream, _from) = listener.accept()?;
-        Ok(stream)
+        Ok(Some(stream))
     }
 }
 
@@ -96,7 +113,7 @@ impl Listeners {
         rt: &R,
         site: &Site,
     ) -> Result<Listeners, BindFault> {
-        let count = u64::from(site.count);
+        let count = most_connections(site.connections);
         let active = bound(rt, "active", site.active)?;
         let preview = match site.preview {
             Some(port) => Some(ClientPort::new(bound(rt, "preview", port)?, count)),
@@ -104,10 +121,18 @@ impl Listeners {
         };
         let control = bound(rt, "control", site.control)?;
         Ok(Listeners {
-            active: ClientPort::new(active, u64::from(site.workers) * count),
+            active: ClientPort::new(active, count.saturating_mul(u64::from(site.workers))),
             preview,
             control,
         })
+    }
+
+    /// Begins a graceful shutdown of the client ports.
+    pub fn close_client_ports<R: Wait>(&self, rt: &R) {
+        self.active.close(rt);
+        if let Some(preview) = &self.preview {
+            preview.close(rt);
+        }
     }
 
     /// The port of a service, if it has one.
@@ -116,6 +141,14 @@ impl Listeners {
             Service::Active => Some(&self.active),
             Service::Preview => self.preview.as_ref(),
         }
+    }
+}
+
+/// How many connections each worker takes at most.
+pub fn most_connections(connections: Connections) -> u64 {
+    match connections {
+        Connections::Count(count) => u64::from(count),
+        Connections::Forever => u64::MAX,
     }
 }
 

@@ -12,11 +12,11 @@ mod working;
 
 use crate::carrying_out::{check_buffered, replay_buffered};
 use crate::serving::serve;
-use bg_command_line::{Order, OrderFault, order, patience_seconds};
+use bg_command_line::{MessageTimeout, Order, OrderFault, TIMEOUT_VARIABLE, order};
 use bg_reasons::{Keeping, tell_reasons, tell_reasons_before_script};
 use bg_script::RunEnd;
 use std::env;
-use std::io::ErrorKind;
+use std::io::{ErrorKind, Write};
 use std::process::ExitCode;
 use std::rt::Env;
 
@@ -37,9 +37,9 @@ fn main(rt: HostRuntime) -> ExitCode {
         Order::Check => checked(&rt),
         Order::Replay { seats } => replayed(&rt, seats),
         Order::Serve(site) => {
-            let patience = patience_seconds(&rt);
             let mut input = Keeping::new(rt.alloc(), rt.stdin());
             let (mut output, mut errors) = (rt.stdout(), rt.stderr());
+            let patience = message_timeout(&rt, &mut errors);
             serve(
                 &rt,
                 rt.alloc(),
@@ -77,6 +77,20 @@ fn replayed(rt: &HostRuntime, seats: u8) -> Result<u8, RunEnd> {
         let _ = tell_reasons_before_script(rt.alloc(), &kept, &mut rt.stderr());
     }
     Ok(status)
+}
+
+/// How many seconds a message may take, by the environment. It is told where the environment gives no
+/// usable number.
+fn message_timeout<R: Env + AllocGlobal, E: Write>(rt: &R, errors: &mut E) -> u64 {
+    let timeout = MessageTimeout::from_environment(rt);
+    let seconds = timeout.seconds();
+    if timeout == MessageTimeout::Unusable {
+        let _ = writeln!(
+            errors,
+            "bg_switch: {TIMEOUT_VARIABLE} is no number from 1 to 3600; messages may take {seconds} seconds"
+        );
+    }
+    seconds
 }
 
 /// Tells why a run ended before its end.

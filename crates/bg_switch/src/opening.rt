@@ -31,8 +31,10 @@ pub struct Scene<'a> {
     /// How many workers there are, that of the preview service included: 1 to 8, or each `open` is
     /// refused.
     pub seats: u32,
-    /// How many connections each worker takes.
-    pub count: u32,
+    /// How many connections each worker takes at most.
+    pub count: u64,
+    /// Whether `quit` is a graceful shutdown of the client ports.
+    pub shuts_down: bool,
     /// How many seconds a request or a response may take until it is whole.
     pub patience: u64,
 }
@@ -72,7 +74,7 @@ where
         let first = match operator.before_open() {
             Ok(BeforeOpen::Open(first)) => first,
             Ok(BeforeOpen::Quit) => return Ok(true),
-            Ok(BeforeOpen::End) | Err(_) => return Ok(false),
+            Ok(BeforeOpen::SpeaksHttp | BeforeOpen::End) | Err(_) => return Ok(false),
         };
         match open_and_serve::<Brand, R, W>(rt, scene, Blanks::new(), &first, operator, output) {
             Ok(told) => {

@@ -1,8 +1,8 @@
 //! `serve`: workers at the ports of clients, beside the operators at the control port.
 
-use crate::listeners::Listeners;
+use crate::listeners::{Listeners, most_connections};
 use crate::opening::{Scene, await_open};
-use bg_command_line::Site;
+use bg_command_line::{Connections, Site};
 use bg_reasons::{Keeping, tell_reasons};
 use bg_script::{Finding, RunEnd, finding_of_input, write_finding};
 use std::alloc::Global;
@@ -58,7 +58,8 @@ where
         strategy,
         listeners: &listeners,
         seats: u32::from(site.workers) + u32::from(site.preview.is_some()),
-        count: site.count,
+        count: most_connections(site.connections),
+        shuts_down: site.connections == Connections::Forever,
         patience,
     };
     await_open(rt, &scene, output)?;

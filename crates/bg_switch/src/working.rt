@@ -45,7 +45,9 @@ where
 {
     let alloc = scene.alloc;
     let count = scene.count;
-    let control = &scene.listeners.control;
+    let listeners = scene.listeners;
+    let control = &listeners.control;
+    let shuts_down = scene.shuts_down;
     let door = Door::new(rt, desk);
     let clients = Clients::new(rt, scene.listeners, scene.patience);
     let endpoints = Endpoints::new(rt, scene.patience);
@@ -59,6 +61,11 @@ where
                 rt, alloc, &door, seats, services, &clients, &endpoints, count,
             )
         },
-        &mut || answer_operators(rt, alloc, desk, operator, control),
+        &mut || {
+            answer_operators(rt, alloc, desk, operator, control);
+            if shuts_down {
+                listeners.close_client_ports(rt);
+            }
+        },
     );
 }

@@ -1,10 +1,10 @@
 //! Books of two endpoints, behind a desk: how the tests open them and close them.
-ghost use Rattle.std.specs.Prelude.{◌≡◌, true, IfOk};
+ghost use Rattle.std.specs.Prelude.{◌≡◌, true, IfOk, ⊤};
 ghost use Rattle.bg_ledger.specs.Blanks.{AreAllFor};
 ghost use Rattle.bg_rollout.specs.Changes.{NewSeats};
 ghost use Rattle.bg_rollout.specs.Gathering.{are_all};
 
-use bg_book::{Book, Control, ControlFault, Desk, Limits, OpenFault};
+use bg_book::{Book, Control, ControlFault, Desk, Limits, OpenFault, Question};
 use bg_history::History;
 use bg_ledger::{Blanks, Names, Seat};
 use bg_strategy::Strategy;
@@ -35,6 +35,40 @@ pub fn tell_available<N: Names, R: Wait>(
     size: u32,
 ) -> Result<u64, ControlFault> {
     desk.control(rt, &Control::Available { revision: 1, size })
+}
+
+/// How many requests are open at the first revision.
+#[derive(Drop)]
+struct OpenRequests;
+
+impl Question<usize> for OpenRequests {
+    ghost gives = { λ _ _ _. ⊤ };
+
+    fn ask<N: Names>(self, book: &Book<N>) -> usize {
+        book.open_count(1)
+    }
+}
+
+/// How many requests are open at the first revision of the book.
+pub fn open_requests<N: Names, R: Wait>(rt: &R, desk: &Desk<N>) -> usize {
+    desk.look(rt, OpenRequests)
+}
+
+/// How many entries the history has.
+#[derive(Drop)]
+struct EntryCount;
+
+impl Question<u64> for EntryCount {
+    ghost gives = { λ _ _ _. ⊤ };
+
+    fn ask<N: Names>(self, book: &Book<N>) -> u64 {
+        book.history().len()
+    }
+}
+
+/// How many entries the history of the book has.
+pub fn entry_count<N: Names, R: Wait>(rt: &R, desk: &Desk<N>) -> u64 {
+    desk.look(rt, EntryCount)
 }
 
 /// Closes the book of a desk, and gives its history.

@@ -4,7 +4,7 @@ ghost use Rattle.bg_forward.specs.Buffers.{held};
 ghost use Rattle.bg_rollout.specs.Gathering.{indices};
 ghost use Rattle.bg_ledger.specs.Blanks.{AreAllFor};
 
-use crate::books::{close, open, tell_available};
+use crate::books::{close, open, open_requests, tell_available};
 use crate::fakes::{Asked, Endpoint, Line, Pace, Seen, Shut, Uses};
 use crate::samples::strategy;
 use bg_audit::audit;
@@ -93,16 +93,21 @@ pub struct Outcome {
     /// How often the client was read and written, and the endpoint.
     pub client: Uses,
     pub endpoint: Uses,
-    /// How often the gate was asked whether the request goes on.
+    /// How often the gate was asked whether the request goes on, and the client's stream whether the client has gone.
     pub questions: u64,
+    pub client_questions: u64,
     /// How many calls the seat was answered, and whether it is out.
     pub calls: u64,
     pub is_out: bool,
+    /// How many requests were open at the end.
+    pub open: usize,
     /// Whether the history is legal, with nothing left undone.
     pub is_legal: bool,
-    /// How many connections to endpoints were opened, and how many of them were written what they should.
+    /// How many connections to endpoints were opened, how many of them were written what they should, and how many were
+    /// dropped.
     pub dialled: u64,
     pub forwarded: u64,
+    pub dropped: u64,
 }
 
 /// Serves a client at the first of the seats.
@@ -170,6 +175,8 @@ struct Closed {
     /// How many calls the seat was answered, and whether it is out.
     calls: u64,
     is_out: bool,
+    /// How many requests were open.
+    open: usize,
     history: History,
 }
 
@@ -196,12 +203,14 @@ fn serve_over<N: Names, R: Wait, D: Dial>(
         rt, alloc, &desk, lent_seats, setting, client, dial, questions,
     );
     let (calls, is_out) = state_of_first(&seats);
+    let open = open_requests(rt, &desk);
     let history = close(desk, seats);
     let _outcomes = told?;
     Ok(Closed {
         served,
         calls,
         is_out,
+        open,
         history,
     })
 }
@@ -236,10 +245,13 @@ pub fn serve<R: Wait>(rt: &R, alloc: Global, setting: &Setting) -> Result<Option
         client: line.uses(),
         endpoint: seen.uses(),
         questions: questions.load(Ordering::SeqCst),
+        client_questions: line.questions(),
         calls: closed.calls,
         is_out: closed.is_out,
+        open: closed.open,
         is_legal: audit(alloc, &closed.history, &strategy)?,
         dialled: seen.dialled.load(Ordering::SeqCst),
         forwarded: seen.forwarded.load(Ordering::SeqCst),
+        dropped: seen.dropped.load(Ordering::SeqCst),
     }))
 }

@@ -10,7 +10,7 @@ use std::sync::Wait;
 use std::test::Fail;
 
 /// An endpoint that is read in one piece or in several, and one whose reads are interrupted.
-fn paces() -> [Pace; 3] {
+pub fn paces() -> [Pace; 3] {
     let steady = Pace::steady();
     let at_once = Pace {
         most: 4096,

@@ -1,7 +1,7 @@
 //! Clients, an endpoint and a gate.
 
 use bg_book::{EnterFault, GoOn, Left, Ticket};
-use bg_forward::{Dial, Gate};
+use bg_forward::{ClientStream, Dial, Gate};
 use bg_http::Duplex;
 use bg_ledger::{Names, Seat};
 use bg_revisions::Service;
@@ -34,6 +34,8 @@ pub struct Pace {
     /// Whether flushing fails.
     pub flush_fails: bool,
     pub interruptions: Interruptions,
+    /// The question from which on the peer has gone, counted from 1.
+    pub goes_at: Option<u64>,
 }
 
 impl Pace {
@@ -45,6 +47,7 @@ impl Pace {
             failing_write: None,
             flush_fails: false,
             interruptions: Interruptions::None,
+            goes_at: None,
         }
     }
 }
@@ -63,6 +66,8 @@ pub struct Line<'a> {
     rest: &'a [u8],
     pace: Pace,
     uses: Uses,
+    /// How often it was asked whether the peer has gone.
+    questions: u64,
     was_interrupted: bool,
     output: Vec<u8>,
 }
@@ -82,6 +87,7 @@ impl<'a> Line<'a> {
                 reads: 0,
                 writes: 0,
             },
+            questions: 0,
             was_interrupted: false,
             output: Vec::new(alloc),
         }
@@ -89,6 +95,11 @@ impl<'a> Line<'a> {
 
     pub fn uses(&self) -> Uses {
         self.uses
+    }
+
+    /// How often it was asked whether the peer has gone.
+    pub fn questions(&self) -> u64 {
+        self.questions
     }
 
     /// What was written so far.
@@ -170,6 +181,16 @@ impl Duplex for Line<'_> {
     }
 }
 
+impl ClientStream for Line<'_> {
+    fn has_gone(&mut self) -> bool {
+        self.questions = self.questions.saturating_add(1);
+        match self.pace.goes_at {
+            Some(question) => self.questions >= question,
+            None => false,
+        }
+    }
+}
+
 /// What an endpoint has seen.
 #[derive(Drop)]
 pub struct Seen {
@@ -177,6 +198,8 @@ pub struct Seen {
     pub dialled: AtomicU64,
     /// How many of them were written just what was wanted when they were flushed.
     pub forwarded: AtomicU64,
+    /// How many of them were dropped.
+    pub dropped: AtomicU64,
     /// How often they were read and written, interrupted times counted too.
     pub reads: AtomicU64,
     pub writes: AtomicU64,
@@ -187,6 +210,7 @@ impl Seen {
         Seen {
             dialled: AtomicU64::new(0),
             forwarded: AtomicU64::new(0),
+            dropped: AtomicU64::new(0),
             reads: AtomicU64::new(0),
             writes: AtomicU64::new(0),
         }
@@ -213,11 +237,21 @@ pub struct Endpoint<'a> {
 }
 
 /// A connection to it.
-#[derive(Drop)]
 pub struct Upstream<'a> {
     line: Line<'a>,
     wanted: &'a [u8],
     seen: &'a Seen,
+}
+
+impl Drop for Upstream<'_> {
+    fn drop(self) {
+        let Upstream {
+            line: _,
+            wanted: _,
+            seen,
+        } = self;
+        seen.dropped.fetch_add(1, Ordering::SeqCst);
+    }
 }
 
 impl<'a> Dial for Endpoint<'a> {

@@ -4,6 +4,8 @@
 #[cfg(test)]
 mod books;
 #[cfg(test)]
+mod compactions;
+#[cfg(test)]
 mod connections;
 #[cfg(test)]
 mod cut;
@@ -18,14 +20,21 @@ mod fakes;
 #[cfg(test)]
 mod gates;
 #[cfg(test)]
+mod gone;
+#[cfg(test)]
 mod hostile;
 #[cfg(test)]
 mod interruptions;
+#[cfg(test)]
+mod limits;
 #[cfg(test)]
 mod messages;
 #[cfg(test)]
 mod one_fault;
 #[cfg(test)]
+mod ports;
+#[cfg(test)]
 mod samples;
+#[cfg(test)]
 #[cfg(test)]
 mod workers;

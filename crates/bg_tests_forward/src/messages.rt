@@ -111,8 +111,8 @@ pub fn refusal(status: u16) -> &'static str {
     }
 }
 
-/// What came of a connection that ends so. Its seat was answered two calls where it entered, and is out, and the history
-/// is legal.
+/// What came of a connection that ends so. Its seat was answered two calls where it entered, and is out, no request is
+/// open, and the history is legal.
 pub fn ends<R: Abort + Wait>(
     rt: &R,
     alloc: Global,
@@ -125,6 +125,7 @@ pub fn ends<R: Abort + Wait>(
     assert_eq!(rt; outcome.end, end);
     assert_eq!(rt; outcome.calls, if outcome.entered { 2 } else { 0 });
     assert!(rt; outcome.is_out);
+    assert_eq!(rt; outcome.open, 0);
     assert!(rt; outcome.is_legal);
     Ok(outcome)
 }

@@ -10,7 +10,7 @@ use crate::messages::{CHUNKS, CHUNKS_ON, GET};
 use crate::samples::strategy;
 use bg_book::laws::{lent, same_order};
 use bg_book::{Control, Desk, EnterFault, GoOn, Left, Limits, Ticket};
-use bg_forward::{Accept, Dial, Door, Gate, run_workers};
+use bg_forward::{Accept, ClientStream, Dial, Door, Gate, run_workers};
 use bg_http::Duplex;
 use bg_ledger::{Blanks, Names, Seat};
 use bg_revisions::Service;
@@ -110,14 +110,20 @@ impl Duplex for Client<'_> {
     }
 }
 
+impl ClientStream for Client<'_> {
+    fn has_gone(&mut self) -> bool {
+        self.line.has_gone()
+    }
+}
+
 impl<'a> Accept for Clients<'a> {
     type Stream = Client<'a>;
 
-    fn accept(&self, _service: Service) -> io::Result<Client<'a>> {
-        Ok(Client {
+    fn accept(&self, _service: Service) -> io::Result<Option<Client<'a>>> {
+        Ok(Some(Client {
             line: Line::new(self.alloc, GET.as_bytes(), Pace::steady()),
             course: self.course,
-        })
+        }))
     }
 
     fn close(&self, _client: Client<'a>, _whole: bool) {}

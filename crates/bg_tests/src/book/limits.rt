@@ -155,3 +155,30 @@ fn has_one_to_eight_seats(rt: HostRuntime) -> Result<(), Fail> {
     }
     Ok(())
 }
+
+#[test]
+fn has_no_greater_limits_than_usual(rt: HostRuntime) -> Result<(), Fail> {
+    let strategy = strategy(rt.alloc())?;
+    for (entries, numbers, is_good) in [
+        (1_000_000, 1 << 53, true),
+        (1_000_001, 1 << 53, false),
+        (1_000_000, (1 << 53) + 1, false),
+        (0, 0, true),
+    ] {
+        let plan = Plan {
+            alloc: rt.alloc(),
+            strategy: &strategy,
+            seats: 1,
+            limits: Limits { entries, numbers },
+            calls: &[],
+        };
+        match answers_to(&plan)? {
+            Ok(replies) => assert!(rt; is_good && replies.is_empty(), "{entries} {numbers}"),
+            Err(fault) => {
+                assert!(rt; !is_good, "{entries} {numbers}");
+                assert_eq!(rt; fault, OpenFault::BadLimits);
+            }
+        }
+    }
+    Ok(())
+}

@@ -1,7 +1,7 @@
 //! The scripts that are played at a book and at a desk.
 
 /// What `blueGreen` has beside the active service, and the lines after `open v1 9001 9002`.
-pub(crate) const ROWS: [(&str, &str); 22] = [
+pub(crate) const ROWS: [(&str, &str); 24] = [
     // drops the entries of closed requests, and of neighbouring ticks all but the last
     (
         "",
@@ -260,6 +260,32 @@ enter 1 active
 deploy v2 9101 9102
 available 2 2
 enter 0 active
+tick 30
+report",
+    ),
+    // fails back over two revisions
+    (
+        r#", "postPromotionAnalysis": {}"#,
+        "available 1 2
+deploy v2 9101 9102
+available 2 2
+deploy v3 9201 9202
+available 3 2
+verdict post failed
+report
+tick 30
+report",
+    ),
+    // fails back over two revisions, and the aborted one stays
+    (
+        r#", "postPromotionAnalysis": {}, "abortScaleDownDelaySeconds": 0"#,
+        "available 1 2
+deploy v2 9101 9102
+available 2 2
+deploy v3 9201 9202
+available 3 2
+verdict post failed
+report
 tick 30
 report",
     ),

@@ -13,6 +13,7 @@ use bg_ledger::{Blanks, Names, Seat};
 use bg_revisions::Service;
 use std::alloc::Global;
 use std::marker::Brand;
+use std::process::Abort;
 use std::sync::Wait;
 use std::test::Fail;
 use std::thread::{Threads, for_each_mut, join_mut};
@@ -103,7 +104,7 @@ fn calls_of_both<N: Names>(seats: &[Seat<N>]) -> [u64; 2] {
 }
 
 /// Opens a book of two seats with both endpoints, works it, and gathers.
-fn open_and_work<N: Names + Send + Sync, R: Threads + Wait + Sync>(
+fn open_and_work<N: Names + Send + Sync, R: Threads + Wait + Sync + Abort>(
     rt: &R,
     alloc: Global,
     blanks: Blanks,
@@ -131,13 +132,16 @@ fn open_and_work<N: Names + Send + Sync, R: Threads + Wait + Sync>(
     let told = desk.control(rt, &available);
     work_and_tick(rt, &desk, seats.as_mut_slice());
     let calls = calls_of_both(&seats);
-    let history = desk.into_book().close(seats);
+    let history = match desk.into_book().gather(seats) {
+        Ok(history) => history,
+        Err(_handed_back) => rt.abort(),
+    };
     let _outcomes = told?;
     audited(alloc, &history, &strategy)?;
     Ok(Worked { calls, history })
 }
 
-fn with_new_names<R: Threads + Wait + Sync>(rt: &R, alloc: Global) -> Result<Worked, Fail>
+fn with_new_names<R: Threads + Wait + Sync + Abort>(rt: &R, alloc: Global) -> Result<Worked, Fail>
     ensures { IfOk result (λ worked. worked.history.opening.seats ≡ 2) }
 {
     open_and_work::<Brand, R>(rt, alloc, Blanks::new())

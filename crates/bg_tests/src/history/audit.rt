@@ -7,11 +7,13 @@ use std::test::Fail;
 const BASE: &str = r#"{"spec":{"replicas":2,"strategy":{"blueGreen":{"activeService":"web"}}}}"#;
 
 /// The ports of revision 1, the entries after it, and whether they are legal and settled.
-const ROWS: [(&[u16], &str, bool); 7] = [
+const ROWS: [(&[u16], &str, bool); 8] = [
     (&[9001, 9002], "", true),
     // a revision has as many ports as replicas
     (&[9001], "", false),
     (&[9001, 9002], "available 1 2", true),
+    // no attempt runs, so the active service can't be switched
+    (&[9001, 9002], "switched 1", false),
     // revision 2 is ready: that it is stands undone
     (&[9001, 9002], "deploy 2 v2 9101 9102\navailable 2 2", false),
     (

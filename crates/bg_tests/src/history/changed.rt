@@ -10,7 +10,7 @@ pub(super) struct Changed {
     pub(super) changes: &'static str,
 }
 
-pub(super) const CHANGED: [Changed; 21] = [
+pub(super) const CHANGED: [Changed; 23] = [
     Changed {
         row: 1,
         entries: "deploy 2 v2 9101 9102
@@ -22,10 +22,10 @@ promoted 2
 tick 29
 tick 30
 scaled_down 1",
-        changes: "bad change 0 deploy 2 v1 9101 9102
-good change 0 deploy 2 v2 9101 9103
-bad drop 3
-bad move 7 4",
+        changes: "good change 6 tick 30
+good change 7 tick 31
+good double 7
+bad move 0 1",
     },
     Changed {
         row: 2,
@@ -40,14 +40,15 @@ promoted 2
 tick 30
 leave 0 1 1
 scaled_down 1",
-        changes: "bad change 0 available 1 1
+        changes: "good change 2 deploy 2 v3 9101 9102
+good change 2 deploy 2 v4 9101 9102
+good change 2 deploy 2 v2 9103 9102
+good change 8 tick 31
+bad change 10 promoted 1
 good double 3
-bad drop 10
-good move 1 3
-good move 1 5
+bad move 6 4
 good move 7 8
-good move 9 3
-good move 9 6",
+good move 9 8",
     },
     Changed {
         row: 3,
@@ -63,17 +64,16 @@ switched 2
 promoted 2
 leave 0 1 1
 leave 1 2 2",
-        changes: "bad change 1 deploy 2 v2 9001 9102
-bad change 4 enter 0 active 1 1 9001
+        changes: "bad change 1 deploy 1 v2 9101 9102
+good change 1 deploy 2 v3 9101 9102
+good change 1 deploy 2 v4 9101 9102
 bad change 6 retry
-bad drop 1
-bad drop 3
+bad change 8 promoted 2
 bad drop 9
-good move 1 0
+bad move 3 8
 bad move 3 11
-good move 5 7
 bad move 6 0
-good move 9 10",
+good move 11 10",
     },
     Changed {
         row: 4,
@@ -86,12 +86,11 @@ tick 15
 resumed 2
 switched 2
 promoted 2",
-        changes: "good change 4 tick 15
-bad change 8 removed 2
-good double 1
-bad double 6
-good drop 1
-bad drop 8",
+        changes: "good change 1 tick 4
+good change 4 tick 15
+bad double 8
+bad drop 8
+bad move 4 7",
     },
     Changed {
         row: 5,
@@ -103,14 +102,12 @@ resumed 2
 available 2 2
 switched 2
 promoted 2",
-        changes: "bad change 1 available 1 1
-bad change 2 removed 2
-bad change 2 ready 3
-good change 3 promote_full
-bad change 7 removed 2
-bad change 7 scaled_down 2
-bad move 2 3
-bad move 2 6",
+        changes: "good change 0 deploy 2 v2 9101 9103
+bad change 2 scaled_down 2
+bad change 4 resumed 3
+bad change 6 removed 2
+bad drop 7
+bad move 0 6",
     },
     Changed {
         row: 6,
@@ -124,19 +121,13 @@ verdict pre successful
 resumed 2
 switched 2
 promoted 2",
-        changes: "good change 0 deploy 2 v2 9103 9102
-bad change 2 switched 2
-good change 3 verdict pre error
-bad change 3 verdict pre successful
-bad change 4 abort
+        changes: "good change 3 verdict pre error
+bad change 4 promote
 bad change 4 promote_full
-bad change 5 ready 1
-bad change 9 switched 2
-bad drop 2
 bad drop 3
 bad drop 9
-bad move 3 9
-bad move 9 0",
+bad move 3 2
+bad move 3 9",
     },
     Changed {
         row: 7,
@@ -148,15 +139,15 @@ resumed 2
 switched 2
 tick 40
 verdict post error",
-        changes: "good change 0 available 1 1
-bad change 3 ready 1
+        changes: "good change 1 deploy 2 v2 9001 9102
+good change 1 deploy 2 v2 9101 9001
+bad change 1 deploy 2 V4 9101 9102
+good change 1 deploy 2 v3 9101 9102
+good change 7 verdict post failed
 bad change 7 verdict post successful
-good double 6
-bad drop 5
-good move 1 0
-bad move 4 0
-bad move 7 2
-bad move 7 6",
+good drop 6
+good drop 7
+bad move 3 0",
     },
     Changed {
         row: 8,
@@ -170,16 +161,13 @@ tick 40
 deploy 1 v1 9001 9002
 tick 70
 scaled_down 2",
-        changes: "good change 0 available 1 1
-bad change 0 available 2 2
-good change 1 deploy 2 v3 9101 9102
-bad change 6 tick 41
-bad change 7 deploy 0 v1 9001 9002
-bad drop 9
+        changes: "bad change 1 deploy 2 v2 9101 9101
+bad change 8 tick 69
+bad change 9 removed 2
+good double 2
 good move 0 3
-bad move 5 4
-good move 5 6
-bad move 8 6",
+bad move 8 6
+bad move 9 1",
     },
     Changed {
         row: 9,
@@ -196,12 +184,18 @@ resumed 3
 switched 3
 promoted 3
 scaled_down 1",
-        changes: "good change 0 deploy 2 v2 9001 9102
-bad change 3 promoted 2
-bad change 6 deploy 3 v3 0 9202
-bad change 6 deploy 4 v3 9201 9202
-bad change 12 removed 1
-bad move 3 8",
+        changes: "bad change 3 ready 2
+good change 6 deploy 3 v3 9103 9202
+bad change 8 removed 3
+bad change 8 switched 3
+bad change 11 removed 3
+bad change 11 promoted 4
+good double 7
+good drop 5
+bad drop 6
+bad drop 12
+bad move 9 5
+bad move 10 12",
     },
     Changed {
         row: 10,
@@ -219,16 +213,12 @@ resumed 3
 switched 3
 promoted 3
 scaled_down 2",
-        changes: "good change 0 deploy 2 v2 9001 9102
-good change 0 deploy 2 v2 9103 9102
-bad change 3 resumed 1
-bad change 6 scaled_down 2
-good change 7 deploy 3 v3 9001 9202
-good change 7 deploy 3 v3 9201 9102
-good double 8
-bad drop 6
-good move 6 13
-good move 7 6",
+        changes: "good change 7 deploy 3 v3 9001 9202
+good change 7 deploy 3 v3 9201 9101
+bad change 13 ready 2
+good double 1
+bad drop 13
+bad move 13 1",
     },
     Changed {
         row: 11,
@@ -247,23 +237,19 @@ resumed 1
 switched 1
 promoted 1
 leave 0 1 1",
-        changes: "bad change 1 enter 0 active 1 2 9002
-bad change 12 promoted 1
-good double 0
-bad double 7
-bad double 13
+        changes: "bad change 1 enter 0 active 1 1 9001
+good change 2 deploy 2 v4 9101 9102
+bad change 5 promoted 2
+good change 8 tick 31
+bad change 11 removed 1
+bad change 12 scaled_down 1
+bad double 12
 good drop 8
 bad drop 13
-good drop 14
-good move 2 0
-good move 7 8
-bad move 7 14
-good move 8 9
-bad move 8 13
-bad move 14 1
-good move 14 7
-good move 14 10
-good move 14 12",
+bad move 2 6
+bad move 4 6
+good move 14 12
+good move 14 13",
     },
     Changed {
         row: 12,
@@ -279,16 +265,22 @@ tick 30
 scaled_down 2
 scaled_down 3",
         changes: "good change 1 deploy 2 v2 9101 9103
+good change 1 deploy 2 v2 9103 9102
+bad change 2 available 2 3
+bad change 5 resumed 2
 good change 6 deploy 3 v3 9001 9202
-good change 6 deploy 3 v3 9103 9202
 good change 6 deploy 3 v3 9201 9001
+good change 6 deploy 3 v3 9201 9101
 good change 6 deploy 3 v3 9201 9103
 bad change 7 promote
 bad change 7 retry
-bad drop 3
-good move 0 1
-good move 0 6
-good move 0 10",
+good change 8 tick 31
+bad double 7
+good drop 5
+bad drop 9
+good move 0 2
+good move 0 8
+good move 9 10",
     },
     Changed {
         row: 13,
@@ -302,19 +294,16 @@ scaled_down 2
 retry
 available 2 2
 ready 2",
-        changes: "good change 0 deploy 2 v2 9101 9103
-good change 0 deploy 2 v2 9103 9102
-bad change 1 available 2 1
-bad change 3 verdict post failed
-bad change 6 promoted 2
-bad change 6 removed 2
+        changes: "good change 0 deploy 2 v2 9101 9001
+good change 4 tick 30
 bad change 7 abort
+bad change 7 promote
 bad change 7 promote_full
-bad change 9 promoted 2
 good double 1
 good double 8
+bad drop 1
 bad drop 9
-bad move 0 1
+bad move 4 6
 bad move 5 3
 bad move 5 4",
     },
@@ -331,15 +320,14 @@ abort
 tick 30
 leave 0 1 2
 scaled_down 2",
-        changes: "good change 1 deploy 2 v4 9101 9102
-good change 1 deploy 2 v2 9103 9102
-bad change 4 resumed 1
-bad change 7 promote
+        changes: "good change 1 deploy 2 v2 9001 9102
+good change 1 deploy 2 v4 9101 9102
 bad change 7 retry
-bad change 9 leave 0 1 1
-bad drop 7
-good move 0 3
-good move 0 9",
+bad double 7
+good double 8
+good move 0 5
+bad move 5 0
+good move 9 7",
     },
     Changed {
         row: 15,
@@ -351,15 +339,14 @@ resumed 2
 switched 2
 verdict post error
 tick 60",
-        changes: "bad change 0 available 0 2
-bad change 1 deploy 2 v2 0 9102
-good change 6 verdict post failed
+        changes: "good change 1 deploy 2 v2 9101 9103
+good change 1 deploy 2 v2 9103 9102
+bad change 2 available 1 2
+bad change 5 removed 2
 bad change 6 verdict post successful
-good double 7
+bad double 6
 good drop 0
-good move 0 7
-bad move 4 3
-good move 7 6",
+good drop 6",
     },
     Changed {
         row: 16,
@@ -368,18 +355,13 @@ deploy 2 v2 9101 9102
 abort
 deploy 1 v1 9001 9002
 scaled_down 2",
-        changes: "good change 1 deploy 2 v2 9103 9102
-bad change 4 removed 2
-good double 0
-bad double 3
-good drop 0
+        changes: "good change 0 tick 9007199254740991
+good change 1 deploy 2 v2 9101 9103
+bad change 2 promote
+bad double 2
 bad drop 1
-bad drop 4
-good move 0 1
-bad move 1 3
 bad move 2 0
-bad move 2 4
-bad move 3 2",
+bad move 2 1",
     },
     Changed {
         row: 17,
@@ -391,14 +373,10 @@ tick 30
 scaled_down 2
 deploy 3 v3 9201 9202",
         changes: "good change 0 deploy 2 v2 9101 9001
-good change 0 deploy 2 v2 9103 9102
-good change 6 deploy 3 v3 9001 9202
-good change 6 deploy 3 v3 9201 9001
-bad change 6 deploy 4 v3 9201 9202
-bad drop 2
-bad move 0 2
-bad move 2 5
-good move 5 6",
+bad double 3
+bad drop 5
+bad move 2 6
+bad move 3 1",
     },
     Changed {
         row: 18,
@@ -409,22 +387,22 @@ ready 2
 resumed 2
 switched 2
 promoted 2",
-        changes: "bad change 6 scaled_down 2
+        changes: "good change 0 deploy 2 v2 9001 9102
+bad change 1 retry
+bad change 4 resumed 3
 bad double 1
 bad drop 0
-bad drop 6
-bad move 0 1
 bad move 0 3
-bad move 0 5",
+bad move 0 4
+bad move 0 5
+good move 2 1",
     },
     Changed {
         row: 19,
         entries: "tick 5
 tick 5
 tick 9007199254740992",
-        changes: "bad change 0 tick 6
-bad change 1 tick 4
-good double 0",
+        changes: "bad move 2 0",
     },
     Changed {
         row: 20,
@@ -437,14 +415,18 @@ enter 0 active 4 1 9001
 leave 0 4 1
 leave 1 2 1
 leave 3 3 1",
-        changes: "bad change 0 available 0 2
-bad change 0 available 1 1
-bad change 3 enter 2 active 3 1 9002
-bad change 5 enter 0 active 4 1 9002
-bad change 7 leave 2 2 1
-good move 4 3
-bad move 6 5
-good move 8 5",
+        changes: "bad change 1 enter 0 preview 1 1 9002
+bad change 3 enter 3 active 2 1 9002
+bad change 3 enter 3 preview 3 1 9002
+bad change 3 enter 3 active 3 1 9101
+bad change 4 leave 0 2 1
+bad change 5 enter 0 active 4 2 9001
+bad change 6 leave 0 4 2
+bad change 8 leave 3 2 1
+bad double 7
+bad drop 0
+bad drop 2
+good move 7 4",
     },
     Changed {
         row: 21,
@@ -463,20 +445,73 @@ leave 0 3 2
 leave 1 2 1
 leave 3 1 1
 scaled_down 1",
-        changes: "bad change 0 available 2 2
-bad change 1 enter 3 active 1 2 9002
-good change 3 deploy 2 v4 9101 9102
-bad change 5 scaled_down 2
-bad change 6 ready 2
-bad change 7 switched 3
-bad change 12 leave 0 2 1
-good double 0
-good drop 11
+        changes: "bad change 3 deploy 1 v2 9101 9102
+bad change 3 deploy 2 v2 9102 9102
+bad change 5 switched 2
+bad change 6 promoted 2
+bad change 11 leave 0 3 3
+bad change 12 leave 1 3 1
 bad drop 14
 good move 2 5
-good move 8 9
-good move 10 11
-bad move 11 1
-good move 13 2",
+good move 8 9",
+    },
+    Changed {
+        row: 22,
+        entries: "available 1 2
+deploy 2 v2 9101 9102
+available 2 2
+ready 2
+resumed 2
+switched 2
+deploy 3 v3 9201 9202
+available 3 2
+ready 3
+resumed 3
+switched 3
+verdict post failed
+tick 30
+scaled_down 2
+scaled_down 3",
+        changes: "good change 0 available 1 1
+good change 1 deploy 2 v2 9103 9102
+good change 6 deploy 3 v3 9201 9102
+good change 6 deploy 3 v3 9201 9103
+bad change 6 deploy 3 v2 9201 9202
+good change 6 deploy 3 v4 9201 9202
+bad drop 14
+good move 0 10
+bad move 3 2
+bad move 6 0",
+    },
+    Changed {
+        row: 23,
+        entries: "available 1 2
+deploy 2 v2 9101 9102
+available 2 2
+ready 2
+resumed 2
+switched 2
+deploy 3 v3 9201 9202
+available 3 2
+ready 3
+resumed 3
+switched 3
+verdict post failed
+tick 30
+scaled_down 2",
+        changes: "good change 1 deploy 2 v2 9101 9001
+good change 1 deploy 2 v4 9101 9102
+good change 6 deploy 3 v3 9001 9202
+bad change 8 ready 2
+good drop 11
+bad drop 12
+bad drop 13
+good move 0 10
+bad move 1 8
+bad move 3 6
+bad move 4 10
+bad move 7 4
+bad move 11 2
+good move 11 12",
     },
 ];

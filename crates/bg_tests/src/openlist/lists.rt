@@ -73,6 +73,28 @@ fn drop_once(rt: HostRuntime) -> Result<(), Fail> {
     Ok(())
 }
 
+#[test]
+fn links_as_many_nodes_as_there_may_be(rt: HostRuntime) -> Result<(), Fail> {
+    let mut lists = OpenLists::new(rt.alloc(), 256)?;
+    for node in 0..256 {
+        put(&rt, &mut lists, 63, node, node as u64);
+    }
+    assert_eq!(rt; lists.len(63), 256);
+    assert_eq!(rt; take(&rt, &mut lists, 0), 0);
+    assert_eq!(rt; take(&rt, &mut lists, 255), 255);
+    let mut kept = Vec::new(rt.alloc());
+    for node in 1..255 {
+        if node % 2 == 1 {
+            assert_eq!(rt; take(&rt, &mut lists, node), node as u64);
+        } else {
+            kept.push((node, node as u64))?;
+        }
+    }
+    assert_eq!(rt; kept.len(), 127);
+    assert!(rt; holds(&lists, 63, &kept));
+    Ok(())
+}
+
 fn crosses<X: Send>(value: X) -> X {
     value
 }

@@ -36,6 +36,14 @@ end
 fault WrongCount
 ";
 
+/// The third tick finds no room in a history of 143 places, and the first is dropped for it. The last report finds
+/// none, and nothing can be dropped.
+const AT_FULL_DESK: &str =
+    "available 1 2\ntick 1\ntick 2\ntick 3\ncompact\navailable 1 1\navailable 1 2\n";
+
+const AT_FULL_DESK_ANSWERS: &str =
+    "ok 0\nok 0\nok 0\nok 0\ncompacted 1\nok 0\nrefused HistoryFull\n";
+
 #[test]
 fn leaves_an_open_to_the_caller(rt: HostRuntime) -> Result<(), Fail> {
     let mut reader = BEFORE.as_bytes();
@@ -63,6 +71,7 @@ struct Answered {
 fn answer<N: Names, R: Wait>(
     rt: &R,
     alloc: Global,
+    limits: Limits,
     lines: &mut &[u8],
     blanks: Blanks,
 ) -> Result<Answered, Fail>
@@ -72,15 +81,7 @@ fn answer<N: Names, R: Wait>(
     let strategy = strategy(alloc)?;
     let mut answers = Vec::new(alloc);
     let mut taken = OperatorLines::new(alloc);
-    let (book, seats) = Book::<N>::open(
-        alloc,
-        &strategy,
-        "v1",
-        &[9001, 9002],
-        1,
-        Limits::usual(),
-        blanks,
-    )?;
+    let (book, seats) = Book::<N>::open(alloc, &strategy, "v1", &[9001, 9002], 1, limits, blanks)?;
     let desk = Desk::new(book);
     let end = answer_at_desk(rt, alloc, &desk, &mut taken, lines, &mut answers);
     let history = desk.into_book().close(seats);
@@ -89,7 +90,16 @@ fn answer<N: Names, R: Wait>(
 }
 
 fn answer_lines<R: Wait>(rt: &R, alloc: Global, lines: &mut &[u8]) -> Result<Answered, Fail> {
-    answer::<Brand, R>(rt, alloc, lines, Blanks::new())
+    answer_within(rt, alloc, Limits::usual(), lines)
+}
+
+fn answer_within<R: Wait>(
+    rt: &R,
+    alloc: Global,
+    limits: Limits,
+    lines: &mut &[u8],
+) -> Result<Answered, Fail> {
+    answer::<Brand, R>(rt, alloc, limits, lines, Blanks::new())
 }
 
 #[test]
@@ -111,6 +121,47 @@ fn a_control_connection_may_end_in_a_line(rt: HostRuntime) -> Result<(), Fail> {
         answered.answers.as_slice(),
         b"ok 0\nfault WrongCount\n".as_slice()
     );
+    Ok(())
+}
+
+#[test]
+fn compacts_a_full_history_and_asks_again(rt: HostRuntime) -> Result<(), Fail> {
+    let limits = Limits {
+        entries: 143,
+        numbers: 1 << 53,
+    };
+    let mut lines = AT_FULL_DESK.as_bytes();
+    let answered = answer_within(&rt, rt.alloc(), limits, &mut lines)?;
+    assert_eq!(rt; answered.end, Ok(ControlEnd::End));
+    assert_eq!(rt;
+        answered.answers.as_slice(),
+        AT_FULL_DESK_ANSWERS.as_bytes()
+    );
+    Ok(())
+}
+
+#[test]
+fn a_request_of_a_browser_orders_nothing(rt: HostRuntime) -> Result<(), Fail> {
+    let mut lines = "jump\nPOST / HTTP/1.1\r\nHost: x\r\n\r\navailable 1 2\n".as_bytes();
+    let answered = answer_lines(&rt, rt.alloc(), &mut lines)?;
+    assert_eq!(rt; answered.end, Ok(ControlEnd::SpeaksHttp));
+    assert_eq!(rt;
+        answered.answers.as_slice(),
+        b"fault UnknownWord\nfault UnknownWord\n".as_slice()
+    );
+    assert_eq!(rt; lines, b"Host: x\r\n\r\navailable 1 2\n".as_slice());
+    Ok(())
+}
+
+#[test]
+fn a_field_line_opens_no_book(rt: HostRuntime) -> Result<(), Fail> {
+    let mut reader = "Host: x\nopen v1 9001 9002\n".as_bytes();
+    let mut answers = Vec::new(rt.alloc());
+    let mut lines = OperatorLines::new(rt.alloc());
+    let end = answer_before_open(&mut lines, &mut reader, &mut answers);
+    assert!(rt; matches!(end, Ok(BeforeOpen::SpeaksHttp)));
+    assert_eq!(rt; answers.as_slice(), b"fault UnknownWord\n".as_slice());
+    assert_eq!(rt; reader, b"open v1 9001 9002\n".as_slice());
     Ok(())
 }
 

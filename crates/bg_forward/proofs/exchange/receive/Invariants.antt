@@ -1,9 +1,11 @@
 use Rattle.std.proofs.Common.{◌≡◌, IsTrue, length}
+use Rattle.std.specs.Io.KnownBytes.{Keeps}
 use Rattle.bg_forward.proofs.exchange.receive.Given as goal
 
 abbrev pub invariant-loop : goal.invariant-loop
 invariant-loop g l = record {
   goes_on : IsTrue l.parser.is_open;
   seat : l.seat ≡ l.initial.seat;
+  client : Keeps (g.S.Write.contents l.initial.client) (g.S.Write.contents l.client);
   size : length l.piece ≡ 8192;
 }

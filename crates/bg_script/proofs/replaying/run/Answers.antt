@@ -1,6 +1,6 @@
 use Rattle.std.proofs.Common.{◌||◌, ℕ, Bool, List, IfOk, IfSome, Some, sym, ◌∙◌, subst}
 use Rattle.bg_operator.specs.Reading.{Known}
-use Rattle.bg_operator.specs.OperatorLines.{NextIs}
+use Rattle.bg_operator.specs.OperatorLines.{NextIs, last_speaks_http}
 use Rattle.bg_script.specs.declared.answer.Answer.TheVariants.{Opened}
 use Rattle.bg_script.specs.Scripts.{Stage, Ran, Closed, Said}
 use Rattle.bg_script.specs.Serving.{RanOpened, StepRead, Wrote}
@@ -15,8 +15,8 @@ returns-in_default g c =
     let now = g.W.Write.contents c.loop.writer in
     let faulted = c.loop.faulted in
     let none = none_of c.in_ok-read.field-0 c.in_default.not-Some in
-    Known-some (Goes start first now start faulted) (NextIs c.in_ok-read.field-0) (Ran start first now faulted) _ _ _
-    (λ xs ys zs p q. ends start start first now faulted xs ys zs p (rw none at q))
+    Known-some (Goes start first now start faulted) (NextIs c.in_ok-read.field-0 (last_speaks_http c.next.new.self)) (Ran start first now faulted) _ _ _
+    (λ xs ys zs p q. ends start start first now faulted (last_speaks_http c.next.new.self) xs ys zs p (rw none at q))
     c.loop.invariant c.in_ok-read.ensures
 
 pub returns-then-is_quit : goal.returns-then-is_quit
@@ -25,8 +25,8 @@ returns-then-is_quit g c =
     let first = g.W.Write.contents c.args.writer.now in
     let now = g.W.Write.contents c.loop.writer in
     let faulted = c.loop.faulted in
-    Known-some (Goes start first now start faulted) (NextIs c.in_ok-read.field-0) (Ran start first now faulted) _ _ _
-    (λ xs ys zs p q. quits start start first now faulted c.in-Some.read xs ys zs p (rw c.in-Some.is at q) (sym c.is_quit.ensures ∙ c.if-is_quit.true))
+    Known-some (Goes start first now start faulted) (NextIs c.in_ok-read.field-0 (last_speaks_http c.next.new.self)) (Ran start first now faulted) _ _ _
+    (λ xs ys zs p q. quits start start first now faulted c.in-Some.read (last_speaks_http c.next.new.self) xs ys zs p (rw c.in-Some.is at q) (sym c.is_quit.ensures ∙ c.if-is_quit.true))
     c.loop.invariant c.in_ok-read.ensures
 
 pub returns-in-Ok : goal.returns-in-Ok
@@ -40,11 +40,11 @@ returns-in-Ok g c =
     let Told = λ (t : Bool). (next : Stage) × StepRead start c.in-Some.read (Said Opened) next × IfSome (g.B.Read.remaining c.next.new.reader) (RanOpened next now last t) in
     let told : Told later = subst (λ e. IfOk e Told) c.in_ok-later-in-Ok.was c.in-Ok.ensures.ok in
     let next = told.0 in
-    let line = Known-both (Goes start first now start faulted) (NextIs c.in_ok-read.field-0) (λ xs zs. (ys : List ℕ) × Goes start first now start faulted xs ys × NextIs (Some c.in-Some.read) ys zs) _ _ _
+    let line = Known-both (Goes start first now start faulted) (NextIs c.in_ok-read.field-0 (last_speaks_http c.next.new.self)) (λ xs zs. (ys : List ℕ) × Goes start first now start faulted xs ys × NextIs (Some c.in-Some.read) (last_speaks_http c.next.new.self) ys zs) _ _ _
     (λ xs ys zs p q. (ys, p, rw c.in-Some.is at q))
     c.loop.invariant c.in_ok-read.ensures in
-    Known-then (λ xs zs. (ys : List ℕ) × Goes start first now start faulted xs ys × NextIs (Some c.in-Some.read) ys zs) (RanOpened next now last later) (Ran start first last (faulted || later)) _ _
-    (λ xs zs p r. goes_opened start start next first now last faulted later c.in-Some.read xs p.0 zs p.1 p.2
+    Known-then (λ xs zs. (ys : List ℕ) × Goes start first now start faulted xs ys × NextIs (Some c.in-Some.read) (last_speaks_http c.next.new.self) ys zs) (RanOpened next now last later) (Ran start first last (faulted || later)) _ _
+    (λ xs zs p r. goes_opened start start next first now last faulted later c.in-Some.read (last_speaks_http c.next.new.self) xs p.0 zs p.1 p.2
     (sym c.is_quit.ensures ∙ c.if-is_quit.false) told.1 r)
     line told.2
 
@@ -61,9 +61,9 @@ loop-preserved g c =
     let wrote : Wrote (Said answer) now new fault =
     subst (λ w. Wrote (Said answer) (g.W.Write.contents w) new fault) kept.1 c.in_ok-fault-in-Err.ensures in
     subst (λ r. Known (g.B.Read.remaining c.args.reader.now) (g.B.Read.remaining r) (Goes start first new start (faulted || fault))) (sym kept.0)
-    (Known-both (Goes start first now start faulted) (NextIs c.in_ok-read.field-0) (Goes start first new start (faulted || fault)) _ _ _
+    (Known-both (Goes start first now start faulted) (NextIs c.in_ok-read.field-0 (last_speaks_http c.next.new.self)) (Goes start first new start (faulted || fault)) _ _ _
     (λ xs ys zs p q.
-    goes_on start start start first now new faulted fault c.in-Some.read xs ys zs p (rw c.in-Some.is at q)
+    goes_on start start start first now new faulted fault c.in-Some.read (last_speaks_http c.next.new.self) xs ys zs p (rw c.in-Some.is at q)
     (sym c.is_quit.ensures ∙ c.if-is_quit.false)
     (record { written = Said answer; step = c.in-Err.ensures.err; wrote = wrote }))
     c.loop.invariant c.in_ok-read.ensures)

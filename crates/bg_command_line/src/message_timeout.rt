@@ -1,0 +1,63 @@
+//! How long the environment lets a message take.
+ghost use Rattle.std.specs.Prelude.{◌≡◌};
+ghost use Rattle.bg_command_line.specs.CommandLine.{IsBetween};
+ghost use Rattle.bg_command_line.specs.MessageTimeout.{IsTimeoutIn, seconds_of};
+
+use std::env;
+use std::env::VarError;
+use std::rt::Env;
+
+/// How many seconds a message may take where the environment doesn't say it.
+const DEFAULT_SECONDS: u64 = 60;
+
+/// How many seconds the environment may give at most.
+const MOST_SECONDS: u64 = 3_600;
+
+/// The environment's variable that gives the seconds.
+pub const TIMEOUT_VARIABLE: &str = "BG_SWITCH_PATIENCE_SECONDS";
+
+/// How long a message may take until it is whole, and whether the environment says it.
+#[derive(Clone, Copy, Debug, Drop, PartialEq, Eq)]
+pub enum MessageTimeout {
+    /// The variable isn't set. The timeout is 60 seconds.
+    Default,
+    /// The variable gives so many seconds, 1 to 3,600.
+    Given(u64),
+    /// The variable is set, but to no number from 1 to 3,600. The timeout is 60 seconds.
+    Unusable,
+}
+
+impl MessageTimeout {
+    /// The seconds, 1 to 3,600.
+    pub fn seconds(self) -> u64
+        ensures { result ≡ seconds_of self }
+    {
+        match self {
+            Self::Given(seconds) => seconds,
+            Self::Default | Self::Unusable => DEFAULT_SECONDS,
+        }
+    }
+
+    /// The timeout that the text of the variable gives.
+    pub fn of_text(text: &str) -> MessageTimeout
+        ensures value { IsTimeoutIn text.now result }
+        ensures range { IsBetween 1 3600 (seconds_of result) }
+    {
+        match text.parse::<u64>() {
+            Ok(seconds) if 1 <= seconds && seconds <= MOST_SECONDS => Self::Given(seconds),
+            _ => Self::Unusable,
+        }
+    }
+
+    /// The timeout that the environment's `BG_SWITCH_PATIENCE_SECONDS` gives. It is `Unusable` also where
+    /// the variable is no text, and where memory for its text is refused.
+    pub fn from_environment<R: Env + AllocGlobal>(rt: &R) -> MessageTimeout
+        ensures { IsBetween 1 3600 (seconds_of result) }
+    {
+        match env::var(rt, TIMEOUT_VARIABLE) {
+            Ok(text) => Self::of_text(text.as_str()),
+            Err(VarError::NotPresent) => Self::Default,
+            Err(_) => Self::Unusable,
+        }
+    }
+}

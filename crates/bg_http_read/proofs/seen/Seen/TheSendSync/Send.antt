@@ -1,0 +1,6 @@
+-- The bytes that were seen exist in proofs alone, so they may go to another thread.
+use denote.Param.Send.{IsSend, owning_send}
+use Rattle.bg_http_read.specs.contracts.seen.Seen.{the_row, the_type}
+
+pub send : IsSend the_row
+send = owning_send the_type tt (λ d. tt) (λ k x w. tt)

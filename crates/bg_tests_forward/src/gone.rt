@@ -1,0 +1,121 @@
+//! Clients that go while their requests are forwarded.
+
+use crate::connections::{Outcome, Setting};
+use crate::cut::paces;
+use crate::fakes::{Interruptions, Pace};
+use crate::messages::{CHUNKS, CHUNKS_ON, GET, GET_ON, expect, refusal};
+use bg_forward::End;
+use std::alloc::Global;
+use std::process::Abort;
+use std::sync::Wait;
+use std::test::Fail;
+
+/// A client that has gone when this question comes, counted from 1.
+fn gone_at(question: u64) -> Pace {
+    Pace {
+        goes_at: Some(question),
+        ..Pace::steady()
+    }
+}
+
+/// An endpoint that takes the request and gives nothing: each read of it is interrupted.
+fn silent() -> Pace {
+    Pace {
+        interruptions: Interruptions::EveryRead,
+        ..Pace::steady()
+    }
+}
+
+/// The client was asked so many times, each time before a read and after the gate, and the endpoint was let go.
+fn let_go<R: Abort>(rt: &R, outcome: &Outcome, question: u64) {
+    assert_eq!(rt; outcome.client_questions, question);
+    assert_eq!(rt; outcome.questions, question.saturating_add(1));
+    assert_eq!(rt; outcome.endpoint.reads, question.saturating_sub(1));
+    assert_eq!(rt; outcome.forwarded, 1);
+    assert_eq!(rt; outcome.dialled, 1);
+    assert_eq!(rt; outcome.dropped, 1);
+}
+
+/// A client that has gone at a question, once where it still takes what it is written, and once where it doesn't.
+fn goes<R: Abort + Wait>(rt: &R, alloc: Global, endpoint: Pace, question: u64) -> Result<(), Fail> {
+    let setting = Setting {
+        client: gone_at(question),
+        endpoint,
+        ..Setting::new(GET, GET_ON, CHUNKS)
+    };
+    let refused = expect(rt, alloc, &setting, End::Refused(503), refusal(503), 2)?;
+    let_go(rt, &refused, question);
+    let reset = Pace {
+        failing_write: Some(0),
+        ..gone_at(question)
+    };
+    let setting = Setting {
+        client: reset,
+        ..setting
+    };
+    let failed = expect(rt, alloc, &setting, End::WriteFailed, "", 2)?;
+    let_go(rt, &failed, question);
+    Ok(())
+}
+
+#[test]
+fn lets_a_silent_endpoint_go(rt: HostRuntime) -> Result<(), Fail> {
+    for question in [1, 2, 100] {
+        goes(&rt, rt.alloc(), silent(), question)?;
+    }
+    Ok(())
+}
+
+/// A client that stays is asked before each read, and gets its answer. One that has gone at one of these questions
+/// doesn't.
+fn stays_or_goes<R: Abort + Wait>(rt: &R, alloc: Global, endpoint: Pace) -> Result<(), Fail> {
+    let setting = Setting {
+        endpoint,
+        ..Setting::new(GET, GET_ON, CHUNKS)
+    };
+    let stays = expect(rt, alloc, &setting, End::Answered(200), CHUNKS_ON, 2)?;
+    let reads = stays.endpoint.reads;
+    assert!(rt; reads >= 1);
+    assert_eq!(rt; stays.client_questions, reads);
+    assert_eq!(rt; stays.dropped, 1);
+    for question in 1..=reads {
+        goes(rt, alloc, endpoint, question)?;
+    }
+    let setting = Setting {
+        client: gone_at(reads.saturating_add(1)),
+        ..setting
+    };
+    let _answered = expect(rt, alloc, &setting, End::Answered(200), CHUNKS_ON, 2)?;
+    Ok(())
+}
+
+#[test]
+fn asks_before_each_read(rt: HostRuntime) -> Result<(), Fail> {
+    for endpoint in paces() {
+        stays_or_goes(&rt, rt.alloc(), endpoint)?;
+    }
+    Ok(())
+}
+
+#[test]
+fn does_not_ask_before_the_endpoint_has_its_request(rt: HostRuntime) -> Result<(), Fail> {
+    let sound = Setting {
+        client: gone_at(1),
+        ..Setting::new(GET, GET_ON, CHUNKS)
+    };
+    let not_dialled = Setting { port: 1, ..sound };
+    let not_written = Setting {
+        endpoint: Pace {
+            failing_write: Some(0),
+            ..Pace::steady()
+        },
+        ..sound
+    };
+    for setting in [not_dialled, not_written] {
+        let end = End::Refused(502);
+        let outcome = expect(&rt, rt.alloc(), &setting, end, refusal(502), 2)?;
+        assert_eq!(rt; outcome.dialled, 1);
+        assert_eq!(rt; outcome.client_questions, 0);
+    }
+    Ok(())
+}

@@ -1,0 +1,152 @@
+//! How many connections a worker takes of its port, and what the port is told of each.
+ghost use Rattle.std.specs.Prelude.{◌≡◌, length};
+ghost use Rattle.bg_rollout.specs.Gathering.{indices};
+ghost use Rattle.bg_forward.specs.Seats.{AllOut};
+ghost use Rattle.bg_ledger.specs.Blanks.{AreAllFor};
+
+use crate::books::{close, open, tell_available};
+use crate::fakes::{Line, Pace};
+use crate::messages::{CHUNKS, GET};
+use crate::ports::{Counts, Ports, Turn, Uses};
+use crate::samples::strategy;
+use bg_book::laws::{lent, same_order};
+use bg_book::{Desk, Limits};
+use bg_forward::{Dial, Door, run_workers};
+use bg_ledger::{Blanks, Names, Seat};
+use bg_revisions::Service;
+use std::alloc::Global;
+use std::io;
+use std::marker::Brand;
+use std::sync::Wait;
+use std::test::Fail;
+use std::thread::Threads;
+
+/// An endpoint at every port.
+#[derive(Drop)]
+struct Endpoint {
+    alloc: Global,
+}
+
+impl Dial for Endpoint {
+    type Stream = Line<'static>;
+
+    fn dial(&self, _port: u16) -> io::Result<Line<'static>> {
+        Ok(Line::new(self.alloc, CHUNKS.as_bytes(), Pace::steady()))
+    }
+}
+
+/// Works a seat for each service, each for up to so many connections.
+fn work_both<N: Names + Send + Sync, R: Threads + Wait + Sync>(
+    rt: &R,
+    alloc: Global,
+    desk: &Desk<N>,
+    seats: &mut [Seat<N>],
+    ports: &Ports,
+    count: u64,
+)
+    requires two { length seats.old ≡ 2 }
+    requires out { AllOut seats.old }
+    ensures { indices seats.new ≡ indices seats.old }
+{
+    same_order();
+    let door = Door::new(rt, desk);
+    let services = [Service::Active, Service::Preview];
+    let endpoint = Endpoint { alloc };
+    run_workers(rt, alloc, &door, seats, &services, ports, &endpoint, count);
+}
+
+/// Works the seats of a book that has no preview service.
+fn open_and_work_both<N: Names + Send + Sync, R: Threads + Wait + Sync>(
+    rt: &R,
+    alloc: Global,
+    ports: &Ports,
+    count: u64,
+    blanks: Blanks,
+) -> Result<(), Fail>
+    requires blanks { AreAllFor N.Names blanks }
+    requires seats { N.seats ≡ 2 }
+{
+    lent();
+    let strategy = strategy(alloc)?;
+    let (desk, mut seats) = open::<N>(alloc, &strategy, 2, Limits::usual(), blanks)?;
+    let told = tell_available(rt, &desk, 2);
+    work_both(rt, alloc, &desk, seats.as_mut_slice(), ports, count);
+    let _history = close(desk, seats);
+    let _outcomes = told?;
+    Ok(())
+}
+
+/// What becomes of up to so many connections for each worker.
+fn counts_of<R: Threads + Wait + Sync>(
+    rt: &R,
+    alloc: Global,
+    turns: &[Turn],
+    count: u64,
+) -> Result<Counts, Fail> {
+    let uses = Uses::new();
+    let ports = Ports {
+        alloc,
+        turns,
+        uses: &uses,
+    };
+    open_and_work_both::<Brand, R>(rt, alloc, &ports, count, Blanks::new())?;
+    Ok(uses.counts())
+}
+
+/// Each port was asked so often, and each worker served so many clients: one those that were answered, the other those
+/// that were refused since no preview service is set.
+fn served(accepts: u64, clients: u64) -> Counts {
+    Counts {
+        active_accepts: accepts,
+        preview_accepts: accepts,
+        whole: clients,
+        other: clients,
+        answered: clients,
+        unavailable: clients,
+    }
+}
+
+#[test]
+fn takes_so_many_and_no_more(rt: HostRuntime) -> Result<(), Fail> {
+    for count in [0, 1, 3] {
+        let counts = counts_of(&rt, rt.alloc(), &[], count)?;
+        assert_eq!(rt; counts, served(count, count));
+    }
+    Ok(())
+}
+
+#[test]
+fn an_accept_that_fails_counts(rt: HostRuntime) -> Result<(), Fail> {
+    let turns = [Turn::Fails, Turn::Client(GET), Turn::Fails];
+    let counts = counts_of(&rt, rt.alloc(), &turns, 4)?;
+    assert_eq!(rt; counts, served(4, 2));
+    Ok(())
+}
+
+#[test]
+fn ends_where_no_further_connection_comes(rt: HostRuntime) -> Result<(), Fail> {
+    let turns = [
+        Turn::Client(GET),
+        Turn::Fails,
+        Turn::Client(GET),
+        Turn::Ends,
+    ];
+    for count in [10, u64::MAX] {
+        let counts = counts_of(&rt, rt.alloc(), &turns, count)?;
+        assert_eq!(rt; counts, served(4, 2));
+    }
+    Ok(())
+}
+
+#[test]
+fn tells_which_requests_were_not_read_whole(rt: HostRuntime) -> Result<(), Fail> {
+    let cut = Turn::Client("GET /a HTTP/1.1\r\nHost: x\r\n");
+    let malformed = Turn::Client("GET /a HTTP/1.1\r\n\r\n");
+    let counts = counts_of(&rt, rt.alloc(), &[cut, malformed], 2)?;
+    let expected = Counts {
+        other: 4,
+        ..served(2, 0)
+    };
+    assert_eq!(rt; counts, expected);
+    Ok(())
+}
