@@ -1,0 +1,33 @@
+//! Moments of a port.
+
+use std::io;
+use std::time::{Clock, Duration, Instant};
+
+/// Tells moments as milliseconds since it was started.
+#[derive(Drop)]
+pub(crate) struct PortClock {
+    start: Instant,
+}
+
+impl PortClock {
+    pub(crate) fn start<R: Clock>(rt: &R) -> io::Result<PortClock> {
+        Ok(PortClock {
+            start: Instant::now(rt)?,
+        })
+    }
+
+    /// How many milliseconds passed since the start. A clock that fails shows none.
+    pub(crate) fn now<R: Clock>(&self, rt: &R) -> u64 {
+        match self.start.elapsed(rt) {
+            Ok(passed) => millis(passed),
+            Err(_) => 0,
+        }
+    }
+}
+
+fn millis(duration: Duration) -> u64 {
+    duration
+        .as_secs()
+        .saturating_mul(1_000)
+        .saturating_add(u64::from(duration.subsec_millis()))
+}

@@ -1,0 +1,63 @@
+//! The event loop of a port.
+
+use crate::client_port::ClientPort;
+use crate::wait_sets::MOST_EVENTS;
+use std::sync::Wait;
+use std::time::Clock;
+
+/// How often, in milliseconds, it is looked for connections whose time is up.
+const SWEEP_MILLIS: u64 = 500;
+
+/// How long one wait lasts at most, in milliseconds.
+const LONGEST_WAIT_MILLIS: i32 = 500;
+
+impl ClientPort {
+    /// Deals with the connections that no worker has: requests are read, responses are written, and each
+    /// is closed once its time is up. It returns once the port is closed and no connection is left, at
+    /// most 60 seconds after [`ClientPort::close`]; what is left then is closed.
+    pub fn run_event_loop<R: Clock + Wait>(&self, rt: &R) {
+        let mut keys = [0; MOST_EVENTS];
+        let mut swept = 0;
+        for _ in rt.forever() {
+            let count = self.watch.set.wait(LONGEST_WAIT_MILLIS, &mut keys);
+            let now = self.clock.now(rt);
+            for key in keys.iter().take(count) {
+                self.attend(rt, *key, now);
+            }
+            if now.saturating_sub(swept) >= SWEEP_MILLIS {
+                swept = now;
+                self.sweep(rt, now);
+            }
+            if self.is_over(rt, now) {
+                return;
+            }
+        }
+    }
+
+    fn attend<R: Wait>(&self, rt: &R, key: usize, now: u64) {
+        let mut pending = self.pending.lock(rt);
+        pending.attend(key, now, &self.watch);
+        self.publish(&pending);
+    }
+
+    fn sweep<R: Wait>(&self, rt: &R, now: u64) {
+        let mut pending = self.pending.lock(rt);
+        pending.sweep(now, &self.watch);
+        self.publish(&pending);
+    }
+
+    /// Whether the event loop has nothing to do any more, or its time is over.
+    fn is_over<R: Wait>(&self, rt: &R, now: u64) -> bool {
+        if !self.listener.is_closed() {
+            return false;
+        }
+        let mut pending = self.pending.lock(rt);
+        let is_done = self.listener.is_idle() && pending.is_empty();
+        if !is_done && !self.is_closing_over(now) {
+            return false;
+        }
+        pending.end(&self.watch);
+        self.publish(&pending);
+        true
+    }
+}

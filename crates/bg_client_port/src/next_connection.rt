@@ -1,0 +1,185 @@
+//! How a worker comes to its next connection.
+
+use crate::client_port::ClientPort;
+use crate::connection::Connection;
+use crate::listener::Accepted;
+use crate::pending::Given;
+use crate::pending_connection::{OverRequest, PendingConnection};
+use crate::request_buffer::RequestBuffer;
+use crate::wait_sets::{Ready, WaitSet};
+use std::io;
+use std::io::ErrorKind;
+use std::net::TcpStream;
+use std::sync::Wait;
+use std::sync::atomic::Ordering;
+use std::time::Clock;
+
+/// How many accepts in a row fail before that counts as a connection, and how many milliseconds pass in
+/// between.
+const ACCEPT_TRIES: u32 = 10;
+
+const ACCEPT_PAUSE_MILLIS: i32 = 100;
+
+/// How long, in milliseconds, a worker waits at once while the port takes no further connection.
+const FULL_PAUSE_MILLIS: i32 = 20;
+
+/// The first read of a connection waits a moment only while fewer are pending.
+const FEW_PENDING: usize = 32;
+
+/// What a step brought.
+#[derive(Drop)]
+enum Step {
+    Given(OverRequest),
+    Nothing,
+    /// No further connection comes.
+    NoneLeft,
+}
+
+impl ClientPort {
+    /// Waits for a connection whose request is over. None where no further one comes: the port is
+    /// closed, and each connection that it took was given to a worker. An error counts as a connection:
+    /// accepts failed for a second where the connections are limited, memory was refused, or more
+    /// workers are at work than the port has.
+    pub fn next<'a, R: Clock + Wait>(&'a self, rt: &'a R) -> io::Result<Option<Connection<'a, R>>> {
+        let Some(set) = self.take_wait_set(rt) else {
+            return Err(io::Error::from(ErrorKind::ResourceBusy));
+        };
+        match self.next_by(rt, &set) {
+            Ok(Some(request)) => Ok(Some(Connection::new(self, rt, set, request))),
+            Ok(None) => {
+                self.give_back(rt, set);
+                // the next worker that waits is to find out too
+                self.watch.over.post();
+                Ok(None)
+            }
+            Err(error) => {
+                self.give_back(rt, set);
+                Err(error)
+            }
+        }
+    }
+
+    /// Waits at a set.
+    fn next_by<R: Clock + Wait>(&self, rt: &R, set: &WaitSet) -> io::Result<Option<OverRequest>> {
+        let mut failures = 0;
+        for _ in rt.forever() {
+            let step = match set.wait() {
+                Ready::Listener => self.accept_at(rt, set, &mut failures)?,
+                Ready::Over => {
+                    self.watch.over.take();
+                    self.take_over(rt)?
+                }
+                Ready::Nothing => self.take_over(rt)?,
+            };
+            match step {
+                Step::Given(request) => return Ok(Some(request)),
+                Step::Nothing => {}
+                Step::NoneLeft => return Ok(None),
+            }
+        }
+        unreachable!()
+    }
+
+    /// Takes a pending connection whose request is over.
+    fn take_over<R: Clock + Wait>(&self, rt: &R) -> io::Result<Step> {
+        let is_closed = self.listener.is_closed();
+        let now = self.clock.now(rt);
+        let given = {
+            let mut pending = self.pending.lock(rt);
+            let given = pending.take_over(now, &self.watch);
+            self.publish(&pending);
+            given
+        };
+        match given {
+            Given::Request(request) => Ok(Step::Given(request)),
+            Given::NoneLeft if is_closed => Ok(Step::NoneLeft),
+            Given::Nothing | Given::NoneLeft => Ok(Step::Nothing),
+            Given::Lost => {
+                self.end_one();
+                Err(io::Error::from(ErrorKind::OutOfMemory))
+            }
+        }
+    }
+
+    /// Takes a connection from the listener, where one waits and the port isn't full.
+    fn accept_at<R: Clock + Wait>(
+        &self,
+        rt: &R,
+        set: &WaitSet,
+        failures: &mut u32,
+    ) -> io::Result<Step> {
+        if self.listener.is_closed() {
+            set.forget(self.listener.get());
+            return self.take_over(rt);
+        }
+        if self.is_full.load(Ordering::SeqCst) {
+            return self.make_room(rt, FULL_PAUSE_MILLIS);
+        }
+        match self.listener.accept() {
+            Accepted::Stream(stream) => {
+                *failures = 0;
+                Ok(self.begin_request(rt, stream))
+            }
+            Accepted::Nothing => Ok(Step::Nothing),
+            Accepted::Failed(error) => {
+                self.note_accept_failure();
+                *failures = failures.saturating_add(1);
+                if *failures >= ACCEPT_TRIES && self.listener.count_failure() {
+                    return Err(error);
+                }
+                self.make_room(rt, ACCEPT_PAUSE_MILLIS)
+            }
+        }
+    }
+
+    /// Lets go a connection that makes no progress. Where there is none, it waits a while for one whose
+    /// request is over.
+    fn make_room<R: Clock + Wait>(&self, rt: &R, millis: i32) -> io::Result<Step> {
+        let now = self.clock.now(rt);
+        let has_made_room = {
+            let mut pending = self.pending.lock(rt);
+            let has_made_room = pending.make_room(now, &self.watch);
+            self.publish(&pending);
+            has_made_room
+        };
+        if !has_made_room {
+            self.watch.over.wait(millis);
+        }
+        self.take_over(rt)
+    }
+
+    /// Reads what comes of a request. Where it isn't over, its connection is left to the event loop.
+    ///
+    /// A client connects a moment before it sends, so the first read waits for that moment, unless many
+    /// clients are silent already.
+    fn begin_request<R: Clock + Wait>(&self, rt: &R, stream: TcpStream) -> Step {
+        let mut request = RequestBuffer::new(self.alloc);
+        if self.pending_count.load(Ordering::SeqCst) < FEW_PENDING {
+            request.read_first(&stream);
+        } else {
+            request.read_on(&stream);
+        }
+        if request.is_over() {
+            return Step::Given(OverRequest {
+                stream,
+                request: request.into_buffered(),
+                until: None,
+            });
+        }
+        let now = self.clock.now(rt);
+        let until = now.saturating_add(self.request_millis);
+        let connection = PendingConnection::arriving(stream, request, now, until);
+        match self.leave(rt, connection, now) {
+            Ok(()) => Step::Nothing,
+            Err(connection) => given_back(connection),
+        }
+    }
+}
+
+/// What comes of a connection that can't be left to the event loop.
+fn given_back(connection: PendingConnection) -> Step {
+    match connection.into_over() {
+        Some(request) => Step::Given(request),
+        None => Step::Nothing,
+    }
+}

@@ -1,0 +1,391 @@
+//! The connections of a port that no worker has.
+
+use crate::bounds::Bounds;
+use crate::pending_connection::{OverRequest, PendingConnection};
+use crate::signal::Signal;
+use crate::wait_sets::LoopSet;
+use slab::Slab;
+use std::alloc::{AllocError, Global};
+use std::collections::VecDeque;
+
+/// So many large requests are read while the others are paused: the oldest ones.
+const READ_UPLOADS: usize = 8;
+
+/// Who is told of pending connections.
+#[derive(Drop)]
+pub(crate) struct Watch {
+    /// Where the event loop waits.
+    pub(crate) set: LoopSet,
+    /// What is posted for each request that is over.
+    pub(crate) over: Signal,
+}
+
+/// What pending connections take.
+#[derive(Drop)]
+struct Totals {
+    /// How many await the rest of a request.
+    arriving: usize,
+    request_bytes: usize,
+    response_bytes: usize,
+}
+
+impl Totals {
+    fn add(&mut self, is_request: bool, weight: usize) {
+        if is_request {
+            self.request_bytes = self.request_bytes.saturating_add(weight);
+        } else {
+            self.response_bytes = self.response_bytes.saturating_add(weight);
+        }
+    }
+
+    fn remove(&mut self, is_request: bool, weight: usize) {
+        if is_request {
+            self.request_bytes = self.request_bytes.saturating_sub(weight);
+        } else {
+            self.response_bytes = self.response_bytes.saturating_sub(weight);
+        }
+    }
+}
+
+/// What a worker is given.
+#[derive(Drop)]
+pub(crate) enum Given {
+    Request(OverRequest),
+    /// A connection was lost, since memory was refused.
+    Lost,
+    /// None is over.
+    Nothing,
+    /// None is over, and none is arriving.
+    NoneLeft,
+}
+
+/// The connections of a port that no worker has: those that its event loop deals with, and those that
+/// workers are to be given.
+#[derive(Drop)]
+pub(crate) struct Pending {
+    connections: Slab<PendingConnection>,
+    over: VecDeque<OverRequest>,
+    /// How many connections were lost, of which no worker was told.
+    lost: usize,
+    totals: Totals,
+    /// The number of the youngest connection.
+    last_number: u64,
+    /// Whether large requests are paused.
+    is_pausing: bool,
+    /// Whether the port is shut down, and what has sent nothing is let go.
+    is_closing: bool,
+    /// Whether the event loop has ended.
+    has_ended: bool,
+    bounds: Bounds,
+}
+
+impl Pending {
+    /// None yet.
+    pub(crate) fn new(alloc: Global, bounds: Bounds) -> Result<Pending, AllocError> {
+        Ok(Pending {
+            connections: Slab::with_capacity(alloc, bounds.connections)?,
+            over: VecDeque::with_capacity(alloc, bounds.connections)?,
+            lost: 0,
+            totals: Totals {
+                arriving: 0,
+                request_bytes: 0,
+                response_bytes: 0,
+            },
+            last_number: 0,
+            is_pausing: false,
+            is_closing: false,
+            has_ended: false,
+            bounds,
+        })
+    }
+
+    /// How many there are.
+    pub(crate) fn count(&self) -> usize {
+        self.connections.len().saturating_add(self.over.len())
+    }
+
+    /// Whether the event loop has nothing to do.
+    pub(crate) fn is_empty(&self) -> bool {
+        self.connections.is_empty()
+    }
+
+    /// Whether there are as many as the port may have.
+    pub(crate) fn is_full(&self) -> bool {
+        self.count() >= self.bounds.connections
+    }
+
+    /// Whether responses take as much memory as they may.
+    pub(crate) fn is_held_up(&self) -> bool {
+        self.totals.response_bytes > self.bounds.response_bytes
+    }
+
+    /// Takes a connection in, which the event loop deals with from then on. Where that can't be had, it
+    /// is given back.
+    pub(crate) fn insert(
+        &mut self,
+        mut connection: PendingConnection,
+        watch: &Watch,
+    ) -> Result<(), PendingConnection> {
+        if self.has_ended || self.is_closing && connection.is_silent() {
+            return Err(connection);
+        }
+        self.last_number = self.last_number.saturating_add(1);
+        connection.set_number(self.last_number);
+        let (is_request, weight) = (connection.is_arriving(), connection.weight());
+        let key = match self.connections.insert(connection) {
+            Ok(key) => key,
+            Err(failed) => return Err(failed.value),
+        };
+        self.totals.add(is_request, weight);
+        if is_request {
+            self.totals.arriving = self.totals.arriving.saturating_add(1);
+        }
+        let is_watched = match self.connections.get(key) {
+            Some(connection) => connection.is_watched_by(&watch.set, key),
+            None => true,
+        };
+        if is_watched {
+            return Ok(());
+        }
+        match self.remove(key) {
+            Some(connection) => Err(connection),
+            None => Ok(()),
+        }
+    }
+
+    /// Takes a connection out.
+    fn remove(&mut self, key: usize) -> Option<PendingConnection> {
+        let connection = self.connections.try_remove(key)?;
+        let is_request = connection.is_arriving();
+        self.totals.remove(is_request, connection.weight());
+        if is_request {
+            self.totals.arriving = self.totals.arriving.saturating_sub(1);
+        }
+        Some(connection)
+    }
+
+    /// Deals with a connection that is ready. An event may come late, when the connection isn't there any
+    /// more.
+    pub(crate) fn attend(&mut self, key: usize, now: u64, watch: &Watch) {
+        let Some(connection) = self.connections.get_mut(key) else {
+            return;
+        };
+        let (is_request, before) = (connection.is_arriving(), connection.weight());
+        let is_over = connection.go_on(key, now, &watch.set);
+        let after = connection.weight();
+        self.totals.remove(is_request, before);
+        self.totals.add(is_request, after);
+        if is_over {
+            self.finish(key, watch);
+        }
+        self.regulate(now, watch);
+    }
+
+    /// Takes a connection out, and lets a worker have it where its request was awaited; else it is closed.
+    fn finish(&mut self, key: usize, watch: &Watch) {
+        let Some(connection) = self.remove(key) else {
+            return;
+        };
+        connection.forget(&watch.set);
+        let Some(request) = connection.into_over() else {
+            return;
+        };
+        let weight = request.weight();
+        match self.over.push_back(request) {
+            Ok(()) => self.totals.add(true, weight),
+            Err(_) => self.lost = self.lost.saturating_add(1),
+        }
+        watch.over.post();
+    }
+
+    /// Gives a worker a connection whose request is over.
+    pub(crate) fn take_over(&mut self, now: u64, watch: &Watch) -> Given {
+        if let Some(request) = self.over.pop_front() {
+            self.totals.remove(true, request.weight());
+            self.regulate(now, watch);
+            return Given::Request(request);
+        }
+        if self.lost != 0 {
+            self.lost = self.lost.saturating_sub(1);
+            return Given::Lost;
+        }
+        if self.totals.arriving == 0 {
+            Given::NoneLeft
+        } else {
+            Given::Nothing
+        }
+    }
+
+    /// Lets go a connection.
+    fn let_go(&mut self, key: usize, watch: &Watch) {
+        let Some(connection) = self.connections.get_mut(key) else {
+            return;
+        };
+        let (is_request, before) = (connection.is_arriving(), connection.weight());
+        connection.let_go();
+        let after = connection.weight();
+        self.totals.remove(is_request, before);
+        self.totals.add(is_request, after);
+        self.finish(key, watch);
+    }
+
+    /// Lets go each connection whose time is up, and slow ones while responses take too much memory.
+    pub(crate) fn sweep(&mut self, now: u64, watch: &Watch) {
+        for key in 0..self.connections.capacity() {
+            let is_late = match self.connections.get(key) {
+                Some(connection) => connection.is_late(now),
+                None => false,
+            };
+            if is_late {
+                self.let_go(key, watch);
+            }
+        }
+        self.free_responses(now, watch);
+        self.regulate(now, watch);
+    }
+
+    /// Where responses take too much memory, closes slow connections until three quarters are enough.
+    pub(crate) fn free_responses(&mut self, now: u64, watch: &Watch) {
+        if !self.is_held_up() {
+            return;
+        }
+        let enough = self.bounds.response_bytes / 4 * 3;
+        for _ in 0..self.connections.len() {
+            if self.totals.response_bytes <= enough {
+                return;
+            }
+            let Some(key) = self.slowest(now, Among::Responses) else {
+                return;
+            };
+            self.let_go(key, watch);
+        }
+    }
+
+    /// Lets go the slow connection that made no progress for the longest time, or where responses take too
+    /// much memory, the slow ones of them. Whether there is room then.
+    pub(crate) fn make_room(&mut self, now: u64, watch: &Watch) -> bool {
+        if self.is_held_up() {
+            self.free_responses(now, watch);
+            return !self.is_held_up();
+        }
+        match self.slowest(now, Among::All) {
+            Some(key) => {
+                self.let_go(key, watch);
+                true
+            }
+            None => false,
+        }
+    }
+
+    /// The slow connection that made no progress for the longest time.
+    fn slowest(&self, now: u64, among: Among) -> Option<usize> {
+        let mut slowest: Option<(usize, u64)> = None;
+        for (key, connection) in self.connections.iter() {
+            let moment = connection.last_progress();
+            let is_slower = match slowest {
+                Some((_, least)) => moment < least,
+                None => true,
+            };
+            if is_slower && among.has(connection) && connection.is_slow(now) {
+                slowest = Some((key, moment));
+            }
+        }
+        slowest.map(|(key, _moment)| key)
+    }
+
+    /// Has large requests paused while requests take too much memory, all but the oldest ones, so that
+    /// some come to their end. They go on once three quarters of the memory are enough.
+    fn regulate(&mut self, now: u64, watch: &Watch) {
+        let most = self.bounds.request_bytes;
+        let taken = self.totals.request_bytes;
+        if taken > most {
+            self.is_pausing = true;
+        }
+        if !self.is_pausing {
+            return;
+        }
+        if taken < most / 4 * 3 {
+            self.is_pausing = false;
+            self.read_up_to(u64::MAX, now, watch);
+        } else {
+            self.read_up_to(self.last_read_number(), now, watch);
+        }
+    }
+
+    /// The number of the last one of the oldest large requests.
+    fn last_read_number(&self) -> u64 {
+        let mut oldest = [u64::MAX; READ_UPLOADS];
+        for (_key, connection) in self.connections.iter() {
+            if connection.is_upload() {
+                put_in(&mut oldest, connection.number());
+            }
+        }
+        let mut last = 0u64;
+        for number in oldest {
+            last = last.max(number);
+        }
+        last
+    }
+
+    /// Has the large requests up to a number read, and the others paused.
+    fn read_up_to(&mut self, last: u64, now: u64, watch: &Watch) {
+        for key in 0..self.connections.capacity() {
+            if let Some(connection) = self.connections.get_mut(key)
+                && connection.is_upload()
+            {
+                let is_read = connection.number() <= last;
+                connection.set_read(is_read, key, now, &watch.set);
+            }
+        }
+    }
+
+    /// Shuts down: what has sent nothing is let go, now and from now on.
+    pub(crate) fn begin_closing(&mut self, watch: &Watch) {
+        self.is_closing = true;
+        for key in 0..self.connections.capacity() {
+            let is_silent = match self.connections.get(key) {
+                Some(connection) => connection.is_silent(),
+                None => false,
+            };
+            if is_silent {
+                self.let_go(key, watch);
+            }
+        }
+    }
+
+    /// Ends: each connection is let go, and none is taken in any more.
+    pub(crate) fn end(&mut self, watch: &Watch) {
+        self.has_ended = true;
+        for key in 0..self.connections.capacity() {
+            self.let_go(key, watch);
+        }
+    }
+}
+
+/// Of which connections one is sought.
+#[derive(Clone, Copy, PartialEq, Eq, Debug, Drop)]
+enum Among {
+    All,
+    Responses,
+}
+
+impl Among {
+    fn has(self, connection: &PendingConnection) -> bool {
+        match self {
+            Among::All => true,
+            Among::Responses => !connection.is_arriving(),
+        }
+    }
+}
+
+/// Puts a number among the least ones, of which the greatest is dropped.
+fn put_in(least: &mut [u64; READ_UPLOADS], number: u64) {
+    let mut next = number;
+    for place in least.iter_mut() {
+        if next < *place {
+            let dropped = *place;
+            *place = next;
+            next = dropped;
+        }
+    }
+}

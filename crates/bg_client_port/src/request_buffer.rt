@@ -1,0 +1,316 @@
+//! Requests that are arriving.
+ghost use Rattle.std.specs.Prelude.{IsTrue};
+ghost use Rattle.std.specs.Io.{ReadsAtMost};
+
+use crate::bodiless::is_bodiless;
+use crate::body_length::request_length;
+use crate::sockets::{receive_now, send_now};
+use bg_http_read::{RequestParser, RequestStep};
+use memchr::memchr;
+use std::alloc::Global;
+use std::io::{ErrorKind, Read};
+use std::net::TcpStream;
+use std::{io, mem};
+
+/// How many bytes the first read asks for, by how many a buffer grows at least, and how many bytes each
+/// further read asks for at most.
+const FIRST_PIECE: usize = 2048;
+
+const PIECE: usize = 16_384;
+
+/// How many reads may follow one another before other connections have their turn.
+const READS_A_TURN: u32 = 4;
+
+/// How many bytes of a request are buffered, as they came. Chunks may have lines of 1,024 bytes each, so
+/// a legal body of 1,048,576 bytes may take a thousand times as many; the worker reads what exceeds
+/// this.
+const MOST_BUFFERED: usize = 1 << 23;
+
+/// How a request came to be over.
+#[derive(Clone, Copy, PartialEq, Eq, Debug, Drop)]
+pub(crate) enum Ending {
+    /// It is whole, or has a fault: whatever follows changes nothing.
+    Decided,
+    /// The client ended its input before.
+    Ended,
+    /// Reading failed.
+    Failed,
+    /// The client took too long, or its connection had to make room for others.
+    LetGo,
+    /// It isn't over, and no more of it is buffered: the worker reads the rest.
+    Unbuffered,
+}
+
+/// A parser that may be fed.
+#[derive(Drop)]
+struct OpenParser {
+    parser: RequestParser,
+    ghost open: { IsTrue parser.is_open },
+}
+
+/// What comes of bytes that a parser was fed.
+#[derive(Drop)]
+enum Fed {
+    More(OpenParser),
+    OwesContinue(OpenParser),
+    Decided,
+}
+
+impl OpenParser {
+    fn new(alloc: Global) -> OpenParser {
+        OpenParser {
+            parser: RequestParser::new(alloc),
+        }
+    }
+
+    fn feed(self, bytes: &[u8]) -> Fed {
+        let OpenParser { mut parser } = self;
+        match parser.feed(bytes) {
+            Ok(RequestStep::More) => Fed::More(OpenParser { parser }),
+            Ok(RequestStep::Continue) => Fed::OwesContinue(OpenParser { parser }),
+            Ok(RequestStep::Whole(_)) | Err(_) => Fed::Decided,
+        }
+    }
+}
+
+/// How the end of a request is found.
+#[derive(Drop)]
+enum Extent {
+    /// Nothing was looked at.
+    Unknown,
+    /// By a parser.
+    Parsed(OpenParser),
+    /// By the count of its bytes.
+    Length(usize),
+}
+
+/// A request that is arriving, with its bytes as they came. It is parsed only to see where it ends;
+/// the worker that serves it reads it again from these bytes.
+#[derive(Drop)]
+pub(crate) struct RequestBuffer {
+    alloc: Global,
+    bytes: Vec<u8>,
+    extent: Extent,
+    /// Whether the client was written `100 Continue`.
+    was_continued: bool,
+    ending: Option<Ending>,
+}
+
+/// The bytes of a request that is over.
+#[derive(Drop)]
+pub(crate) struct BufferedRequest {
+    pub(crate) bytes: Vec<u8>,
+    /// Whether the client was written `100 Continue`.
+    pub(crate) was_continued: bool,
+    pub(crate) ending: Ending,
+}
+
+impl RequestBuffer {
+    /// Nothing came yet.
+    pub(crate) fn new(alloc: Global) -> RequestBuffer {
+        RequestBuffer {
+            alloc,
+            bytes: Vec::new(alloc),
+            extent: Extent::Unknown,
+            was_continued: false,
+            ending: None,
+        }
+    }
+
+    /// Whether the request is over, or the rest of it is left to the worker.
+    pub(crate) fn is_over(&self) -> bool {
+        self.ending.is_some()
+    }
+
+    /// How many bytes came.
+    pub(crate) fn len(&self) -> usize {
+        self.bytes.len()
+    }
+
+    /// How much memory it takes at most, with what the parser keeps of a body, whose room doubles.
+    pub(crate) fn weight(&self) -> usize {
+        let room = self.bytes.capacity();
+        match self.extent {
+            Extent::Parsed(_) => room.saturating_add(self.bytes.len().saturating_mul(2)),
+            Extent::Unknown | Extent::Length(_) => room,
+        }
+    }
+
+    /// Awaits no more, and keeps nothing of what came.
+    pub(crate) fn let_go(&mut self) {
+        self.bytes.clear();
+        self.bytes.shrink_to_fit();
+        self.extent = Extent::Unknown;
+        self.ending = Some(Ending::LetGo);
+    }
+
+    /// What came. What is still arriving counts as let go.
+    pub(crate) fn into_buffered(self) -> BufferedRequest {
+        let RequestBuffer {
+            bytes,
+            was_continued,
+            ending,
+            ..
+        } = self;
+        BufferedRequest {
+            bytes,
+            was_continued,
+            ending: ending.unwrap_or(Ending::LetGo),
+        }
+    }
+
+    /// Makes the first read, which waits as the stream does.
+    pub(crate) fn read_first(&mut self, stream: &TcpStream) {
+        self.read_piece(stream, FIRST_PIECE, Manner::Waits);
+    }
+
+    /// Reads what is there, as much as its turn allows.
+    pub(crate) fn read_on(&mut self, stream: &TcpStream) {
+        for _ in 0..READS_A_TURN {
+            let may_bring_more = self.read_piece(stream, PIECE, Manner::AtOnce);
+            if !may_bring_more || self.is_over() {
+                return;
+            }
+        }
+    }
+
+    /// Makes one read, behind the bytes that came. Whether another may bring more.
+    fn read_piece(&mut self, stream: &TcpStream, most: usize, manner: Manner) -> bool {
+        let start = self.bytes.len();
+        let room = self.make_room(most);
+        if room == 0 || self.bytes.resize(start.saturating_add(room), 0).is_err() {
+            self.leave_rest();
+            return false;
+        }
+        let outcome = read_by(stream, &mut self.bytes[start..], manner);
+        let count = match &outcome {
+            Ok(count) => *count,
+            Err(_) => 0,
+        };
+        self.bytes.truncate(start.saturating_add(count));
+        match outcome {
+            Ok(0) => self.ending = Some(Ending::Ended),
+            Ok(_) => self.look(start, stream),
+            Err(error) => match error.kind() {
+                ErrorKind::WouldBlock => return false,
+                ErrorKind::Interrupted => {}
+                _ => self.ending = Some(Ending::Failed),
+            },
+        }
+        true
+    }
+
+    /// Makes room for some bytes, for so many at most, and says for how many. There is none where memory
+    /// is refused.
+    fn make_room(&mut self, most: usize) -> usize {
+        let count = self.bytes.len();
+        if self.bytes.capacity() <= count {
+            let growth = match self.extent {
+                Extent::Length(length) => length.saturating_sub(count).min(count),
+                Extent::Unknown | Extent::Parsed(_) => count,
+            };
+            let growth = growth.max(FIRST_PIECE);
+            if self.bytes.reserve_exact(growth).is_err() {
+                return 0;
+            }
+        }
+        self.bytes.capacity().saturating_sub(count).min(most)
+    }
+
+    /// Leaves the rest to the worker.
+    fn leave_rest(&mut self) {
+        self.extent = Extent::Unknown;
+        self.ending = Some(Ending::Unbuffered);
+    }
+
+    /// Looks at the bytes that came from a place on.
+    fn look(&mut self, start: usize, stream: &TcpStream) {
+        if start == 0 && is_bodiless(&self.bytes) {
+            self.ending = Some(Ending::Decided);
+            return;
+        }
+        match mem::replace(&mut self.extent, Extent::Unknown) {
+            Extent::Length(length) => self.await_length(length),
+            Extent::Parsed(parser) => self.parse(parser, start, stream),
+            Extent::Unknown => self.parse(OpenParser::new(self.alloc), start, stream),
+        }
+        if !self.is_over() && self.bytes.len() > MOST_BUFFERED {
+            self.leave_rest();
+        }
+    }
+
+    /// The bytes that came from a place on.
+    fn bytes_from(&self, start: usize) -> &[u8] {
+        match self.bytes.as_slice().get(start..) {
+            Some(bytes) => bytes,
+            None => &[],
+        }
+    }
+
+    /// Goes on up to so many bytes in all.
+    fn await_length(&mut self, length: usize) {
+        if self.bytes.len() >= length {
+            self.ending = Some(Ending::Decided);
+        } else {
+            self.extent = Extent::Length(length);
+        }
+    }
+
+    /// Feeds the parser, and writes `100 Continue` where it is owed before the body is looked at.
+    fn parse(&mut self, parser: OpenParser, start: usize, stream: &TcpStream) {
+        let fed = match parser.feed(self.bytes_from(start)) {
+            Fed::OwesContinue(parser) => {
+                self.was_continued = send_continue(stream);
+                if self.was_continued {
+                    parser.feed(&[])
+                } else {
+                    // the worker finds that it can't be written
+                    Fed::Decided
+                }
+            }
+            fed => fed,
+        };
+        match fed {
+            Fed::More(parser) | Fed::OwesContinue(parser) => self.go_on(parser, start),
+            Fed::Decided => self.ending = Some(Ending::Decided),
+        }
+    }
+
+    /// Goes on with a request that isn't over. Where its head, which has no fault, has come and tells its
+    /// length, the parser isn't needed any more.
+    fn go_on(&mut self, parser: OpenParser, start: usize) {
+        if memchr(b'\n', self.bytes_from(start)).is_some()
+            && let Some(length) = request_length(&self.bytes)
+        {
+            self.await_length(length);
+            return;
+        }
+        self.extent = Extent::Parsed(parser);
+    }
+}
+
+/// Whether a read waits as the stream does, or not at all.
+#[derive(Clone, Copy, PartialEq, Eq, Debug, Drop)]
+enum Manner {
+    Waits,
+    AtOnce,
+}
+
+fn read_by(stream: &TcpStream, buf: &mut [u8], manner: Manner) -> io::Result<usize>
+    ensures { ReadsAtMost result buf.new }
+{
+    let mut reader = stream;
+    match manner {
+        Manner::Waits => reader.read(buf),
+        Manner::AtOnce => receive_now(stream, buf),
+    }
+}
+
+/// Writes `100 Continue` whole, without waiting. Whether it was.
+fn send_continue(stream: &TcpStream) -> bool {
+    let text = b"HTTP/1.1 100 Continue\r\n\r\n";
+    match send_now(stream, text) {
+        Ok(count) => count == text.len(),
+        Err(_) => false,
+    }
+}

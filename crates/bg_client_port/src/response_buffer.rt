@@ -1,0 +1,133 @@
+//! Responses that their clients still take, and connections that are closed without a reset.
+
+use crate::sockets::{is_drained, receive_now, send_now};
+use crate::wait_sets::Interest;
+use std::io;
+use std::io::ErrorKind;
+use std::net::{Shutdown, TcpStream};
+
+/// How many bytes a client may still send once it was answered.
+const MOST_PASSED_OVER: usize = 1 << 24;
+
+/// How many writes, and how many reads, may follow one another before other connections have their turn.
+const CALLS_A_TURN: u32 = 16;
+
+/// How many bytes are passed over at once.
+const PIECE: usize = 16_384;
+
+/// How a turn ends.
+#[derive(Clone, Copy, PartialEq, Eq, Debug, Drop)]
+pub(crate) enum Turn {
+    /// The connection waits.
+    Waits(Interest),
+    /// The connection is to be closed.
+    Over,
+}
+
+/// What is left of a response, and the closing of its connection: once the response is written, and
+/// where bytes of the client are unread or more may come of its request, the writing side is shut
+/// first, and what the client still sends is passed over for a while. A socket that is closed with
+/// bytes unread resets the connection, and the client may lose its response (RFC 9112 section 9.6;
+/// nginx calls it `lingering_close`).
+#[derive(Drop)]
+pub(crate) struct ResponseBuffer {
+    response: Vec<u8>,
+    /// How many bytes of the response were written.
+    written: usize,
+    /// Whether the request was read whole; else the client may still be sending it.
+    was_whole: bool,
+    /// Whether the writing side is shut.
+    is_shut: bool,
+    /// How many bytes were passed over.
+    passed: usize,
+}
+
+impl ResponseBuffer {
+    /// So much of a response is left.
+    pub(crate) fn new(response: Vec<u8>, was_whole: bool) -> ResponseBuffer {
+        ResponseBuffer {
+            response,
+            written: 0,
+            was_whole,
+            is_shut: false,
+            passed: 0,
+        }
+    }
+
+    /// How much memory it takes.
+    pub(crate) fn weight(&self) -> usize {
+        self.response.capacity()
+    }
+
+    /// How many bytes were moved in all: written or passed over.
+    pub(crate) fn moved(&self) -> usize {
+        self.written.saturating_add(self.passed)
+    }
+
+    /// Whether the response was written and the writing side is shut.
+    pub(crate) fn is_shut(&self) -> bool {
+        self.is_shut
+    }
+
+    /// Goes on as far as it can without waiting, and as its turn allows.
+    pub(crate) fn go_on(&mut self, stream: &TcpStream) -> Turn {
+        match self.write_on(stream) {
+            Ok(true) => {}
+            Ok(false) => return Turn::Waits(Interest::Output),
+            Err(_) => return Turn::Over,
+        }
+        if !self.is_shut {
+            if self.was_whole && is_drained(stream) || stream.shutdown(Shutdown::Write).is_err() {
+                return Turn::Over;
+            }
+            self.is_shut = true;
+        }
+        self.pass_over(stream)
+    }
+
+    /// What is still to be written.
+    fn rest(&self) -> &[u8] {
+        match self.response.as_slice().get(self.written..) {
+            Some(rest) => rest,
+            None => &[],
+        }
+    }
+
+    /// Writes what the client takes. Whether the response is written.
+    fn write_on(&mut self, stream: &TcpStream) -> io::Result<bool> {
+        for _ in 0..CALLS_A_TURN {
+            if self.rest().is_empty() {
+                return Ok(true);
+            }
+            match send_now(stream, self.rest()) {
+                Ok(count) => self.written = self.written.saturating_add(count),
+                Err(error) => match error.kind() {
+                    ErrorKind::WouldBlock => return Ok(false),
+                    ErrorKind::Interrupted => {}
+                    _ => return Err(error),
+                },
+            }
+        }
+        Ok(self.rest().is_empty())
+    }
+
+    /// Passes over what still comes, up to the bound.
+    fn pass_over(&mut self, stream: &TcpStream) -> Turn {
+        let mut piece = [0u8; PIECE];
+        for _ in 0..CALLS_A_TURN {
+            match receive_now(stream, &mut piece) {
+                Ok(0) => return Turn::Over,
+                Ok(count) => self.passed = self.passed.saturating_add(count),
+                Err(error) => match error.kind() {
+                    ErrorKind::WouldBlock => return Turn::Waits(Interest::Input),
+                    ErrorKind::Interrupted => {}
+                    _ => return Turn::Over,
+                },
+            }
+            if self.passed >= MOST_PASSED_OVER {
+                return Turn::Over;
+            }
+        }
+        Turn::Waits(Interest::Input)
+    }
+}

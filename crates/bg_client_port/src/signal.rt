@@ -1,0 +1,55 @@
+//! Signals between the threads of a port.
+
+use crate::sockets::last_error;
+use libc::net::{EFD_CLOEXEC, EFD_NONBLOCK, POLLIN, eventfd, poll};
+use libc::types::pollfd;
+use os::FromRawFd;
+use std::io;
+use std::os::fd::{AsRawFd, OwnedFd, RawFd};
+
+/// Each read takes one of what was posted (`EFD_SEMAPHORE` of eventfd(2)).
+const SEMAPHORE: i32 = 1;
+
+/// A count of what was posted, which wait sets can watch: it is readable while it isn't 0.
+#[derive(Drop)]
+pub(crate) struct Signal {
+    counter: OwnedFd,
+}
+
+impl Signal {
+    /// Nothing was posted.
+    pub(crate) fn new() -> io::Result<Signal> {
+        let fd = eventfd(0, EFD_CLOEXEC | EFD_NONBLOCK | SEMAPHORE);
+        if fd < 0 {
+            return Err(last_error());
+        }
+        Ok(Signal {
+            counter: unsafe { OwnedFd::from_raw_fd(fd) },
+        })
+    }
+
+    /// The descriptor to be watched.
+    pub(crate) fn descriptor(&self) -> RawFd {
+        self.counter.as_raw_fd()
+    }
+
+    /// Adds one. It ends the wait of one thread that watches, or of its next one.
+    pub(crate) fn post(&self) {
+        libc::write(self.counter.as_raw_fd(), &1u64.to_ne_bytes());
+    }
+
+    /// Takes one, where there is one.
+    pub(crate) fn take(&self) {
+        libc::read(self.counter.as_raw_fd(), &mut [0u8; 8]);
+    }
+
+    /// Waits until there is one, for so many milliseconds at most.
+    pub(crate) fn wait(&self, millis: i32) {
+        let mut asked = [pollfd {
+            fd: self.counter.as_raw_fd(),
+            events: POLLIN,
+            revents: 0,
+        }];
+        poll(&mut asked, millis);
+    }
+}

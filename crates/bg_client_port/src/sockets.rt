@@ -1,0 +1,85 @@
+//! Calls of sockets that never wait.
+ghost use Rattle.std.specs.Prelude.{◌≤◌, IfOk};
+ghost use Rattle.std.specs.Io.{ReadsAtMost, WritesAtMost};
+
+use libc::net::{
+    MSG_DONTWAIT, MSG_NOSIGNAL, MSG_PEEK, POLLERR, POLLHUP, POLLRDHUP, poll, recv, send,
+};
+use libc::types::pollfd;
+use os::errno;
+use std::io;
+use std::net::TcpStream;
+use std::os::fd::AsRawFd;
+
+/// The error of the system call that failed just now.
+pub(crate) fn last_error() -> io::Error {
+    io::Error::from_raw_os_error(errno())
+}
+
+/// How many bytes a call moved, of so many; a negative count says that it failed.
+fn moved(count: isize, most: usize) -> io::Result<usize>
+    ensures { IfOk result (λ moved. moved ≤ most) }
+{
+    if count < 0 {
+        return Err(last_error());
+    }
+    Ok((count as usize).min(most))
+}
+
+/// Reads what is there. Where nothing is, the error is WouldBlock.
+pub(crate) fn receive_now(stream: &TcpStream, buf: &mut [u8]) -> io::Result<usize>
+    ensures { ReadsAtMost result buf.new }
+{
+    let most = buf.len();
+    let count = unsafe { recv(stream.as_raw_fd(), buf, MSG_DONTWAIT) };
+    moved(count, most)
+}
+
+/// Writes what the system takes at once. Where it takes nothing, the error is WouldBlock.
+pub(crate) fn send_now(stream: &TcpStream, bytes: &[u8]) -> io::Result<usize>
+    ensures { WritesAtMost result bytes.now }
+{
+    let count = unsafe { send(stream.as_raw_fd(), bytes, MSG_NOSIGNAL | MSG_DONTWAIT) };
+    moved(count, bytes.len())
+}
+
+/// Whether no byte is unread, or the input has ended.
+pub(crate) fn is_drained(stream: &TcpStream) -> bool {
+    let flags = MSG_PEEK | MSG_DONTWAIT;
+    let count = unsafe { recv(stream.as_raw_fd(), &mut [0u8], flags) };
+    match moved(count, 1) {
+        Ok(count) => count == 0,
+        Err(error) => error.kind() == io::ErrorKind::WouldBlock,
+    }
+}
+
+/// What the system knows of the other end of a connection.
+#[derive(Clone, Copy, PartialEq, Eq, Debug, Drop)]
+pub(crate) enum OtherEnd {
+    /// It may still send.
+    Open,
+    /// It ended its input: it shut its writing side, or closed the connection.
+    Ended,
+    /// It reset the connection.
+    Reset,
+}
+
+/// What the system knows of the other end. A call that fails tells nothing.
+pub(crate) fn other_end(stream: &TcpStream) -> OtherEnd {
+    let mut asked = [pollfd {
+        fd: stream.as_raw_fd(),
+        events: POLLRDHUP,
+        revents: 0,
+    }];
+    if poll(&mut asked, 0) < 1 {
+        return OtherEnd::Open;
+    }
+    let [told] = asked;
+    if told.revents & (POLLERR | POLLHUP) != 0 {
+        OtherEnd::Reset
+    } else if told.revents & POLLRDHUP != 0 {
+        OtherEnd::Ended
+    } else {
+        OtherEnd::Open
+    }
+}

@@ -1,0 +1,3 @@
+pub mod OwnPorts
+pub mod Addresses
+pub mod Silence

@@ -1,0 +1,24 @@
+//! The ports at which the switch itself listens.
+ghost use Rattle.std.specs.Prelude.{◌≡◌};
+ghost use Rattle.bg_endpoints.specs.OwnPorts.{is_own};
+
+/// The ports at which the switch itself listens. A request that went to one of them would come back
+/// to the switch.
+#[derive(Clone, Copy, Debug, Drop, PartialEq, Eq)]
+pub struct OwnPorts {
+    /// The port of the active service.
+    pub active: u16,
+    /// The port of the preview service, where there is one.
+    pub preview: Option<u16>,
+    /// The control port.
+    pub control: u16,
+}
+
+impl OwnPorts {
+    /// Whether a port is one of the switch's own.
+    pub fn is_own(&self, port: u16) -> bool
+        ensures { result ≡ is_own self.now port }
+    {
+        port == self.active || port == self.control || self.preview == Some(port)
+    }
+}
