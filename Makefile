@@ -1,5 +1,6 @@
 # check: for the working day.  build: proves and builds the program.  test: the gate.  demo: the examples.  demo-live: a
-# rollout under traffic.  bench: times.  NAME: proves and builds the library NAME and what it stands on.
+# rollout under traffic.  bench: times.  tools: one file of the Python tools.  lint, test-tools: judge and test them.  NAME:
+# proves and builds the library NAME and what it stands on.
 CRATES := $(shell sed -n 's/^\([a-z_]*\)[^:]*:.*/\1/p' crates.txt)
 LIBRARIES := $(foreach crate,$(CRATES),$(if $(wildcard crates/$(crate)/src/lib.rt),$(crate)))
 # The libraries that a crate stands on, by its line of crates.txt.
@@ -8,19 +9,19 @@ below = $(filter $(LIBRARIES),$(shell sed -n 's/^$(1)\( [^:]*\)*: *//p' crates.t
 # costs a sixth more processor time.
 CHECKS := $(shell count=$$(nproc); [ $$count -lt 3 ] || count=3; echo $$count)
 BENCHES := $(filter-out bench/run.sh,$(wildcard bench/*.sh))
+PYTHON := $(shell git ls-files '*.py')
+ARCHIVE := out/bg_switch_tools.pyz
 
-.PHONY: check build libraries test demo demo-live bench $(LIBRARIES)
+.PHONY: check build test lint tools test-tools demo demo-live bench $(LIBRARIES)
 
 check:
 	rt all check
 	scripts/whole_program.sh
 
+# One command checks all crates, so that none waits for a lock: rt lib locks its crate and all below it.
 build:
-	$(MAKE) --no-print-directory -j $(shell nproc) libraries
+	cd crates/bg_switch && rt all check --jobs $(shell nproc)
 	cd crates/bg_switch && rt run -- check < ../../examples/direct.json > /dev/null
-
-# What the program stands on, as much side by side as there are processors.
-libraries: $(call below,bg_switch)
 
 $(foreach crate,$(LIBRARIES),$(eval $(crate): $(call below,$(crate))))
 
@@ -28,10 +29,26 @@ $(LIBRARIES):
 	cd crates/$@ && rt lib
 
 test:
-	RT_JOBS=$(CHECKS) rt ci
+	python3 -m unittest -q scripts/test_gate_cost.py
+	RT_JOBS=$(CHECKS) scripts/gate_cost.py rt ci
+	$(MAKE) --no-print-directory test-tools
 	scripts/whole_program.sh
 	scripts/live.sh
 	scripts/refused_memory.sh
+
+lint:
+	@command -v mypy > /dev/null || { echo 'lint needs mypy: apt-get install mypy, or pip install mypy' >&2; exit 1; }
+	MYPYPATH=lib:scripts mypy --strict --cache-dir out/mypy $(PYTHON)
+
+# They need no switch: a thread answers at a control port of its own.
+test-tools:
+	PYTHONPATH=lib python3 -B -m tests
+
+tools:
+	@mkdir -p out
+	@find lib -name __pycache__ -prune -exec rm -rf {} +
+	@python3 -m zipapp lib --python '/usr/bin/env python3' --output $(ARCHIVE)
+	@echo 'the tools are one file now, $(ARCHIVE): $(ARCHIVE) operator 8082 status, $(ARCHIVE) controller PLAN.json'
 
 demo: build
 	bin/bg_switch check < examples/direct.json

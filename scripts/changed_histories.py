@@ -8,7 +8,8 @@ They are slow, keep no state, and share nothing with `audit`. What is written is
 import pathlib
 import random
 import re
-from typing import NamedTuple
+from collections.abc import Callable, Sequence
+from typing import Literal, NamedTuple, TypeAlias, TypeVar
 
 ROOT = pathlib.Path(__file__).resolve().parent.parent
 SCRIPTS = ROOT / "crates/bg_tests/src/desk/scripts.rt"
@@ -16,7 +17,6 @@ TABLE = ROOT / "crates/bg_tests/src/history/changed.rt"
 CHANGES = 200
 SEED = 2026
 SEATS = 4
-OPENING = ("v1", ("9001", "9002"))
 LATEST_MOMENT = 2**53
 
 # ---- the strategy of a script
@@ -36,171 +36,264 @@ class Strategy(NamedTuple):
     history_limit: int
 
 
-def strategy_of(settings):
+def strategy_of(settings: str) -> Strategy:
     """What the settings beside the active service make of the strategy, for two replicas."""
 
-    def value(name, absent):
+    def value(name: str) -> str | None:
         found = re.search(rf'"{name}": ("[^"]*"|\w+|\{{)', settings)
-        return found.group(1) if found else absent
+        return found.group(1) if found else None
+
+    def number(name: str, absent: int) -> int:
+        found = value(name)
+        return absent if found is None else int(found)
 
     return Strategy(
         replicas=2,
-        preview_replicas=int(value("previewReplicaCount", 2)),
-        has_preview=value("previewService", None) is not None,
-        auto=value("autoPromotionEnabled", "true") == "true",
-        seconds=int(value("autoPromotionSeconds", 0)),
-        pre=value("prePromotionAnalysis", None) is not None,
-        post=value("postPromotionAnalysis", None) is not None,
-        delay=int(value("scaleDownDelaySeconds", 30)),
-        revision_limit=None if value("scaleDownDelayRevisionLimit", None) is None else int(value("scaleDownDelayRevisionLimit", 0)),
-        abort_delay=int(value("abortScaleDownDelaySeconds", 30)),
-        history_limit=int(value("revisionHistoryLimit", 10)),
+        preview_replicas=number("previewReplicaCount", 2),
+        has_preview=value("previewService") is not None,
+        auto=value("autoPromotionEnabled") in (None, "true"),
+        seconds=number("autoPromotionSeconds", 0),
+        pre=value("prePromotionAnalysis") is not None,
+        post=value("postPromotionAnalysis") is not None,
+        delay=number("scaleDownDelaySeconds", 30),
+        revision_limit=None if value("scaleDownDelayRevisionLimit") is None else number("scaleDownDelayRevisionLimit", 0),
+        abort_delay=number("abortScaleDownDelaySeconds", 30),
+        history_limit=number("revisionHistoryLimit", 10),
     )
 
 
-# ---- the definitions; an entry is a tuple of its word and what follows it, a history a tuple of entries
+# ---- entries; each is a tuple of its word and what follows it
+
+Analysis: TypeAlias = Literal["pre", "post"]
+Result: TypeAlias = Literal["successful", "failed", "error"]
+Service: TypeAlias = Literal["active", "preview"]
+OrderWord: TypeAlias = Literal["promote", "promote_full", "abort", "retry"]
+StepWord: TypeAlias = Literal["ready", "resumed", "switched", "promoted"]
+CleanupWord: TypeAlias = Literal["scaled_down", "removed"]
+
+ANALYSES: tuple[Analysis, ...] = ("pre", "post")
+RESULTS: tuple[Result, ...] = ("successful", "failed", "error")
+SERVICES: tuple[Service, ...] = ("active", "preview")
+ORDERS: tuple[OrderWord, ...] = ("promote", "promote_full", "abort", "retry")
+STEPS: tuple[StepWord, ...] = ("ready", "resumed", "switched", "promoted")
+CLEANUPS: tuple[CleanupWord, ...] = ("scaled_down", "removed")
 
 
-def last(entries, *words):
-    """The place of the last entry with one of these words."""
-    places = [place for place, entry in enumerate(entries) if entry[0] in words]
-    return places[-1] if places else None
+class Tick(NamedTuple):
+    word: Literal["tick"]
+    moment: int
 
 
-def is_failing(entry):
-    return entry[0] == "verdict" and entry[2] in ("failed", "error")
+class Deploy(NamedTuple):
+    word: Literal["deploy"]
+    revision: int
+    name: str
+    ports: tuple[str, ...]
 
 
-def stops(entry):
-    return entry[0] == "abort" or is_failing(entry)
+class Available(NamedTuple):
+    word: Literal["available"]
+    revision: int
+    size: int
 
 
-def is_turn(entry):
-    return entry[0] in ("deploy", "retry", "promoted") or stops(entry)
+class Verdict(NamedTuple):
+    word: Literal["verdict"]
+    analysis: Analysis
+    result: Result
 
 
-def moment(h):
-    place = last(h, "tick")
-    return 0 if place is None else h[place][1]
+class Order(NamedTuple):
+    word: OrderWord
 
 
-def stable(h):
-    place = last(h, "promoted")
-    return 1 if place is None else h[place][1]
+class Enter(NamedTuple):
+    word: Literal["enter"]
+    seat: int
+    service: Service
+    number: int
+    revision: int
+    port: str
 
 
-def newest(h):
-    place = last(h, "deploy")
-    return 1 if place is None else h[place][1]
+class Leave(NamedTuple):
+    word: Literal["leave"]
+    seat: int
+    number: int
+    revision: int
 
 
-def last_turn(h):
+class Outcome(NamedTuple):
+    word: StepWord | CleanupWord
+    revision: int
+
+
+Entry: TypeAlias = Tick | Deploy | Available | Verdict | Order | Enter | Leave | Outcome
+History: TypeAlias = tuple[Entry, ...]
+# An entry, and the history before it.
+Placed: TypeAlias = tuple[Entry, History]
+
+
+class Template(NamedTuple):
+    name: str
+    ports: tuple[str, ...]
+
+
+OPENING = Template("v1", ("9001", "9002"))
+
+# ---- the definitions
+
+
+def is_failing(entry: Entry) -> bool:
+    return entry.word == "verdict" and entry.result in ("failed", "error")
+
+
+def stops(entry: Entry) -> bool:
+    return entry.word == "abort" or is_failing(entry)
+
+
+def is_turn(entry: Entry) -> bool:
+    return entry.word in ("deploy", "retry", "promoted") or stops(entry)
+
+
+def moment(h: History) -> int:
+    return next((e.moment for e in reversed(h) if e.word == "tick"), 0)
+
+
+def stable(h: History) -> int:
+    return next((e.revision for e in reversed(h) if e.word == "promoted"), 1)
+
+
+def newest(h: History) -> int:
+    return next((e.revision for e in reversed(h) if e.word == "deploy"), 1)
+
+
+def last_turn(h: History) -> int | None:
+    """The place of the last turn."""
     turns = [place for place, entry in enumerate(h) if is_turn(entry)]
     return turns[-1] if turns else None
 
 
-def is_running(h):
+def is_running(h: History) -> bool:
     turn = last_turn(h)
     if turn is None:
         return False
-    return h[turn][0] == "retry" or (h[turn][0] == "deploy" and h[turn][1] != stable(h[:turn]))
+    entry = h[turn]
+    return entry.word == "retry" or (entry.word == "deploy" and entry.revision != stable(h[:turn]))
 
 
-def is_halted(h):
+def is_halted(h: History) -> bool:
     turn = last_turn(h)
     return turn is not None and stops(h[turn])
 
 
-def attempt(h):
+def attempt(h: History) -> list[Placed]:
     """The entries after the last turn, each with the history before it; none where no attempt runs."""
-    return [(h[place], h[:place]) for place in range(last_turn(h) + 1, len(h))] if is_running(h) else []
+    turn = last_turn(h)
+    if turn is None or not is_running(h):
+        return []
+    return [(h[place], h[:place]) for place in range(turn + 1, len(h))]
 
 
-def stands(h, *entry):
-    """Whether an entry that begins so stands in the running attempt."""
-    return any(e[: len(entry)] == entry for e, _ in attempt(h))
+def stands(h: History, word: OrderWord | StepWord) -> bool:
+    """Whether an entry with this word stands in the running attempt."""
+    return any(e.word == word for e, _ in attempt(h))
 
 
-def preview(h):
+def preview(h: History) -> int:
     return newest(h) if is_running(h) else stable(h)
 
 
-def active(h):
+def active(h: History) -> int:
     for place in reversed(range(len(h))):
         entry, before = h[place], h[:place]
-        if entry[0] == "switched":
-            return entry[1]
-        if stops(entry) or (entry[0] == "deploy" and entry[1] == stable(before)):
+        if entry.word == "switched":
+            return entry.revision
+        if stops(entry) or (entry.word == "deploy" and entry.revision == stable(before)):
             return stable(before)
     return 1
 
 
-def selected(h):
+def selected(h: History) -> set[int]:
     return {active(h), preview(h), stable(h)}
 
 
-def revisions(h):
+def revisions(h: History) -> list[int]:
     """The numbers of the revisions that exist, ascending."""
     there = {1}
     for entry in h:
-        if entry[0] == "deploy":
-            there.add(entry[1])
-        if entry[0] == "removed":
-            there.discard(entry[1])
+        if entry.word == "deploy":
+            there.add(entry.revision)
+        if entry.word == "removed":
+            there.discard(entry.revision)
     return sorted(there)
 
 
-def template(h, r):
+def template(h: History, r: int) -> Template:
+    """The template of a revision that has been deployed, or of the first."""
     if r == 1:
         return OPENING
-    return next(((e[2], e[3:]) for e in h if e[0] == "deploy" and e[1] == r), None)
+    return next(Template(e.name, e.ports) for e in h if e.word == "deploy" and e.revision == r)
 
 
-def begins(entry, before, r):
-    if entry[0] == "retry":
+def greatest(h: History) -> int:
+    """The greatest number that a revision has had."""
+    return max([1] + [e.revision for e in h if e.word == "deploy"])
+
+
+def owner(h: History, name: str) -> int | None:
+    """The first of the existing revisions with this name."""
+    return next((r for r in revisions(h) if template(h, r).name == name), None)
+
+
+def begins(entry: Entry, before: History, r: int) -> bool:
+    if entry.word == "retry":
         return newest(before) == r
-    return entry[0] == "deploy" and entry[1] == r and stable(before) != r
+    return entry.word == "deploy" and entry.revision == r and stable(before) != r
 
 
-def since_scaled_down(h, r):
-    """The entries since the last scale-down of r, each with the history before it."""
-    downs = [place for place, entry in enumerate(h) if entry == ("scaled_down", r)]
+def since_scaled_down(h: History, r: int) -> tuple[bool, list[Placed]]:
+    """Whether r has been scaled down, and the entries since the last time, each with the history before it."""
+    downs = [place for place, entry in enumerate(h) if entry == Outcome("scaled_down", r)]
     first = downs[-1] + 1 if downs else 0
     return bool(downs), [(h[place], h[:place]) for place in range(first, len(h))]
 
 
-def desired(s, h, r):
+def desired(s: Strategy, h: History, r: int) -> int:
     was_down, rest = since_scaled_down(h, r)
     sizes = [0] if was_down or r != 1 else [s.replicas]
     for entry, before in rest:
         if begins(entry, before, r):
             sizes.append(s.preview_replicas)
-        if entry == ("resumed", r):
+        if entry == Outcome("resumed", r):
             sizes.append(s.replicas)
     return max(sizes)
 
 
-def available(h, r):
+def available(h: History, r: int) -> int:
     _, rest = since_scaled_down(h, r)
-    sizes = [e[2] for e, _ in rest if e[0] == "available" and e[1] == r]
+    sizes = [e.size for e, _ in rest if e.word == "available" and e.revision == r]
     return sizes[-1] if sizes else 0
 
 
-def passed_at(s, h):
+def passed_at(s: Strategy, h: History) -> int | None:
     """The moment at which the running attempt passed: at its first Ready, or at the first success after one."""
     for entry, before in attempt(h):
-        if not s.pre and entry[0] == "ready":
+        if not s.pre and entry.word == "ready":
             return moment(before)
-        if s.pre and entry == ("verdict", "pre", "successful") and stands(before, "ready"):
+        if s.pre and entry == Verdict("verdict", "pre", "successful") and stands(before, "ready"):
             return moment(before)
     return None
 
 
-def needs_pause(s):
+def needs_pause(s: Strategy) -> bool:
     return not s.auto or s.seconds > 0
 
 
-def phase(s, h):
+Phase: TypeAlias = Literal["aborted", "steady", "scaling", "pre", "paused", "sizing", "post"]
+
+
+def phase(s: Strategy, h: History) -> Phase | None:
     if is_halted(h):
         return "aborted"
     if not is_running(h):
@@ -216,11 +309,11 @@ def phase(s, h):
     return "post" if s.post else None
 
 
-def may_be_ready(s, h):
+def may_be_ready(s: Strategy, h: History) -> bool:
     return is_running(h) and not stands(h, "ready") and available(h, newest(h)) >= s.preview_replicas
 
 
-def may_resume(s, h):
+def may_resume(s: Strategy, h: History) -> bool:
     if not is_running(h) or not stands(h, "ready") or stands(h, "resumed"):
         return False
     at = passed_at(s, h)
@@ -232,40 +325,47 @@ def may_resume(s, h):
     return not needs_pause(s) or stands(h, "promote") or waited
 
 
-def may_switch(s, h):
+def may_switch(s: Strategy, h: History) -> bool:
     return is_running(h) and stands(h, "resumed") and not stands(h, "switched") and available(h, newest(h)) == s.replicas
 
 
-def may_promote(s, h):
+def may_promote(s: Strategy, h: History) -> bool:
     if not is_running(h) or not stands(h, "switched"):
         return False
-    return not s.post or stands(h, "verdict", "post", "successful") or stands(h, "promote_full")
+    success = Verdict("verdict", "post", "successful")
+    return not s.post or any(e == success for e, _ in attempt(h)) or stands(h, "promote_full")
 
 
-def mark(s, h, r):
+class Mark(NamedTuple):
+    kind: Literal["left", "superseded", "aborted", "cleared"]
+    place: int
+    moment: int
+
+
+def mark(s: Strategy, h: History, r: int) -> Mark:
     """What last became of r, at which place and at which moment."""
     for place in reversed(range(len(h))):
         entry, before, after = h[place], h[:place], h[: place + 1]
         halts = stops(entry) and newest(before) == r
         if active(before) == r and active(after) != r and not halts:
-            return "left", place, moment(after)
-        if entry[0] == "deploy" and newest(before) == r and r not in (active(before), stable(before)):
+            return Mark("left", place, moment(after))
+        if entry.word == "deploy" and newest(before) == r and r not in (active(before), stable(before)):
             if desired(s, before, r) >= 1:
-                return "superseded", place, moment(after)
+                return Mark("superseded", place, moment(after))
         if halts and s.abort_delay > 0:
-            return "aborted", place, moment(after)
+            return Mark("aborted", place, moment(after))
         becomes_active = active(before) != r and active(after) == r
-        if begins(entry, before, r) or becomes_active or entry == ("scaled_down", r) or halts:
-            return "cleared", place, moment(after)
-    return "cleared", -1, 0
+        if begins(entry, before, r) or becomes_active or entry == Outcome("scaled_down", r) or halts:
+            return Mark("cleared", place, moment(after))
+    return Mark("cleared", -1, 0)
 
 
-def spare(s, h):
+def spare(s: Strategy, h: History) -> list[int]:
     """The existing scaled revisions that no service selects and that aren't stable."""
     return [r for r in revisions(h) if desired(s, h, r) >= 1 and r not in selected(h)]
 
 
-def is_due(s, h, r):
+def is_due(s: Strategy, h: History, r: int) -> bool:
     if r not in spare(s, h):
         return False
     kind, place, at = mark(s, h, r)
@@ -275,151 +375,187 @@ def is_due(s, h, r):
         return at <= moment(h)
     if kind == "aborted":
         return at + s.abort_delay <= moment(h)
-    later = [q for q in spare(s, h) if mark(s, h, q)[0] == "left" and mark(s, h, q)[1] > place]
+    later = [q for q in spare(s, h) if mark(s, h, q).kind == "left" and mark(s, h, q).place > place]
     return at + s.delay <= moment(h) or (s.revision_limit is not None and len(later) >= s.revision_limit)
 
 
-def open_requests(h):
+def open_requests(h: History) -> list[Enter]:
     """The Enter entries whose number no later Leave has."""
-    return [e for place, e in enumerate(h) if e[0] == "enter" and not any(l[0] == "leave" and l[2] == e[3] for l in h[place + 1 :])]
+
+    def has_left(number: int, after: History) -> bool:
+        return any(e.word == "leave" and e.number == number for e in after)
+
+    return [e for place, e in enumerate(h) if e.word == "enter" and not has_left(e.number, h[place + 1 :])]
 
 
-def held(h, seat):
-    return next((e for e in open_requests(h) if e[1] == seat), None)
+def held(h: History, seat: int) -> Enter | None:
+    return next((e for e in open_requests(h) if e.seat == seat), None)
 
 
-def may_scale_down(s, h, r):
-    return is_due(s, h, r) and not any(e[4] == r for e in open_requests(h))
+def may_scale_down(s: Strategy, h: History, r: int) -> bool:
+    return is_due(s, h, r) and not any(e.revision == r for e in open_requests(h))
 
 
-def may_remove(s, h, r):
+def may_remove(s: Strategy, h: History, r: int) -> bool:
     old = [q for q in revisions(h) if desired(s, h, q) == 0 and q not in selected(h) and q != newest(h)]
     return len(old) > s.history_limit and r == old[0]
 
 
-def numbers(h):
-    return [e[3] if e[0] == "enter" else e[2] for e in h if e[0] in ("enter", "leave")]
+def numbers(h: History) -> list[int]:
+    return [e.number for e in h if e.word == "enter" or e.word == "leave"]
 
 
-def is_label(name):
+def is_label(name: str) -> bool:
     return re.fullmatch(r"[a-z0-9]([-a-z0-9]{0,61}[a-z0-9])?", name) is not None
 
 
-def are_ports(s, ports):
+def are_ports(s: Strategy, ports: tuple[str, ...]) -> bool:
     return len(ports) == s.replicas == len(set(ports)) and all(1 <= int(port) <= 65535 for port in ports)
 
 
-def may_deploy(s, h, r, name, ports):
-    if not is_label(name) or not are_ports(s, ports) or template(h, newest(h)) == (name, ports):
+def may_deploy(s: Strategy, h: History, asked: Deploy) -> bool:
+    new = Template(asked.name, asked.ports)
+    if not is_label(new.name) or not are_ports(s, new.ports) or template(h, newest(h)) == new:
         return False
-    owners = [q for q in revisions(h) if template(h, q)[0] == name]
-    if owners:
-        return owners[0] == r and template(h, r)[1] == ports
-    greatest = max([1] + [e[1] for e in h if e[0] == "deploy"])
-    return r == greatest + 1 and len(revisions(h)) < 64
+    r = owner(h, new.name)
+    if r is not None:
+        return r == asked.revision and template(h, r).ports == new.ports
+    return asked.revision == greatest(h) + 1 and len(revisions(h)) < 64
 
 
-def selection(s, h, service):
+def selection(s: Strategy, h: History, service: Service) -> int | None:
     if service == "active":
         return active(h)
     return preview(h) if s.has_preview else None
 
 
-def port_of(h, r, number):
-    return template(h, r)[1][number % available(h, r)]
+def port_of(h: History, r: int, number: int) -> str:
+    return template(h, r).ports[number % available(h, r)]
 
 
-def may_enter(s, h, seat, service, number, r, port):
-    if seat >= SEATS or held(h, seat) is not None or selection(s, h, service) != r:
+def may_enter(s: Strategy, h: History, asked: Enter) -> bool:
+    r = asked.revision
+    if asked.seat >= SEATS or held(h, asked.seat) is not None or selection(s, h, asked.service) != r:
         return False
-    if available(h, r) < 1 or any(number <= n for n in numbers(h)):
+    if available(h, r) < 1 or any(asked.number <= n for n in numbers(h)):
         return False
-    return port_of(h, r, number) == port
+    return port_of(h, r, asked.number) == asked.port
 
 
-def is_allowed(s, h, entry):
-    word, rest = entry[0], entry[1:]
-    if word == "tick":
-        return moment(h) <= rest[0] <= LATEST_MOMENT
-    if word == "deploy":
-        return may_deploy(s, h, rest[0], rest[1], rest[2:])
-    if word == "available":
-        return rest[0] in revisions(h) and rest[1] <= desired(s, h, rest[0])
-    if word == "verdict":
-        return phase(s, h) == rest[0]
+def may_leave(h: History, asked: Leave) -> bool:
+    request = held(h, asked.seat)
+    return request is not None and (request.number, request.revision) == (asked.number, asked.revision)
+
+
+def may_order(s: Strategy, h: History, word: OrderWord) -> bool:
     if word == "promote":
         return phase(s, h) == "paused"
     if word == "promote_full":
         return is_running(h) and not stands(h, "promote_full")
-    if word == "abort":
-        return is_running(h)
-    if word == "retry":
-        return is_halted(h)
-    if word == "enter":
-        return may_enter(s, h, *rest)
-    if word == "leave":
-        request = held(h, rest[0])
-        return request is not None and (request[3], request[4]) == rest[1:]
-    if word == "scaled_down":
-        return may_scale_down(s, h, rest[0])
-    if word == "removed":
-        return may_remove(s, h, rest[0])
-    steps = {"ready": may_be_ready, "resumed": may_resume, "switched": may_switch, "promoted": may_promote}
-    return rest[0] == newest(h) and steps[word](s, h)
+    return is_running(h) if word == "abort" else is_halted(h)
 
 
-def first_outcome(s, h):
+def may_come(s: Strategy, h: History, outcome: Outcome) -> bool:
+    if outcome.word == "scaled_down":
+        return may_scale_down(s, h, outcome.revision)
+    if outcome.word == "removed":
+        return may_remove(s, h, outcome.revision)
+    steps: dict[StepWord, Callable[[Strategy, History], bool]] = {
+        "ready": may_be_ready, "resumed": may_resume, "switched": may_switch, "promoted": may_promote,
+    }
+    return outcome.revision == newest(h) and steps[outcome.word](s, h)
+
+
+def is_allowed(s: Strategy, h: History, entry: Entry) -> bool:
+    match entry:
+        case Tick():
+            return moment(h) <= entry.moment <= LATEST_MOMENT
+        case Deploy():
+            return may_deploy(s, h, entry)
+        case Available():
+            return entry.revision in revisions(h) and entry.size <= desired(s, h, entry.revision)
+        case Verdict():
+            return phase(s, h) == entry.analysis
+        case Order():
+            return may_order(s, h, entry.word)
+        case Enter():
+            return may_enter(s, h, entry)
+        case Leave():
+            return may_leave(h, entry)
+        case Outcome():
+            return may_come(s, h, entry)
+
+
+def first_outcome(s: Strategy, h: History) -> Outcome | None:
     """The first outcome that is allowed, if any."""
-    for word in ("ready", "resumed", "switched", "promoted"):
-        if is_allowed(s, h, (word, newest(h))):
-            return word, newest(h)
-    for word in ("scaled_down", "removed"):
-        for r in revisions(h):
-            if is_allowed(s, h, (word, r)):
-                return word, r
-    return None
+    steps = [Outcome(word, newest(h)) for word in STEPS]
+    cleanups = [Outcome(word, r) for word in CLEANUPS for r in revisions(h)]
+    return next((outcome for outcome in steps + cleanups if is_allowed(s, h, outcome)), None)
 
 
-def fault(s, h):
+def fault(s: Strategy, h: History) -> str | None:
     """Why the history isn't legal and settled; none where it is."""
     for place, entry in enumerate(h):
         if not is_allowed(s, h[:place], entry):
-            return entry[0]
-    given = sum(entry[0] == "enter" for entry in h)
+            return entry.word
+    given = sum(entry.word == "enter" for entry in h)
     if not all(1 <= n <= given for n in numbers(h)):
         return "numbers"
     outcome = first_outcome(s, h)
-    return None if outcome is None else f"pending {outcome[0]}"
+    return None if outcome is None else f"pending {outcome.word}"
 
 
 # ---- what a script gathers
 
+Word = TypeVar("Word", bound=str)
 
-def event_of(s, h, line):
+
+def one_of(known: tuple[Word, ...], word: str) -> Word:
+    """The known word that is written so; there must be one."""
+    return known[known.index(word)]
+
+
+def deploy_of(h: History, new: Template) -> Deploy:
+    r = owner(h, new.name)
+    return Deploy("deploy", greatest(h) + 1 if r is None else r, new.name, new.ports)
+
+
+def enter_of(s: Strategy, h: History, seat: int, service: Service) -> Enter | None:
+    r = selection(s, h, service)
+    if r is None or available(h, r) == 0:
+        return None
+    number = sum(e.word == "enter" for e in h) + 1
+    return Enter("enter", seat, service, number, r, port_of(h, r, number))
+
+
+def leave_of(h: History, seat: int) -> Leave | None:
+    request = held(h, seat)
+    return None if request is None else Leave("leave", seat, request.number, request.revision)
+
+
+def event_of(s: Strategy, h: History, line: str) -> Entry | None:
     """The entry that a line asks for, allowed or not; none where it asks for none."""
-    word, *rest = line.split()
-    if line == "promote full":
-        return ("promote_full",)
-    if word == "deploy":
-        owners = [r for r in revisions(h) if template(h, r)[0] == rest[0]]
-        number = owners[0] if owners else max([1] + [e[1] for e in h if e[0] == "deploy"]) + 1
-        return ("deploy", number, *rest)
-    if word == "enter":
-        seat, service = int(rest[0]), rest[1]
-        r = selection(s, h, service)
-        if r is None or available(h, r) == 0:
+    match line.split():
+        case ["report"]:
             return None
-        number = sum(e[0] == "enter" for e in h) + 1
-        return ("enter", seat, service, number, r, port_of(h, r, number))
-    if word == "leave":
-        request = held(h, int(rest[0]))
-        return request and ("leave", request[1], request[3], request[4])
-    if word in ("tick", "available"):
-        return (word, *map(int, rest))
-    return (word, *rest) if word != "report" else None
+        case ["promote", "full"]:
+            return Order("promote_full")
+        case ["deploy", name, *ports]:
+            return deploy_of(h, Template(name, tuple(ports)))
+        case ["enter", seat, service]:
+            return enter_of(s, h, int(seat), one_of(SERVICES, service))
+        case ["leave", seat]:
+            return leave_of(h, int(seat))
+        case ["tick", at]:
+            return Tick("tick", int(at))
+        case ["available", r, size]:
+            return Available("available", int(r), int(size))
+        case ["verdict", analysis, result]:
+            return Verdict("verdict", one_of(ANALYSES, analysis), one_of(RESULTS, result))
+    return Order(one_of(ORDERS, line))
 
 
-def step(s, h, event):
+def step(s: Strategy, h: History, event: Entry | None) -> History:
     """The history with the event, where it is allowed, and the outcomes that it allows."""
     if event is None or not is_allowed(s, h, event):
         return h
@@ -429,49 +565,93 @@ def step(s, h, event):
     return h
 
 
-def gathered(s, script):
+def gathered(s: Strategy, script: str) -> History:
     """The history of a script, at whose end each seat leaves."""
-    h = ()
+    h: History = ()
     for line in script.splitlines():
         h = step(s, h, event_of(s, h, line))
     for seat in range(SEATS):
-        h = step(s, h, event_of(s, h, f"leave {seat}"))
+        h = step(s, h, leave_of(h, seat))
     return h
 
 
 # ---- changes
 
 
-def near(number, chance):
+def parts_of(entry: Entry) -> list[str]:
+    """What follows the word of an entry on its line."""
+    if entry.word == "deploy":
+        return [str(entry.revision), entry.name, *entry.ports]
+    return [str(part) for part in entry[1:]]
+
+
+def text_of(entry: Entry) -> str:
+    return " ".join([entry.word, *parts_of(entry)])
+
+
+def near(number: int, chance: random.Random) -> int:
     return max(0, number + chance.choice((-1, 1)))
 
 
-def changed_entry(entry, chance):
+def one_near(given: Sequence[int], place: int, chance: random.Random) -> list[int]:
+    """The given numbers, with the one at this place changed by little."""
+    return [near(number, chance) if at == place else number for at, number in enumerate(given)]
+
+
+def changed_deploy(entry: Deploy, place: int, chance: random.Random) -> Deploy:
+    if place == 0:
+        return entry._replace(revision=near(entry.revision, chance))
+    if place == 1:
+        return entry._replace(name=chance.choice(("v1", "v2", "v3", "v4", "V4")))
+    ports = list(entry.ports)
+    ports[place - 2] = chance.choice(("9001", "9101", "9102", "9103", "0"))
+    return entry._replace(ports=tuple(ports))
+
+
+def changed_verdict(entry: Verdict, place: int, chance: random.Random) -> Verdict:
+    if place == 0:
+        return entry._replace(analysis=chance.choice(ANALYSES))
+    return entry._replace(result=chance.choice(RESULTS))
+
+
+def changed_enter(entry: Enter, place: int, chance: random.Random) -> Enter:
+    match place:
+        case 0:
+            return entry._replace(seat=near(entry.seat, chance))
+        case 1:
+            return entry._replace(service=chance.choice(SERVICES))
+        case 2:
+            return entry._replace(number=near(entry.number, chance))
+        case 3:
+            return entry._replace(revision=near(entry.revision, chance))
+    return entry._replace(port=chance.choice(("9001", "9002", "9101", "9102")))
+
+
+def changed_entry(entry: Entry, chance: random.Random) -> Entry:
     """The entry with one part changed, mostly by little."""
-    word, rest = entry[0], list(entry[1:])
-    outcomes = ("ready", "resumed", "switched", "promoted", "scaled_down", "removed")
-    if word in outcomes and chance.random() < 0.5:
-        return (chance.choice(outcomes), *rest)
-    if word in ("promote", "promote_full", "abort", "retry"):
-        return (chance.choice(("promote", "promote_full", "abort", "retry")),)
-    place = chance.randrange(len(rest))
-    part = rest[place]
-    if word == "verdict":
-        rest[place] = chance.choice(("pre", "post") if place == 0 else ("successful", "failed", "error"))
-    elif word == "deploy" and place == 1:
-        rest[place] = chance.choice(("v1", "v2", "v3", "v4", "V4"))
-    elif word == "deploy" and place > 1:
-        rest[place] = chance.choice(("9001", "9101", "9102", "9103", "0"))
-    elif part in ("active", "preview"):
-        rest[place] = chance.choice(("active", "preview"))
-    elif word == "enter" and place == 4:
-        rest[place] = chance.choice(("9001", "9002", "9101", "9102"))
-    else:
-        rest[place] = near(part, chance)
-    return (word, *rest)
+    if isinstance(entry, Outcome) and chance.random() < 0.5:
+        return entry._replace(word=chance.choice(STEPS + CLEANUPS))
+    if isinstance(entry, Order):
+        return Order(chance.choice(ORDERS))
+    place = chance.randrange(len(parts_of(entry)))
+    match entry:
+        case Tick():
+            return entry._replace(moment=near(entry.moment, chance))
+        case Deploy():
+            return changed_deploy(entry, place, chance)
+        case Available():
+            return Available(entry.word, *one_near([entry.revision, entry.size], place, chance))
+        case Verdict():
+            return changed_verdict(entry, place, chance)
+        case Enter():
+            return changed_enter(entry, place, chance)
+        case Leave():
+            return Leave(entry.word, *one_near([entry.seat, entry.number, entry.revision], place, chance))
+        case Outcome():
+            return entry._replace(revision=near(entry.revision, chance))
 
 
-def a_change(h, chance):
+def a_change(h: History, chance: random.Random) -> tuple[str, History]:
     """A change as a line of the table, and the history that it makes."""
     place = chance.randrange(len(h))
     kind = chance.choice(("drop", "double", "move", "change", "change"))
@@ -487,24 +667,51 @@ def a_change(h, chance):
     return f"change {place} {text_of(entry)}", h[:place] + (entry,) + h[place + 1 :]
 
 
-def text_of(entry):
-    return " ".join(str(part) for part in entry)
+# ---- the table
 
 
-def rows():
-    """The scripts that drop no entry, each by its place in the table of scripts, with its strategy's settings."""
+class Row(NamedTuple):
+    """A script, its place in the table of scripts, and its strategy's settings."""
+    place: int
+    settings: str
+    script: str
+
+
+class Change(NamedTuple):
+    """A change of the history of the script at a place in the table of scripts."""
+    row: int
+    line: str
+
+
+class Judged(NamedTuple):
+    """A change, and whether it leaves the history legal and settled."""
+    change: Change
+    is_good: bool
+
+
+def rows() -> list[Row]:
+    """The scripts that drop no entry."""
     source = SCRIPTS.read_text()
-    found = re.findall(r'^    \(\n        (?:r#)?"(.*?)"#?,\n        "(.*?)",\n    \),$', source, re.M | re.S)
+    found: list[tuple[str, str]] = re.findall(
+        r'^    \(\n        (?:r#)?"(.*?)"#?,\n        "(.*?)",\n    \),$', source, re.M | re.S)
     assert f"ROWS: [(&str, &str); {len(found)}]" in source
-    return [(place, settings, script) for place, (settings, script) in enumerate(found) if "compact" not in script]
+    return [Row(place, settings, script) for place, (settings, script) in enumerate(found) if "compact" not in script]
 
 
-def choose():
+def in_order(judged: Judged) -> tuple[int, str, list[int], str]:
+    """What the changes are sorted by: their script, their kind and the numbers of their line."""
+    row, line = judged.change
+    words = line.split()
+    return row, words[0], [int(word) if word.isdigit() else -1 for word in words], line
+
+
+def choose() -> tuple[dict[int, History], list[Judged]]:
     """For each script its place, its history and its changes. At least a third of the changes, where so many are found,
     leave the history legal and settled; the others are spread over what they break."""
     chance = random.Random(SEED)
-    histories = {}
-    by_fault = {}
+    histories: dict[int, History] = {}
+    good: list[Change] = []
+    by_fault: dict[str, list[Change]] = {}
     for place, settings, script in rows():
         s = strategy_of(settings)
         h = gathered(s, script)
@@ -516,24 +723,25 @@ def choose():
             if new in seen:
                 continue
             seen.add(new)
-            by_fault.setdefault(fault(s, new), []).append((place, line))
-    good = by_fault.pop(None)
+            why = fault(s, new)
+            found = good if why is None else by_fault.setdefault(why, [])
+            found.append(Change(place, line))
     chance.shuffle(good)
-    chosen = [(place, line, True) for place, line in good[: CHANGES * 2 // 5]]
+    chosen = [Judged(change, True) for change in good[: CHANGES * 2 // 5]]
     groups = [by_fault[name] for name in sorted(by_fault)]
     for group in groups:
         chance.shuffle(group)
     while len(chosen) < CHANGES:
         for group in [group for group in groups if group][: CHANGES - len(chosen)]:
-            chosen.append((*group.pop(), False))
-    return histories, sorted(chosen, key=lambda change: (change[0], change[1].split()[0], [int(word) if word.isdigit() else -1 for word in change[1].split()], change[1]))
+            chosen.append(Judged(group.pop(), False))
+    return histories, sorted(chosen, key=in_order)
 
 
-def main():
+def main() -> None:
     histories, changes = choose()
     parts = []
     for place, h in histories.items():
-        lines = [f"{'good' if is_good else 'bad'} {line}" for at, line, is_good in changes if at == place]
+        lines = [f"{'good' if is_good else 'bad'} {line}" for (row, line), is_good in changes if row == place]
         entries = "\n".join(text_of(entry) for entry in h)
         parts.append(f'    Changed {{\n        row: {place},\n        entries: "{entries}",\n        changes: "{chr(10).join(lines)}",\n    }},\n')
     TABLE.write_text(

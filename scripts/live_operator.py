@@ -1,67 +1,84 @@
 """bin/operator before a running `serve`: its exit statuses, several of them at once, an order that was given up, a prompt
 at a terminal, and the watcher."""
 import contextlib
-import faulthandler
 import fcntl
 import os
+import pathlib
 import pty
 import re
 import select
 import signal
 import subprocess
-import sys
 import termios
+import threading
 import time
+from collections.abc import Iterator
+from typing import NamedTuple
 
-import live
-from live import check, free_ports
+from support import TOP, checks
+from support.checks import check
+from support.messages import BY_HAND
+from support.operators import Operator
+from support.ports import free_port
+from support.switch import Switch
 
-sys.path.insert(0, os.path.join(os.path.dirname(os.path.abspath(__file__)), "..", "lib"))
+# isort: split; `support` tells where the tools' package is
+from bg_switch_tools.meanings import FAULTS, LINES, REFUSALS
 
-from operator_tool.meanings import FAULTS, LINES, REFUSALS  # noqa: E402 (its folder is known by now)
-
-OPERATOR = "bin/operator"
+OPERATOR = str(TOP / "bin" / "operator")
 WAIT = 20  # seconds for which anything is awaited
 MEANING = "the rollout isn't waiting for a promotion"
 
 
-def operator(switch, *words, lines=""):
+class Run(NamedTuple):
+    """What a run of bin/operator prints, its exit status, and what it tells on standard error."""
+    printed: str
+    status: int
+    told: str
+
+
+def run_operator(port: int, *words: str, lines: str = "") -> Run:
+    run = subprocess.run([OPERATOR, str(port), *words], input=lines, capture_output=True, text=True, timeout=WAIT, check=False)
+    return Run(run.stdout, run.returncode, run.stderr)
+
+
+def outcome(switch: Switch, *words: str, lines: str = "") -> tuple[str, int]:
     """What a run of bin/operator prints, and its exit status."""
-    run = subprocess.run([OPERATOR, str(switch.control), *words], input=lines, capture_output=True, text=True, timeout=WAIT)
-    return run.stdout, run.returncode, run.stderr
+    return run_operator(switch.control, *words, lines=lines)[:2]
 
 
-def outcome(switch, *words, lines=""):
-    return operator(switch, *words, lines=lines)[:2]
-
-
-def moment(switch):
+def moment(switch: Switch) -> str:
     return outcome(switch, "report")[0].split("\n")[0]
 
 
+def started(switch: Switch, *words: str) -> subprocess.Popen[str]:
+    """A run of bin/operator that goes on meanwhile."""
+    return subprocess.Popen([OPERATOR, str(switch.control), *words], stdin=subprocess.PIPE, stdout=subprocess.PIPE, text=True)
+
+
 @contextlib.contextmanager
-def serving():
-    """A switch, which is ended whatever happens."""
-    switch = live.Switch(live.ROLLOUT, workers=1, count=9)
+def closed_book() -> Iterator[Switch]:
+    """A switch whose book isn't open, which is ended whatever happens."""
+    switch = Switch(BY_HAND, count=9)
     try:
         yield switch
     finally:
-        switch.process.kill()
-        switch.process.wait(WAIT)
-        switch.process.stdout.close()
+        switch.kill()
 
 
-def statuses():
+def without_a_switch() -> None:
+    """Status 2 where there is no answer, or the words are wrong."""
+    nobody = run_operator(free_port(), "--wait", "0.3", "report")
+    check("no switch", (nobody.printed, nobody.status, "can't be reached" in nobody.told), ("", 2, True))
+    check("no port", run_operator(0)[:2], ("", 2))
+
+
+def statuses() -> None:
     """0 where every line was carried out, 1 where one was refused or faulty, 2 where there is no answer."""
-    [nobody] = free_ports(1)
-    run = subprocess.run([OPERATOR, "--wait", "0.3", str(nobody), "report"], capture_output=True, text=True, timeout=WAIT)
-    check("no switch", (run.stdout, run.returncode, "can't be reached" in run.stderr), ("", 2, True))
-    run = subprocess.run([OPERATOR, "0"], input="", capture_output=True, text=True, timeout=WAIT)
-    check("no port", (run.stdout, run.returncode), ("", 2))
-    with serving() as switch:
+    with closed_book() as switch:
         check("before a book", outcome(switch, "tick", "1"), ("refused NotOpen\n", 1))
         check("open", outcome(switch, "open", "one", "9"), ("ok 0\n", 0))
-        check("a refusal", operator(switch, "promote"), ("refused NotPaused\n", 1, f"operator: refused NotPaused: {MEANING}\n"))
+        check("a refusal", run_operator(switch.control, "promote"), ("refused NotPaused\n", 1, f"operator: refused NotPaused: {MEANING}\n"))
         check("a line of a replay", outcome(switch, "enter", "0", "active"), ("refused NotHere\n", 1))
         check("good lines", outcome(switch, lines="tick 1\n  available 1 1\ntick 2"), ("ok 0\nok 0\nok 0\n", 0))
         check("a report", (moment(switch), outcome(switch, "report")[0].endswith("\nend\n")), ("moment 2", True))
@@ -74,17 +91,36 @@ def statuses():
         check("after quit", outcome(switch, "--wait", "0.5", "report"), ("", 2))
 
 
-def given_up():
+class Holder:
+    """An operator who holds the control port: one line after the other, so that no other connection gets its turn."""
+
+    def __init__(self, switch: Switch) -> None:
+        self.operator = Operator(switch.control)
+        self.operator.check("open one 9", "ok 0")
+        self.is_over = threading.Event()
+        self.thread = threading.Thread(target=self.hold, daemon=True)
+        self.thread.start()
+
+    def hold(self) -> None:
+        while not self.is_over.wait(0.1):
+            self.operator.report()
+
+    def let_go(self) -> None:
+        self.is_over.set()
+        self.thread.join(WAIT)
+        self.operator.close()
+
+
+def given_up() -> None:
     """An order isn't carried out later where another operator held the port for too long."""
-    with serving() as switch:
-        holder = live.Operator(switch)
-        holder.check("open one 9", "ok 0")
+    with closed_book() as switch:
+        holder = Holder(switch)
         check("the port is held", outcome(switch, "--wait", "1", "tick", "50"), ("", 2))
         check("the port is held from lines", outcome(switch, "--wait", "0.5", lines="tick 51\ntick 52\n"), ("", 2))
         check("the port is held from a watcher", outcome(switch, "--wait", "0.5", "watch"), ("", 2))
-        waiting = subprocess.Popen([OPERATOR, str(switch.control), "tick", "7"], stdout=subprocess.PIPE, text=True)
+        waiting = started(switch, "tick", "7")
         time.sleep(0.5)
-        holder.close()
+        holder.let_go()
         check("an order that waited", (waiting.communicate(timeout=WAIT)[0], waiting.returncode), ("ok 0\n", 0))
         check("no order that was given up", moment(switch), "moment 7")
 
@@ -92,7 +128,7 @@ def given_up():
 class Terminal:
     """A run of bin/operator at a terminal."""
 
-    def __init__(self, switch, *words):
+    def __init__(self, switch: Switch, *words: str) -> None:
         self.end, other = pty.openpty()
         self.process = subprocess.Popen([OPERATOR, str(switch.control), *words], stdin=other, stdout=other, stderr=other,
                                         start_new_session=True, env={**os.environ, "TERM": "xterm"},
@@ -100,30 +136,37 @@ class Terminal:
         os.close(other)
         self.shown = ""
 
-    def type(self, text):
+    def type(self, text: str) -> None:
         os.write(self.end, text.encode())
 
-    def await_text(self, text):
+    def read(self) -> bool:
+        """Reads what is shown next, for a moment; whether the terminal is still there."""
+        if select.select([self.end], [], [], 0.1)[0]:
+            try:
+                self.shown += os.read(self.end, 65536).decode()
+            except OSError:
+                return False
+        return True
+
+    def await_text(self, text: str) -> bool:
         """Whether this comes in time, after what was awaited before."""
         latest = time.monotonic() + WAIT
-        while text not in self.shown and time.monotonic() < latest:
-            if select.select([self.end], [], [], 0.1)[0]:
-                try:
-                    self.shown += os.read(self.end, 65536).decode()
-                except OSError:
-                    break
-        before, found, self.shown = self.shown.rpartition(text) if text in self.shown else (self.shown, "", self.shown)
-        return found != "" and "Traceback" not in before
+        while text not in self.shown and time.monotonic() < latest and self.read():
+            pass
+        if text not in self.shown:
+            return False
+        before, _, self.shown = self.shown.rpartition(text)
+        return "Traceback" not in before
 
-    def status(self):
+    def status(self) -> int:
         status = self.process.wait(WAIT)
         os.close(self.end)
         return status
 
 
-def at_a_terminal():
+def at_a_prompt() -> None:
     """The prompt, what it says of a refusal, and how it ends."""
-    with serving() as switch:
+    with closed_book() as switch:
         terminal = Terminal(switch)
         check("a prompt", terminal.await_text(f"{switch.control}> "), True)
         terminal.type("help\n")
@@ -142,6 +185,11 @@ def at_a_terminal():
         check("a second prompt", terminal.await_text(f"{switch.control}> "), True)
         terminal.type("\x03")
         check("ctrl-C", terminal.status(), 0)
+
+
+def watcher_at_a_terminal() -> None:
+    with closed_book() as switch:
+        check("open before a watcher", outcome(switch, "open", "one", "9"), ("ok 0\n", 0))
         terminal = Terminal(switch, "watch")
         check("a screen that is cleared", terminal.await_text("\x1b[H\x1b[J"), True)
         check("the tree", terminal.await_text("└─ 1 one"), True)
@@ -149,15 +197,15 @@ def at_a_terminal():
         check("ctrl-C at the watcher", terminal.status(), 0)
 
 
-def side_by_side():
+def side_by_side() -> None:
     """Two operators and a watcher at once: each order is carried out, and the watcher sees what moves."""
-    with serving() as switch:
+    with closed_book() as switch:
         check("open", outcome(switch, "open", "one", "9"), ("ok 0\n", 0))
-        watcher = subprocess.Popen([OPERATOR, str(switch.control), "watch"], stdout=subprocess.PIPE, text=True)
+        watcher = started(switch, "watch")
         time.sleep(1)
-        lines = "".join(f"tick {second}\n" for second in range(1, 11))
-        ticking = subprocess.Popen([OPERATOR, str(switch.control)], stdin=subprocess.PIPE, stdout=subprocess.PIPE, text=True)
-        ticking.stdin.write(lines)
+        ticking = started(switch)
+        assert ticking.stdin is not None
+        ticking.stdin.write("".join(f"tick {second}\n" for second in range(1, 11)))
         ticking.stdin.close()
         ticking.stdin = None
         check("an order beside ticks", outcome(switch, "deploy", "two", "10"), ("ok 0\n", 0))
@@ -169,18 +217,22 @@ def side_by_side():
         watcher.send_signal(signal.SIGINT)
         text = watcher.communicate(timeout=WAIT)[0]
         check("the watcher's status", watcher.returncode, 0)
-        check("plain text", "\x1b" in text, False)
-        check("the first block", text.startswith("phase steady (no attempt runs)   moment 0\n"), True)
-        check("a deploy that was seen", bool(re.search(r"moment \d+: revision 2 two: deployed, desired 1\n", text)), True)
-        check("a switch that was seen", "moment 10: active: revision 1 one -> revision 2 two\n" in text, True)
-        check("a phase that was seen", "moment 10: phase: paused -> steady\n" in text, True)
-        check("the seconds to the deadline", bool(re.search(r"└─ 1 one +0 of 1 +0 +in 30 s\n", text)), True)
+        check_watched(text)
 
 
-def meanings():
+def check_watched(text: str) -> None:
+    """What a watcher has drawn beside a deploy, ticks and a promotion."""
+    check("plain text", "\x1b" in text, False)
+    check("the first block", text.startswith("phase steady (no attempt runs)   moment 0\n"), True)
+    check("a deploy that was seen", bool(re.search(r"moment \d+: revision 2 two: deployed, desired 1\n", text)), True)
+    check("a switch that was seen", "moment 10: active: revision 1 one -> revision 2 two\n" in text, True)
+    check("a phase that was seen", "moment 10: phase: paused -> steady\n" in text, True)
+    check("the seconds to the deadline", bool(re.search(r"└─ 1 one +0 of 1 +0 +in 30 s\n", text)), True)
+
+
+def meanings() -> None:
     """Each refusal and fault of docs/LINES.md has its meaning."""
-    with open("docs/LINES.md", encoding="utf-8") as file:
-        text = file.read()
+    text = pathlib.Path("docs/LINES.md").read_text(encoding="utf-8")
     told = text.split("What the refusals mean:")[1].split("\n## ")[0]
     names = {name for row in re.findall(r"^\| (.*?) \|", told, re.M) for name in re.findall(r"`(\w+)`", row)}
     check("refusals without a meaning", (sorted(names - set(REFUSALS)), len(names) > 20), ([], True))
@@ -188,22 +240,10 @@ def meanings():
     names = set(re.findall(r"^\| `(\w+)` \|", faults, re.M))
     check("faults without a meaning", sorted(names ^ set(FAULTS)), [])
     lines = set(re.findall(r"^\| `(\w+)", text.split("\n## The lines\n")[1].split("What the refusals mean:")[0], re.M))
-    check("lines of the help", sorted({line.split()[0] for line, _ in LINES} ^ (lines - {"enter", "leave"})), [])
-
-
-def main():
-    faulthandler.dump_traceback_later(110, exit=True)
-    # a shell's background job ignores interrupts, and so would all that it starts
-    signal.signal(signal.SIGINT, signal.default_int_handler)
-    statuses()
-    given_up()
-    at_a_terminal()
-    side_by_side()
-    meanings()
-    print(f"live_operator: {live.passed} passed, {live.failed} failed")
-    sys.exit(live.failed != 0)
+    check("lines of the help", sorted({line.form.split()[0] for line in LINES} ^ (lines - {"enter", "leave"})), [])
 
 
 if __name__ == "__main__":
-    os.chdir(os.path.join(os.path.dirname(os.path.abspath(__file__)), ".."))
-    main()
+    # a shell's background job ignores interrupts, and so would all that it starts
+    signal.signal(signal.SIGINT, signal.default_int_handler)
+    checks.run("live_operator", [without_a_switch, statuses, given_up, at_a_prompt, watcher_at_a_terminal, side_by_side, meanings], at_once=3)

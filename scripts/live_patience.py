@@ -223,7 +223,7 @@ def given_up():
 
 def limits_that_are_none():
     """What is no number from 1 to 60 leaves the limit as it is."""
-    for patience in ("0", "61", "-1", "4s", ""):
+    for patience in ("0", "3601", "-1", "4s", ""):
         switch = Switch(start_endpoint([ANSWER]), workers=1, count=1, patience=patience)
         answer, _ = switch.get([REQUEST[:9], REQUEST[9:]], 0.6)
         check(f"a limit of '{patience}'", answer.endswith(b"\r\n\r\nok"), True)

@@ -3,6 +3,8 @@
 # Watch it from another terminal with `bin/operator 18082 watch`.
 set -eu
 cd "$(dirname -- "$0")"
+# What a run before this one remembers.
+rm -f plan.json.state plan.json.state.copy
 pages=$(mktemp -d)
 started=
 end() {
@@ -23,7 +25,7 @@ for revision in 1 2; do
 done
 # Builds the program where it is stale.
 ../../bin/bg_switch check < rollout.json > /dev/null
-../../bin/bg_switch serve --active 18080 --preview 18081 --control 18082 --workers 4 --count 100000 < rollout.json &
+../../bin/bg_switch serve --active 18080 --preview 18081 --control 18082 --workers 4 --forever < rollout.json &
 started="$started $!"
 ../../bin/controller plan.json &
 started="$started $!"

@@ -5,176 +5,147 @@ It prints each line of the operator with its reply, and for each part of the sto
 answered. It ends with status 0 where no request failed.
 """
 import collections
-import http.client
-import http.server
-import os
-import socket
+import contextlib
+import pathlib
 import subprocess
 import sys
 import threading
 import time
 
-HERE = os.path.dirname(os.path.abspath(__file__))
-SWITCH = os.path.join(HERE, "..", "..", "bin", "bg_switch")
+HERE = pathlib.Path(__file__).resolve().parent
+sys.dont_write_bytecode = True
+sys.path.insert(0, str(HERE.parents[1] / "scripts"))
+
+from support.clients import get  # noqa: E402 (its folder is known by now)
+from support.endpoints import Endpoint, by_target  # noqa: E402
+from support.operators import Operator  # noqa: E402
+from support.switch import PROGRAM  # noqa: E402
+
 ACTIVE, PREVIEW, CONTROL = 18080, 18081, 18082
 REVISIONS = {"media-v1": (19101, 19102), "media-v2": (19201, 19202), "media-v3": (19301, 19302)}
-WORKERS, COUNT, CLIENTS = 4, 1500, 3
+WORKERS, CLIENTS = 4, 3
 PAUSE = 0.01  # seconds between two requests of a client
 WAIT = 0.7  # seconds of a `wait`
+LONGEST = 30
 
 
-class Backend(http.server.BaseHTTPRequestHandler):
-    """Answers each request with the name of its revision."""
-
-    def do_GET(self):
-        body = self.server.revision.encode()
-        self.send_response(200)
-        self.send_header("Content-Length", str(len(body)))
-        self.end_headers()
-        self.wfile.write(body)
-
-    def log_message(self, *_):
-        pass
-
-
-def start_backends():
-    for revision, ports in REVISIONS.items():
-        for port in ports:
-            server = http.server.ThreadingHTTPServer(("127.0.0.1", port), Backend)
-            server.revision = revision
-            threading.Thread(target=server.serve_forever, daemon=True).start()
-
-
-def get(port):
+def answered_by(port: int) -> str | None:
     """The revision that answers a request, or None where none does."""
-    try:
-        connection = http.client.HTTPConnection("127.0.0.1", port, timeout=10)
-        connection.request("GET", "/")
-        response = connection.getresponse()
-        body = response.read().decode()
-        connection.close()
-        return body if response.status == 200 else None
-    except (OSError, http.client.HTTPException):
-        return None
+    answer = get(port)
+    return answer[1].decode() if answer is not None and answer[0] == 200 else None
 
 
 class Traffic:
-    """Clients that ask the active service without pause, until all connections of the workers are taken."""
+    """Clients that ask the active service without pause."""
 
-    def __init__(self):
-        self.answered = collections.Counter()
+    def __init__(self) -> None:
+        self.answered: collections.Counter[str] = collections.Counter()
         self.failed = 0
-        self.left = WORKERS * COUNT
         self.lock = threading.Lock()
         self.ended = threading.Event()
         self.clients = [threading.Thread(target=self.ask) for _ in range(CLIENTS)]
 
-    def take(self):
-        with self.lock:
-            if self.left == 0 or self.ended.is_set():
-                return False
-            self.left -= 1
-            return True
+    def start(self) -> None:
+        """Starts the clients, where they haven't started yet."""
+        for client in self.clients:
+            if client.ident is None:
+                client.start()
 
-    def ask(self):
-        while self.take():
-            revision = get(ACTIVE)
+    def ask(self) -> None:
+        while not self.ended.wait(PAUSE):
+            revision = answered_by(ACTIVE)
             with self.lock:
                 if revision is None:
                     self.failed += 1
                 else:
                     self.answered[revision] += 1
-            time.sleep(PAUSE)
 
-    def part(self):
+    def part(self) -> collections.Counter[str]:
         """What was answered since the last part."""
         with self.lock:
             answered, self.answered = self.answered, collections.Counter()
         return answered
 
-    def end(self):
+    def end(self) -> None:
         self.ended.set()
         for client in self.clients:
             client.join()
 
 
-class Operator:
-    """A control connection."""
+class Story:
+    """The story, which is told line by line beside its traffic."""
 
-    def __init__(self):
-        self.connection = socket.create_connection(("127.0.0.1", CONTROL))
-        self.replies = self.connection.makefile("r", encoding="ascii", newline="\n")
+    def __init__(self, traffic: Traffic) -> None:
+        self.traffic = traffic
 
-    def order(self, line):
-        """Sends a line, and gives the lines of its reply."""
-        self.connection.sendall(line.encode() + b"\n")
-        lines = [self.replies.readline()]
-        while line == "report" and lines[-1] not in ("end\n", ""):
-            lines.append(self.replies.readline())
-        return lines
+    def tell(self, line: str) -> None:
+        words = line.split()
+        if not words:
+            print()
+        elif words[0] == "#":
+            print(line)
+        elif words[0] == "wait":
+            self.wait()
+        elif words[0] == "preview":
+            self.look_at_preview(words[1])
+        else:
+            self.order(line)
 
+    def wait(self) -> None:
+        self.traffic.start()
+        time.sleep(WAIT)
+        answered = self.traffic.part()
+        counts = "  ".join(f"{revision} {answered[revision]:4}" for revision in REVISIONS)
+        print(f"    requests answered by  {counts}", flush=True)
 
-def use_up(port, connections):
-    """Each worker takes a fixed number of connections: what the story left of them is taken and closed."""
-    for _ in range(connections):
-        socket.create_connection(("127.0.0.1", port)).close()
+    def look_at_preview(self, wanted: str) -> None:
+        answered = answered_by(PREVIEW)
+        print(f"    the preview service is answered by {answered}")
+        if answered != wanted:
+            sys.exit(f"the preview service should be answered by {wanted}")
 
-
-def show(answered):
-    counts = "  ".join(f"{revision} {answered[revision]:4}" for revision in REVISIONS)
-    print(f"    requests answered by  {counts}", flush=True)
-
-
-def tell(operator, traffic):
-    """Plays the story. Gives how many requests went to the preview service."""
-    previews = 0
-    with open(os.path.join(HERE, "operator.txt"), encoding="ascii") as story:
-        for line in story:
-            line = line.strip()
-            words = line.split()
-            if not words:
-                print()
-            elif words[0] == "#":
-                print(line)
-            elif words[0] == "wait":
-                if not traffic.clients[0].is_alive() and traffic.left == WORKERS * COUNT:
-                    for client in traffic.clients:
-                        client.start()
-                time.sleep(WAIT)
-                show(traffic.part())
-            elif words[0] == "preview":
-                previews += 1
-                answered = get(PREVIEW)
-                print(f"    the preview service is answered by {answered}")
-                if answered != words[1]:
-                    sys.exit(f"the preview service should be answered by {words[1]}")
-            else:
-                replies = operator.order(line)
-                print(f"{line:34} => {''.join(replies).strip()}" if len(replies) == 1 else f"{line}\n{''.join(replies)}", end="\n")
-                if not replies[-1] or replies[0].startswith(("fault", "refused")):
-                    sys.exit("an order of the story was not carried out")
-    return previews
+    def order(self, line: str) -> None:
+        """Sends a line, and prints it with its reply; a report stands below its line."""
+        with contextlib.closing(Operator(CONTROL)) as operator:
+            if line == "report":
+                print(f"{line}\n{operator.report()}")
+                return
+            reply = operator.order(line)
+        print(f"{line:34} => {reply}")
+        if not reply.startswith("ok "):
+            sys.exit("an order of the story was not carried out")
 
 
-def main():
-    start_backends()
-    with open(os.path.join(HERE, "rollout.json"), "rb") as rollout:
+def start_switch() -> subprocess.Popen[str]:
+    with open(HERE / "rollout.json", "rb") as rollout:
         switch = subprocess.Popen(
-            [SWITCH, "serve", "--active", str(ACTIVE), "--preview", str(PREVIEW), "--control", str(CONTROL),
-             "--workers", str(WORKERS), "--count", str(COUNT)],
-            stdin=rollout, stdout=subprocess.PIPE, text=True)
+            [PROGRAM, "serve", "--active", str(ACTIVE), "--preview", str(PREVIEW), "--control", str(CONTROL),
+             "--workers", str(WORKERS), "--forever"], stdin=rollout, stdout=subprocess.PIPE, text=True)
+    assert switch.stdout is not None
     if switch.stdout.readline() != "listening\n":
         sys.exit("the switch doesn't listen")
-    operator, traffic = Operator(), Traffic()
-    previews = tell(operator, traffic)
-    traffic.end()
-    operator.connection.sendall(b"quit\n")
-    use_up(ACTIVE, traffic.left)
-    use_up(PREVIEW, COUNT - previews)
-    last = switch.stdout.read()
-    status = switch.wait(timeout=30)
+    return switch
+
+
+def main() -> None:
+    for revision, ports in REVISIONS.items():
+        for port in ports:
+            Endpoint(by_target(revision.encode()), port)
+    switch = start_switch()
+    traffic = Traffic()
+    story = Story(traffic)
+    try:
+        for line in (HERE / "operator.txt").read_text(encoding="ascii").splitlines():
+            story.tell(line.strip())
+        traffic.end()
+        with contextlib.closing(Operator(CONTROL)) as operator:
+            operator.order_quit()
+        last = switch.communicate(timeout=LONGEST)[0]
+    finally:
+        traffic.ended.set()
+        switch.kill()
     print(f"\nfailed requests: {traffic.failed}\n\nThe last report of the switch:\n{last}", end="")
-    sys.exit(0 if status == 0 and traffic.failed == 0 else 1)
+    sys.exit(0 if switch.returncode == 0 and traffic.failed == 0 else 1)
 
 
 if __name__ == "__main__":

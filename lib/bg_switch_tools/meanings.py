@@ -1,19 +1,29 @@
 """The lines that an operator can send, and what each refusal and fault means. docs/LINES.md says the same at length."""
+from typing import NamedTuple
+
+
+class Line(NamedTuple):
+    """A line: its form, what it does, and an example."""
+    form: str
+    meaning: str
+    example: str
+
 
 LINES = (
-    ("open NAME PORT..", "opens the book with revision 1, which has one port for each replica"),
-    ("deploy NAME PORT..", "begins to bring out a new revision, or the one of this name again (undo)"),
-    ("available R N", "says that the first N ports of revision R can take requests"),
-    ("tick M", "says that the time is M seconds from the start"),
-    ("verdict pre RESULT", "ends the analysis before the switch: successful, failed or error"),
-    ("verdict post RESULT", "ends the analysis after the switch: successful, failed or error"),
-    ("promote", "ends the pause of the attempt"),
-    ("promote full", "skips the analyses and pauses of the attempt"),
-    ("abort", "stops the attempt: both services go back to the stable revision"),
-    ("retry", "begins the attempt of the newest revision again"),
-    ("report", "shows the state"),
-    ("compact", "drops the entries of closed requests from the history"),
-    ("quit", "ends the switch's control side for good: no operator is answered any more"),
+    Line("open NAME PORT..", "opens the book with revision 1, which has one port for each replica", "open web-v1 9101 9102"),
+    Line("deploy NAME PORT..", "begins to bring out a new revision, or the one of this name again (undo)",
+         "deploy web-v2 9201 9202"),
+    Line("available R N", "says that the first N ports of revision R can take requests", "available 2 2"),
+    Line("tick M", "says that the time is M seconds from the start", "tick 30"),
+    Line("verdict pre RESULT", "ends the analysis before the switch: successful, failed or error", "verdict pre successful"),
+    Line("verdict post RESULT", "ends the analysis after the switch: successful, failed or error", "verdict post failed"),
+    Line("promote", "ends the pause of the attempt", "promote"),
+    Line("promote full", "skips the analyses and pauses of the attempt", "promote full"),
+    Line("abort", "stops the attempt: both services go back to the stable revision", "abort"),
+    Line("retry", "begins the attempt of the newest revision again", "retry"),
+    Line("report", "shows the state", "report"),
+    Line("compact", "drops the entries of closed requests from the history", "compact"),
+    Line("quit", "shuts the switch down: no operator is answered any more", "quit"),
 )
 
 REFUSALS = {
@@ -61,18 +71,19 @@ FAULTS = {
 }
 
 
-def meaning_of(reply):
-    """What a line `refused NAME` or `fault NAME` means, in one sentence; nothing for a name that isn't known here."""
+def meaning_of(reply: str) -> str | None:
+    """What a line `refused NAME` or `fault NAME` means, in one sentence; None for any other line."""
     kind, _, name = reply.partition(" ")
-    return {"refused": REFUSALS, "fault": FAULTS}.get(kind, {}).get(name)
+    meanings = {"refused": REFUSALS, "fault": FAULTS}.get(kind)
+    return meanings.get(name) if meanings else None
 
 
-def was_carried_out(reply):
+def was_carried_out(reply: str) -> bool:
     """Whether the line was carried out that this is the first line of the reply to."""
     return not reply.startswith(("refused ", "fault "))
 
 
-def with_meaning(reply):
+def with_meaning(reply: str) -> str:
     """The line of a reply, and after it what it means where it is a refusal or a fault."""
     meaning = meaning_of(reply)
     return f"{reply}: {meaning}" if meaning else reply

@@ -1,0 +1,24 @@
+"""The tools, by their names: `operator` and `controller`. bin/operator and bin/controller start them, and so does the one file
+that `make tools` makes."""
+import contextlib
+import os
+import sys
+
+from bg_switch_tools import controller_command, operator_command
+
+TOOLS = {"operator": operator_command.main, "controller": controller_command.main}
+
+
+def main() -> int:
+    if len(sys.argv) < 2 or sys.argv[1] not in TOOLS:
+        print("operator or controller is wanted, and the words of that tool after it", file=sys.stderr)
+        return 2
+    return TOOLS[sys.argv[1]](sys.argv[2:])
+
+
+if __name__ == "__main__":
+    STATUS = main()
+    with contextlib.suppress(OSError):
+        sys.stdout.flush()
+    # a thread that still probes holds up no end
+    os._exit(STATUS)

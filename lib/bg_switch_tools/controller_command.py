@@ -1,0 +1,185 @@
+"""bin/controller: runs a rollout by a plan, or judges a plan."""
+import argparse
+import signal
+import sys
+import threading
+import time
+from collections.abc import Sequence
+from types import FrameType
+
+from bg_switch_tools.connection import Connection, Unreachable
+from bg_switch_tools.controller import Controller, Unfit
+from bg_switch_tools.log import Log
+from bg_switch_tools.plan import Plan
+from bg_switch_tools.plan_file import PlanFile
+from bg_switch_tools.plan_reading import WrongPlan
+from bg_switch_tools.probes import Probes
+from bg_switch_tools.reports import NoReport
+
+USAGE = """bin/controller [--json] PLAN.json       runs the plan, up to SIGTERM or ctrl-C
+       bin/controller check PLAN.json          judges it: prints its problems, and carries nothing out"""
+ABOUT = """
+Once a second it ticks (the moment is the number of seconds since the book was opened first), reports how many of the first
+endpoints of each revision are up, runs the analysis that the phase asks for and hands its verdict in, and deploys the plan's
+last revision where the plan has just named it. Where no book is open it opens one: with the revision that was stable, by the
+state file beside the plan, and else with the plan's first revision. The plan is read again when its file changes: a deploy is
+an edit of it. What is done by hand beside it (bin/operator) stands: promote, abort, retry, an undo.
+
+A plan:
+  {"control": 8082,                                         the control port of the switch
+   "health": {"path": "/", "interval": 2,                   asked of each endpoint every so many seconds; it is down after
+              "timeout": 2, "failures": 2},                 so many answers in a row that aren't, whole and in time, 200
+                                                            to 399
+   "analyses": {"pre": ["./smoke_test.sh", "8081"],         the commands of the analyses before and after the switch, run
+                "post": ["./smoke_test.sh", "8080"],        in the plan's folder: status 0 is successful, 1 failed, and
+                "seconds": 600},                            any other, or no end in so many seconds, error
+   "progress": {"seconds": 600, "abort": false},            an attempt for which no further endpoint comes up in so many
+                                                            seconds is told in the log, and aborted where this says so
+   "revisions": [{"name": "web-v1", "ports": [9101, 9102]}, from the first one to the one that is to be live
+                 {"name": "web-v2", "ports": [9201, 9202]}]}
+What "health" and "progress" leave out is as above; an analysis that is left out waits for a verdict by hand. A command finds
+the name and the ports of the revision that it judges in BG_REVISION and BG_PORTS. docs/OPERATING.md says what each line of the
+log means.
+
+Exit status: 0 after SIGTERM or ctrl-C, and for a plan in which `check` finds nothing wrong; 1 where the plan is wrong when it
+starts, or by `check`; 2 where the words are wrong.
+"""
+CONNECT, ANSWER = 1.0, 10.0  # seconds within which a connection is taken, and for the answers of a turn
+RETRY = 0.2  # seconds between two tries where the switch gives no answer
+MINUTE = 60.0
+LOOK = 0.05  # seconds between two looks at whether a signal has come
+LONGEST_END = 1.2  # seconds for the turn to end after a signal
+
+
+class Silence:
+    """Tells in the log when the switch gives no answer: when that begins, each minute, and when it ends."""
+
+    def __init__(self, log: Log) -> None:
+        self.log = log
+        self.since = self.next = 0.0
+        self.lasts = False
+
+    def begin(self, reason: str) -> None:
+        now = time.monotonic()
+        if not self.lasts:
+            self.lasts, self.since, self.next = True, now, now + MINUTE
+            self.log.say("switch", f"no answer: {reason}")
+        elif now >= self.next:
+            self.next += MINUTE
+            self.log.say("switch", f"no answer for {now - self.since:.0f} seconds: {reason}")
+
+    def end(self) -> None:
+        if self.lasts:
+            self.log.say("switch", f"answers again, after {time.monotonic() - self.since:.0f} seconds")
+        self.lasts = False
+
+
+class Runner:
+    """Takes one turn after the other, in a thread of its own, until it is stopped."""
+
+    def __init__(self, file: PlanFile, plan: Plan, log: Log) -> None:
+        self.file = file
+        self.log = log
+        self.controller = Controller(file.path, plan, log, Probes())
+        self.silence = Silence(log)
+        self.stopping = threading.Event()
+        self.connection: Connection | None = None
+        self.unfit = ""
+        self.has_fault = True  # until the turns have ended as they should
+        self.thread = threading.Thread(target=self._run, daemon=True)
+
+    def _run(self) -> None:
+        pause = 0.0
+        while not self.unfit and not self.stopping.wait(pause):
+            self._read_again()
+            pause = self._turn()
+        self.controller.end()
+        if not self.unfit:
+            self.log.say("end", "ends; the switch goes on")
+        self.has_fault = False
+
+    def _read_again(self) -> None:
+        """Takes a plan that has changed. Where it is wrong the one before stands."""
+        try:
+            if (plan := self.file.read()) is not None:
+                self.controller.take_plan(plan)
+        except WrongPlan as wrong:
+            for problem in wrong.problems:
+                self.log.say("plan", f"the plan is wrong, so the one before stands: {problem}")
+
+    def _turn(self) -> float:
+        """Gives the seconds until the next turn."""
+        try:
+            with Connection(self.controller.plan.control, CONNECT) as connection:
+                self.connection = connection
+                connection.allow(ANSWER)
+                pause = self.controller.turn(connection)
+            self.silence.end()
+            return pause
+        except (Unreachable, NoReport) as reason:
+            if not self.stopping.is_set():
+                self.silence.begin(str(reason))
+        except Unfit as reason:
+            self.unfit = str(reason)
+        finally:
+            self.connection = None
+        return RETRY
+
+    def stop(self) -> None:
+        """Ends the turns, within a second or so: a connection that waits is cut, and an analysis that runs is stopped."""
+        self.stopping.set()
+        if connection := self.connection:
+            connection.cut()
+        self.thread.join(LONGEST_END)
+        if self.has_fault and (analysis := self.controller.analysis):
+            analysis.stop()
+
+
+def run(path: str, as_json: bool) -> int:
+    """Runs a plan. Gives the exit status."""
+    file = PlanFile(path)
+    try:
+        plan = file.read()
+    except WrongPlan as wrong:
+        print("\n".join([f"controller: {path} is no plan:", *(f"  {problem}" for problem in wrong.problems)]), file=sys.stderr)
+        return 1
+    assert plan is not None  # the first read gives a plan or fails
+    signals: list[int] = []
+
+    def note(number: int, _: FrameType | None) -> None:
+        signals.append(number)
+    for number in (signal.SIGTERM, signal.SIGINT):
+        signal.signal(number, note)
+    runner = Runner(file, plan, Log(sys.stdout, as_json))
+    runner.thread.start()
+    while runner.thread.is_alive() and not signals:
+        time.sleep(LOOK)
+    if runner.unfit:
+        print(f"controller: {runner.unfit}", file=sys.stderr)
+        return 1
+    runner.stop()
+    return 70 if runner.has_fault and not runner.thread.is_alive() else 0
+
+
+def check(path: str) -> int:
+    """Prints what is wrong with a plan. Gives the exit status."""
+    try:
+        PlanFile(path).read()
+    except WrongPlan as wrong:
+        print("\n".join(wrong.problems))
+        return 1
+    print(f"{path} is a plan")
+    return 0
+
+
+def main(words: Sequence[str]) -> int:
+    parser = argparse.ArgumentParser(prog="controller", usage=USAGE, description="Runs a rollout by a plan.", epilog=ABOUT,
+                                     formatter_class=argparse.RawDescriptionHelpFormatter)
+    parser.add_argument("--json", action="store_true", help="writes each line of the log as an object of JSON")
+    parser.add_argument("words", nargs="+", metavar="[check] PLAN.json", help="the file of the plan; `check` alone judges it")
+    given = parser.parse_args(words)
+    if len(given.words) == 1 and given.words != ["check"]:
+        return run(given.words[0], given.json)
+    if len(given.words) == 2 and given.words[0] == "check" and not given.json:
+        return check(given.words[1])
+    parser.error("the file of one plan is wanted, after the word check where it is to be judged alone")

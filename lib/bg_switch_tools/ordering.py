@@ -1,0 +1,69 @@
+"""Sends an operator's lines, and tells what came of each."""
+from collections.abc import Sequence
+from typing import NamedTuple
+
+from bg_switch_tools.connection import Connection, Unreachable, ask, sent, words_of
+from bg_switch_tools.meanings import meaning_of, was_carried_out
+from bg_switch_tools.reports import NoReport, Report, as_json, read_report
+
+
+class Reply(NamedTuple):
+    """What a line was answered. `note` is told beside it, on standard error. `report` is the report that was asked for."""
+    line: str
+    lines: Sequence[str]
+    carried_out: bool
+    meaning: str | None
+    note: str | None = None
+    report: Report | None = None
+
+    def as_json(self) -> dict[str, object]:
+        """An object of JSON: a report's values, or the line, its reply, whether it was carried out, and what it means."""
+        if self.report is not None:
+            return as_json(self.report)
+        return {"line": self.line, "reply": "\n".join(self.lines), "carried_out": self.carried_out, "meaning": self.meaning}
+
+
+def carry_out(port: int, line: bytes, wait: float, is_idempotent: bool) -> Reply:
+    """Sends a line on a connection of its own. `Unreachable` where the switch does not answer."""
+    words, text = words_of(line), line.decode("utf-8", "replace")
+    if words[:1] == [b"deploy"]:
+        return _deploy(port, line, wait, is_idempotent)
+    lines = ask(port, line, wait)
+    if not lines:
+        return Reply(text, lines, True, None)
+    report = read_report(lines) if words == [b"report"] else None
+    return Reply(text, lines, was_carried_out(lines[0]), meaning_of(lines[0]), None, report)
+
+
+def _deploy(port: int, line: bytes, wait: float, is_idempotent: bool) -> Reply:
+    """Sends a deploy, and tells which revision it made or took again."""
+    text = line.decode("utf-8", "replace")
+    with Connection(port, wait) as connection:
+        before = read_report(connection.answer(b"report"))
+        lines = sent(connection, line, wait)
+        if lines == ["refused SameTemplate"] and before and is_idempotent:
+            return _deployed_before(text, lines, before)
+        note = _made(connection, before) if was_carried_out(lines[0]) and before else None
+    return Reply(text, lines, was_carried_out(lines[0]), meaning_of(lines[0]), note)
+
+
+def _made(connection: Connection, before: Report) -> str | None:
+    """What a deploy has made, by a report after it; None where the switch gives none any more."""
+    try:
+        after = read_report(connection.answer(b"report"))
+    except (Unreachable, NoReport):
+        return None
+    if after is None:
+        return None
+    newest = after.newest
+    return f"takes {newest.title()} again" if newest.number in before.revisions else f"makes {newest.title()}"
+
+
+def _deployed_before(text: str, lines: Sequence[str], report: Report) -> Reply:
+    """A deploy of what is the newest revision already: that is as good as carried out, unless its attempt was aborted."""
+    newest = report.newest
+    if report.phase == "aborted":
+        meaning = f"{newest.title()} has this name and these ports already, and its attempt was aborted; retry begins it again"
+        return Reply(text, lines, False, meaning)
+    state = f"is running already, in the phase {report.phase}" if report.is_running else "is stable already"
+    return Reply(text, lines, True, f"{newest.title()} {state}", f"{newest.title()} {state}")

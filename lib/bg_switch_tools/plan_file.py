@@ -1,0 +1,28 @@
+"""The file of a plan, which is read again while a controller runs."""
+from bg_switch_tools.plan import Plan
+from bg_switch_tools.plan_reading import WrongPlan, read_plan
+
+
+class PlanFile:
+    """Reads a plan, and notices what has become of its file."""
+
+    def __init__(self, path: str) -> None:
+        self.path = path
+        self.text: bytes | None = None  # what was read last; None where it could not be read
+        self.was_readable = True
+
+    def read(self) -> Plan | None:
+        """The plan, or None where the file is as it was at the last read. `WrongPlan` where it is no plan any more."""
+        try:
+            with open(self.path, "rb") as file:
+                text = file.read()
+        except OSError as error:
+            if not self.was_readable:
+                return None
+            self.text, self.was_readable = None, False
+            raise WrongPlan([f"it can't be read: {error.strerror}"]) from None
+        self.was_readable = True
+        if text == self.text:
+            return None
+        self.text = text
+        return read_plan(text)

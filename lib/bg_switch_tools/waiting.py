@@ -1,0 +1,44 @@
+"""Waits until conditions hold, or can't come to hold any more."""
+import time
+from collections.abc import Callable
+from typing import NamedTuple
+
+from bg_switch_tools.conditions import Conditions
+from bg_switch_tools.connection import Unreachable, ask
+from bg_switch_tools.reports import NoReport, Report, read_report
+from bg_switch_tools.tables import in_one_line
+
+PAUSE = 0.2  # seconds between two reports
+REACHED, NEVER, TOO_LATE = 0, 1, 2
+
+
+class Waited(NamedTuple):
+    """How a wait has ended: `REACHED`, `NEVER` or `TOO_LATE`; the reason of the latter two; the latest report."""
+    status: int
+    reason: str
+    report: Report | None
+
+
+def wait_for(port: int, conditions: Conditions, timeout: float, wait: float, see: Callable[[Report], None]) -> Waited:
+    """Waits for conditions, for `timeout` seconds at most. `see` is given each report.
+
+    A switch that does not answer within `wait` seconds, or has no book yet, is asked again.
+    """
+    deadline = time.monotonic() + timeout
+    report: Report | None = None
+    state = "the switch was not asked"
+    while True:
+        try:
+            report = read_report(ask(port, b"report", max(min(wait, deadline - time.monotonic()), PAUSE)))
+            state = in_one_line(report)
+        except (Unreachable, NoReport) as error:
+            report, state = None, str(error)
+        if report is not None:
+            see(report)
+            outlook = conditions.outlook(report)
+            if outlook.holds or outlook.never:
+                return Waited(REACHED if outlook.holds else NEVER, outlook.never, report)
+        if time.monotonic() + PAUSE >= deadline:
+            break
+        time.sleep(PAUSE)
+    return Waited(TOO_LATE, f"{' '.join(conditions.texts)} does not hold after {timeout:g} seconds: {state}", report)

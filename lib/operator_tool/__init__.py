@@ -1,1 +1,0 @@
-"""What bin/operator is made of."""

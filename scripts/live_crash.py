@@ -1,0 +1,202 @@
+"""What outlives a crash: the switch, the controller or both are killed while web-v2 is stable and web-v3 is in its pause, and
+web-v1 is gone. Started again, clients are answered by web-v2 within two seconds, and web-v3 is deployed again."""
+import json
+import os
+import pathlib
+import subprocess
+import tempfile
+import threading
+import time
+from collections.abc import Callable
+from typing import NamedTuple
+
+from support import TOP, checks, clients, processes
+from support.checks import check, check_within, comes
+from support.endpoints import Endpoint, by_target
+from support.ports import free_ports
+from support.switch import LISTENING, PROGRAM, words_of_serve
+
+# isort: split; `support` tells where the tools' package is
+from bg_switch_tools.connection import Unreachable, ask
+from bg_switch_tools.reports import Report, read_report
+
+ROLLOUT = """{"spec": {"replicas": 2, "strategy": {"blueGreen": {"activeService": "web", "previewService": "web-preview",
+"autoPromotionEnabled": false, "scaleDownDelaySeconds": 1}}}}"""
+NAMES = ("web-v1", "web-v2", "web-v3")
+WORKERS, COUNT = 2, 100000
+SOON = 2.0  # seconds after `listening` within which clients are answered
+WAIT = 20.0  # seconds for which anything else is awaited
+WATCHED = 3.0  # seconds for which clients ask after a start
+
+
+class Answer(NamedTuple):
+    """What a client of the active port was answered, and how many seconds after the switch listened."""
+    after: float
+    text: tuple[int, bytes] | None
+
+
+class Process:
+    """A program that is killed and started again."""
+
+    def __init__(self, words: list[str], given: str, first: str = "") -> None:
+        self.words = words
+        self.given = given
+        self.first = first
+        self.lines: list[str] = []
+        self.start()
+
+    def start(self) -> None:
+        """Starts it, and waits for its first line, where it prints one at once."""
+        self.process = subprocess.Popen(self.words, stdin=subprocess.PIPE, stdout=subprocess.PIPE, text=True)
+        processes.limit(self.process)
+        assert self.process.stdin is not None and self.process.stdout is not None
+        with self.process.stdin:
+            self.process.stdin.write(self.given)
+        if self.first:
+            check("it listens", self.process.stdout.readline(), self.first)
+        threading.Thread(target=self.read, args=(self.process,), daemon=True).start()
+
+    def read(self, process: "subprocess.Popen[str]") -> None:
+        assert process.stdout is not None
+        for line in process.stdout:
+            self.lines.append(line.rstrip("\n"))
+
+    def says(self, text: str) -> bool:
+        return any(text in line for line in list(self.lines))
+
+    def kill(self) -> None:
+        processes.stop(self.process)
+
+
+class Scene:
+    """A switch, a controller, endpoints of three revisions, and the plan that names them."""
+
+    def __init__(self, folder: str) -> None:
+        self.plan = pathlib.Path(folder) / "plan.json"
+        self.state = pathlib.Path(folder) / "plan.json.state"
+        self.ports = {name: free_ports(2) for name in NAMES}
+        self.endpoints = [Endpoint(by_target(name.encode()), port) for name, ports in self.ports.items() for port in ports]
+        self.active, preview, self.control = free_ports(3)
+        self.write_plan(2)
+        words = [PROGRAM, *words_of_serve(self.active, self.control, preview, WORKERS, COUNT)]
+        self.switch = Process(words, ROLLOUT, LISTENING)
+        self.controller = Process([str(TOP / "bin" / "controller"), str(self.plan)], "")
+
+    def write_plan(self, count: int) -> None:
+        """Puts a plan in place that names the first so many revisions."""
+        fresh = self.plan.with_suffix(".new")
+        fresh.write_text(json.dumps({
+            "control": self.control, "health": {"interval": 0.2, "timeout": 1, "failures": 2},
+            "revisions": [{"name": name, "ports": self.ports[name]} for name in NAMES[:count]]}), encoding="ascii")
+        os.replace(fresh, self.plan)
+
+    def report(self) -> Report | None:
+        try:
+            return read_report(ask(self.control, b"report", WAIT))
+        except Unreachable:
+            return None
+
+    def is_at(self, phase: str, stable: str, newest: str) -> bool:
+        report = self.report()
+        return report is not None and (report.phase, report.stable.name, report.newest.name) == (phase, stable, newest)
+
+    def bring_v3_to_its_pause(self) -> None:
+        """web-v2 is stable, web-v3 is in its pause, and web-v1 is gone."""
+        check("web-v2 is in its pause", comes(lambda: self.is_at("paused", "web-v1", "web-v2"), WAIT), True)
+        check("a promotion", ask(self.control, b"promote", WAIT)[0].startswith("ok "), True)
+        self.write_plan(3)
+        check("web-v3 is in its pause", comes(lambda: self.is_at("paused", "web-v2", "web-v3"), WAIT), True)
+        for endpoint in self.endpoints[:2]:
+            endpoint.stop()
+        check("the attempt is remembered", comes(self.remembers_attempt, WAIT), True)
+
+    def remembers_attempt(self) -> bool:
+        attempt = json.loads(self.state.read_text(encoding="ascii"))["attempt"]
+        return attempt is not None and attempt["name"] == "web-v3"
+
+    def cut_state(self) -> None:
+        """Cuts the state file in the middle."""
+        whole = self.state.read_bytes()
+        self.state.write_bytes(whole[:len(whole) // 2])
+
+    def answers(self) -> list[Answer]:
+        """What a client that asks without pause is answered, from now on and for a while."""
+        begun, answers = time.monotonic(), []
+        while time.monotonic() < begun + WATCHED:
+            text = clients.get(self.active)
+            answers.append(Answer(time.monotonic() - begun, text))
+        return answers
+
+    def check_answers(self, what: str) -> None:
+        """web-v2 answers soon, and nothing else does."""
+        answers = self.answers()
+        check(f"{what}: the first answer", answers[0].text, (200, b"web-v2"))
+        check_within(f"{what}: the first answer", answers[0].after, SOON)
+        check(f"{what}: other answers", [answer for answer in answers if answer.text != (200, b"web-v2")], [])
+        check(f"{what}: web-v3 is in its pause again", comes(lambda: self.is_at("paused", "web-v2", "web-v3"), WAIT), True)
+
+    def end(self) -> None:
+        self.switch.kill()
+        self.controller.kill()
+        for endpoint in self.endpoints[2:]:
+            endpoint.stop()
+
+
+def switch_is_killed(scene: Scene) -> None:
+    scene.switch.kill()
+    scene.switch.start()
+    scene.check_answers("the switch is killed")
+    check("it is told", (scene.controller.says("no book is open: it is opened with web-v2, which was stable"),
+                         scene.controller.says("the attempt of web-v3, which ran, is begun again")), (True, True))
+
+
+def controller_is_killed(scene: Scene) -> None:
+    scene.controller.kill()
+    scene.controller.lines.clear()
+    scene.controller.start()
+    scene.check_answers("the controller is killed")
+    check("it goes on", comes(lambda: scene.controller.says("goes on from the state file"), WAIT), True)
+    check("nothing is deployed", scene.controller.says("deploy "), False)
+
+
+def both_are_killed(scene: Scene) -> None:
+    scene.switch.kill()
+    scene.controller.kill()
+    scene.controller.start()
+    scene.switch.start()
+    scene.check_answers("both are killed")
+
+
+def state_is_cut(scene: Scene) -> None:
+    scene.switch.kill()
+    scene.cut_state()
+    scene.switch.start()
+    scene.check_answers("the switch is killed, and the state file cut")
+    scene.switch.kill()
+    scene.controller.kill()
+    scene.cut_state()
+    scene.controller.lines.clear()
+    scene.controller.start()
+    scene.switch.start()
+    scene.check_answers("both are killed, and the state file cut")
+    check("the cut is told", scene.controller.says("is cut, so its copy is used"), True)
+
+
+def run_drill(kill: Callable[[Scene], None]) -> Callable[[], None]:
+    """The drill with what is killed, in a scene of its own."""
+
+    def part() -> None:
+        with tempfile.TemporaryDirectory() as folder:
+            scene = Scene(folder)
+            try:
+                scene.bring_v3_to_its_pause()
+                kill(scene)
+            finally:
+                scene.end()
+
+    part.__name__ = kill.__name__
+    return part
+
+
+if __name__ == "__main__":
+    checks.run("live_crash", list(map(run_drill, (switch_is_killed, controller_is_killed, both_are_killed, state_is_cut))), 4)

@@ -1,0 +1,8 @@
+"""What the scripts of the gate share: the running switch, endpoints, clients, operators, messages, ports and checks."""
+import pathlib
+import sys
+
+TOP = pathlib.Path(__file__).resolve().parents[2]
+
+# The tools' package, which reads reports and speaks to the control port here too.
+sys.path.insert(0, str(TOP / "lib"))

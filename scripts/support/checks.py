@@ -1,0 +1,92 @@
+"""Checks, which are counted, and the run of the parts of a script."""
+import concurrent.futures
+import faulthandler
+import os
+import sys
+import threading
+import time
+import traceback
+from collections.abc import Callable, Sequence
+from typing import NoReturn
+
+from support import TOP
+
+# How long a check waits, in seconds, for what is to come soon. A busy machine with two processors keeps it.
+LONGEST_WAIT = 30
+# How long a script may take, in seconds.
+LONGEST_RUN = 170
+PAUSE = 0.02  # seconds between two looks at what is awaited
+
+Part = Callable[[], None]
+
+
+class Counts:
+    """How many checks have passed and failed; parts that run side by side share it."""
+
+    def __init__(self) -> None:
+        self.passed = self.failed = 0
+        self.lock = threading.Lock()
+
+    def add(self, has_passed: bool) -> None:
+        with self.lock:
+            if has_passed:
+                self.passed += 1
+            else:
+                self.failed += 1
+
+
+COUNTS = Counts()
+
+
+def fail(name: str, why: str) -> None:
+    COUNTS.add(False)
+    print(f"FAILED: {name}: {why}", flush=True)
+
+
+def check(name: str, got: object, wanted: object) -> None:
+    """Counts whether this is what was wanted, and prints both where it isn't."""
+    if got == wanted:
+        COUNTS.add(True)
+    else:
+        fail(name, f"{got!r}, not {wanted!r}")
+
+
+def check_within(name: str, seconds: float, most: float) -> None:
+    """Counts whether this took at most so many seconds."""
+    if seconds <= most:
+        COUNTS.add(True)
+    else:
+        fail(name, f"{seconds:.2f} seconds, which is above {most:g}")
+
+
+def comes(holds: Callable[[], bool], longest: float = LONGEST_WAIT) -> bool:
+    """Whether this holds within so many seconds. It is asked again and again."""
+    latest = time.monotonic() + longest
+    while not holds():
+        if time.monotonic() > latest:
+            return False
+        time.sleep(PAUSE)
+    return True
+
+
+def run_part(part: Part) -> None:
+    """Runs a part. An exception is a failed check: a wait that has taken too long is one, too."""
+    try:
+        part()
+    except Exception as error:  # pylint: disable=broad-except
+        fail(part.__name__, "".join(traceback.format_exception(error)))
+
+
+def run(name: str, parts: Sequence[Part], at_once: int = 1, by_hand: Sequence[Part] = ()) -> NoReturn:
+    """Runs the parts in turn, or so many at once, and prints the counts; status 0 where no check has failed. The words name
+    parts that are run alone; with `--by-hand` those are run that take too long for the gate."""
+    faulthandler.dump_traceback_later(LONGEST_RUN, exit=True)
+    os.chdir(TOP)
+    if sys.argv[1:] == ["--by-hand"]:
+        parts = by_hand
+    elif sys.argv[1:]:
+        parts = [part for part in (*parts, *by_hand) if part.__name__ in sys.argv[1:]]
+    with concurrent.futures.ThreadPoolExecutor(at_once) as pool:
+        list(pool.map(run_part, parts))
+    print(f"{name}: {COUNTS.passed} passed, {COUNTS.failed} failed", flush=True)
+    sys.exit(COUNTS.failed != 0)

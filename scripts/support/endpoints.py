@@ -1,0 +1,217 @@
+"""Endpoints of revisions: each is a server that answers every connection's one request by a function."""
+import contextlib
+import itertools
+import random
+import socket
+import threading
+import time
+from collections.abc import Callable, Iterator, Sequence
+from typing import NamedTuple
+
+from support.checks import comes
+from support.clients import received, send_in_pieces
+from support.messages import response
+from support.ports import HOST
+
+END_OF_HEAD = b"\r\n\r\n"
+BACKLOG = 1024
+# How long an endpoint waits for its peer, in seconds.
+LONGEST = 120
+
+
+class Request(NamedTuple):
+    """A request as an endpoint reads it; the field names are in lower case."""
+    method: bytes
+    target: bytes
+    fields: list[tuple[bytes, bytes]]
+    body: bytes
+
+    def value(self, name: bytes) -> bytes | None:
+        return next((value for field, value in self.fields if field.lower() == name.lower()), None)
+
+
+Answer = Callable[[Request, socket.socket], None]
+
+
+def read_head(connection: socket.socket) -> tuple[bytes, bytes] | None:
+    """A head, without its end, and what came behind it; none where the connection ends before."""
+    head = b""
+    while END_OF_HEAD not in head:
+        piece = connection.recv(65536)
+        if not piece:
+            return None
+        head += piece
+    before, _, behind = head.partition(END_OF_HEAD)
+    return before, behind
+
+
+def read_request(connection: socket.socket) -> Request | None:
+    """A request whose body comes by length, as the switch sends each; none where the connection ends before."""
+    read = read_head(connection)
+    if read is None:
+        return None
+    line, *rest = read[0].split(b"\r\n")
+    method, target, _ = line.split(b" ", 2)
+    fields = [(name, value.strip()) for name, _, value in (field.partition(b":") for field in rest)]
+    head = Request(method, target, fields, b"")
+    body = bytearray(read[1])
+    while len(body) < int(head.value(b"Content-Length") or b"0"):
+        piece = connection.recv(65536)
+        if not piece:
+            return None
+        body += piece
+    return head._replace(body=bytes(body))
+
+
+class Endpoint:
+    """A server that reads each request whole and answers it by a function. It counts its requests, and it can be stopped and
+    started again."""
+
+    def __init__(self, answer: Answer, port: int = 0) -> None:
+        self.answer = answer
+        self.port = port
+        self.served = 0
+        self.lock = threading.Lock()
+        self.start()
+
+    def start(self) -> None:
+        self.listener = socket.create_server((HOST, self.port), backlog=BACKLOG)
+        self.port = self.listener.getsockname()[1]
+        threading.Thread(target=self.accept, args=(self.listener,), daemon=True).start()
+
+    def stop(self) -> None:
+        self.listener.shutdown(socket.SHUT_RDWR)
+        self.listener.close()
+
+    def accept(self, listener: socket.socket) -> None:
+        with contextlib.suppress(OSError):
+            while True:
+                threading.Thread(target=self.serve, args=(listener.accept()[0],), daemon=True).start()
+
+    def serve(self, connection: socket.socket) -> None:
+        with connection, contextlib.suppress(OSError):
+            connection.settimeout(LONGEST)
+            request = read_request(connection)
+            if request is not None:
+                with self.lock:
+                    self.served += 1
+                self.answer(request, connection)
+
+
+def chunked(body: bytes, size: int) -> bytes:
+    """A response in chunks of a size."""
+    pieces = (body[start:start + size] for start in range(0, len(body), size))
+    return b"HTTP/1.1 200 OK\r\nTransfer-Encoding: chunked\r\n\r\n" + b"".join(
+        b"%x\r\n%s\r\n" % (len(piece), piece) for piece in pieces) + b"0\r\n\r\n"
+
+
+SEED = 30
+CUT_HEAD = b"HTTP/1.1 200 OK\r\nContent-Len"
+# What an endpoint sends that is no whole response, by the target that asks for it; after it the connection ends.
+BROKEN = {
+    b"/closes": b"",
+    b"/head": CUT_HEAD,
+    b"/cut": b"HTTP/1.1 200 OK\r\nContent-Length: 10\r\n\r\nhalf",
+    b"/chunk": b"HTTP/1.1 200 OK\r\nTransfer-Encoding: chunked\r\n\r\nx\r\n",
+    b"/lengths": b"HTTP/1.1 200 OK\r\nContent-Length: 1, 2\r\n\r\nabc",
+    b"/large": b"HTTP/1.1 200 OK\r\nContent-Length: 4194305\r\n\r\n",
+    b"/fields": b"HTTP/1.1 200 OK\r\n" + b"A: b\r\n" * 100 + b"\r\n",
+    b"/status": b"HTTP/1.1 2000 OK\r\n\r\n",
+    b"/upgrade": b"HTTP/1.1 101 Switching Protocols\r\nUpgrade: x\r\n\r\n",
+    b"/zeros": bytes(20000),
+    b"/rubbish": random.Random(SEED).randbytes(20000),
+}
+# What it sends before it says nothing more, but keeps the connection.
+SILENT = {b"/hangs": b"", b"/halts": CUT_HEAD}
+# After how many seconds it answers, with its name.
+SLOW = {b"/slow": 0.3, b"/slower": 1.5}
+# Whole responses.
+WHOLE = {b"/chunks": chunked(b"c" * 300000, 10000), b"/big": response(b"x" * 4000000)}
+ALL_FIELDS = b"/all-fields"
+
+
+def by_target(name: bytes) -> Answer:
+    """Answers as the target asks for, and at all others with the name and the body that was sent."""
+
+    def answer(request: Request, connection: socket.socket) -> None:
+        target = request.target
+        time.sleep(SLOW.get(target, 0))
+        if target in SILENT:
+            connection.sendall(SILENT[target])
+            received(connection)
+        elif target in BROKEN:
+            connection.sendall(BROKEN[target])
+        elif target in WHOLE:
+            connection.sendall(WHOLE[target])
+        elif target == ALL_FIELDS:
+            connection.sendall(response(b"\n".join(b"%s: %s" % field for field in request.fields)))
+        else:
+            whole = response(name + request.body)
+            connection.sendall(whole[:whole.index(END_OF_HEAD) + len(END_OF_HEAD)] if request.method == b"HEAD" else whole)
+
+    return answer
+
+
+def in_pieces(pieces: Sequence[bytes], pause: float = 0.0, silent_after: int | None = None) -> Answer:
+    """Answers each request with these pieces, but says nothing to those after so many."""
+    numbers = itertools.count()
+
+    def answer(_: Request, connection: socket.socket) -> None:
+        if silent_after is not None and next(numbers) >= silent_after:
+            received(connection)
+        else:
+            send_in_pieces(connection, pieces, pause)
+
+    return answer
+
+
+class Held:
+    """Answers requests only once they are let go; it counts those that wait, and those whose connection the switch closed."""
+
+    def __init__(self, body: bytes) -> None:
+        self.body = body
+        self.lock = threading.Lock()
+        self.waiting = self.closed = 0
+        self.is_free = threading.Event()
+
+    def __call__(self, _: Request, connection: socket.socket) -> None:
+        with self.lock:
+            self.waiting += 1
+        connection.settimeout(0.05)
+        while not self.is_free.is_set():
+            with contextlib.suppress(TimeoutError):
+                if not has_more(connection):
+                    self.count_closed()
+                    return
+        connection.settimeout(LONGEST)
+        connection.sendall(response(self.body))
+
+    def count_closed(self) -> None:
+        with self.lock:
+            self.closed += 1
+
+    def holds(self, count: int) -> bool:
+        """Whether so many requests wait at a time that comes soon."""
+        return comes(lambda: self.waiting - self.closed >= count)
+
+
+def has_more(connection: socket.socket) -> bool:
+    """Whether something comes before the peer closes or resets the connection. Fails with TimeoutError where it is quiet."""
+    try:
+        return connection.recv(1) != b""
+    except ConnectionError:
+        return False
+
+
+@contextlib.contextmanager
+def full_backlog() -> Iterator[int]:
+    """The port of an endpoint that accepts nothing, and whose backlog is full: a connect to it hangs."""
+    with contextlib.ExitStack() as stack:
+        listener = stack.enter_context(socket.create_server((HOST, 0), backlog=0))
+        port = listener.getsockname()[1]
+        for _ in range(4):
+            client = stack.enter_context(socket.socket())
+            client.setblocking(False)
+            client.connect_ex((HOST, port))
+        time.sleep(0.2)
+        yield port

@@ -1,0 +1,61 @@
+"""Programs that a script starts: they end with it, and their descriptors and memory are looked at."""
+import atexit
+import os
+import pathlib
+import resource
+import subprocess
+import threading
+
+# No program that these scripts start runs for longer, in seconds.
+LONGEST = 160
+
+
+def limit(process: subprocess.Popen[str]) -> None:
+    """Ends a process after a while, and with this script, so that whoever waits for it fails and doesn't hang."""
+    atexit.register(process.kill)
+    timer = threading.Timer(LONGEST, process.kill)
+    timer.daemon = True
+    timer.start()
+
+
+def stop(process: subprocess.Popen[str]) -> None:
+    """Ends a process at once, and waits for its end."""
+    process.kill()
+    process.wait(LONGEST)
+
+
+def descriptors(process: int) -> list[int]:
+    """The descriptors that a process has open."""
+    return sorted(map(int, os.listdir(f"/proc/{process}/fd")))
+
+
+def threads(process: int) -> int:
+    """How many threads a process has."""
+    return len(os.listdir(f"/proc/{process}/task"))
+
+
+def resident_memory(process: int) -> int:
+    """The memory of a process in KiB."""
+    lines = pathlib.Path(f"/proc/{process}/status").read_text(encoding="ascii").splitlines()
+    return next(int(line.split()[1]) for line in lines if line.startswith("VmRSS:"))
+
+
+def limit_descriptors(most: int) -> None:
+    """The descriptors that this process may have from now on."""
+    hard = resource.getrlimit(resource.RLIMIT_NOFILE)[1]
+    resource.setrlimit(resource.RLIMIT_NOFILE, (most if hard == resource.RLIM_INFINITY else min(most, hard), hard))
+
+
+class DescriptorLimit:
+    """The limit on the descriptors of a running process, which is lowered and put back."""
+
+    def __init__(self, process: int) -> None:
+        self.process = process
+        self.most = resource.prlimit(process, resource.RLIMIT_NOFILE)
+
+    def leave(self, count: int) -> None:
+        """No more than so many descriptors can be had beside those that are open, from the highest of them on."""
+        resource.prlimit(self.process, resource.RLIMIT_NOFILE, (1 + descriptors(self.process)[-1] + count, self.most[1]))
+
+    def lift(self) -> None:
+        resource.prlimit(self.process, resource.RLIMIT_NOFILE, self.most)

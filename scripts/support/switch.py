@@ -1,0 +1,193 @@
+"""A running `bin/bg_switch serve`."""
+import contextlib
+import os
+import socket
+import subprocess
+import threading
+from collections.abc import Callable, Iterator
+from typing import NamedTuple
+
+from support import TOP, clients, processes
+from support.checks import check, comes, fail
+from support.messages import ROLLOUT
+from support.operators import Operator
+from support.ports import free_ports
+
+# Another program can be tried by hand in its place.
+PROGRAM = os.environ.get("BG_SWITCH_PROGRAM", str(TOP / "bin" / "bg_switch"))
+PATIENCE = "BG_SWITCH_PATIENCE_SECONDS"
+LISTENING = "listening\n"
+# The usual limit of a system, which holds whatever the script itself may have.
+USUAL_DESCRIPTORS = 1024
+
+
+class Run(NamedTuple):
+    """What a run of `serve` prints, what it tells on standard error, and its status."""
+    printed: str
+    told: str
+    status: int
+
+
+def run_to_end(rollout: str, active: int, control: int, preview: int | None = None) -> Run:
+    """A run of `serve` that ends by itself, since it can't begin to serve."""
+    words = [PROGRAM, *words_of_serve(active, control, preview, 1, 1)]
+    run = subprocess.run(words, input=rollout, capture_output=True, text=True, timeout=processes.LONGEST, check=False)
+    return Run(run.stdout, run.stderr, run.returncode)
+
+
+def words_of_serve(active: int, control: int, preview: int | None, workers: int, count: int | None) -> list[str]:
+    """The words of a `serve`; without a count it serves for ever."""
+    return ["serve", "--active", str(active), "--control", str(control), "--workers", str(workers),
+            *([] if preview is None else ["--preview", str(preview)]),
+            *(["--forever"] if count is None else ["--count", str(count)])]
+
+
+class Ended(NamedTuple):
+    """What a switch has printed since it listened, and its status."""
+    printed: str
+    status: int
+
+
+class Switch:
+    """A running `serve`, whose connections are counted, and whose standard error is kept.
+
+    With a `count` each worker takes exactly so many connections, and `end` takes all that the checks have left over; without
+    one it serves for ever. It may have so many descriptors, and `prepare` is called in its process before it starts.
+    """
+
+    def __init__(self, rollout: str = ROLLOUT, *, workers: int = 1, count: int | None = None, preview: bool = True,
+                 patience: int | str | None = None, descriptors: int = USUAL_DESCRIPTORS,
+                 prepare: Callable[[], object] = lambda: None) -> None:
+        self.active, self.preview, self.control = free_ports(3)
+        self.left = {self.active: workers * (count or 0), self.preview: count or 0 if preview else 0}
+        self.lock = threading.Lock()
+        words = [PROGRAM, *words_of_serve(self.active, self.control, self.preview if preview else None, workers, count)]
+        environment = {name: value for name, value in os.environ.items() if name != PATIENCE}
+        if patience is not None:
+            environment[PATIENCE] = str(patience)
+
+        def before() -> None:
+            processes.limit_descriptors(descriptors)
+            prepare()
+
+        self.process = subprocess.Popen(words, stdin=subprocess.PIPE, stdout=subprocess.PIPE, stderr=subprocess.PIPE, text=True,
+                                        env=environment, preexec_fn=before)
+        processes.limit(self.process)
+        self.told: list[str] = []
+        self.teller = threading.Thread(target=self.keep_standard_error, daemon=True)
+        self.teller.start()
+        self.first = self.start(rollout)
+
+    def keep_standard_error(self) -> None:
+        assert self.process.stderr is not None
+        for line in self.process.stderr:
+            self.told.append(line.rstrip("\n"))
+
+    def start(self, rollout: str) -> str:
+        """Gives the program its strategy, and the first line that it prints."""
+        assert self.process.stdin is not None and self.process.stdout is not None
+        with contextlib.suppress(BrokenPipeError), self.process.stdin:
+            self.process.stdin.write(rollout)
+        return self.process.stdout.readline()
+
+    def tells(self, *words: str) -> bool:
+        """Whether a line that has each of these words comes on standard error, at a time that comes soon."""
+        return comes(lambda: self.count_told(*words) > 0)
+
+    def count_told(self, *words: str) -> int:
+        """How many lines with each of these words have come on standard error."""
+        return sum(all(word in line for word in words) for line in list(self.told))
+
+    def operator(self) -> Operator:
+        return Operator(self.control)
+
+    def order(self, line: str) -> str:
+        """The reply to a line that has a connection of its own."""
+        with contextlib.closing(self.operator()) as operator:
+            return operator.order(line)
+
+    def open_requests(self) -> list[int]:
+        """How many requests of each revision are open."""
+        with contextlib.closing(self.operator()) as operator:
+            return operator.open_requests()
+
+    def take(self, port: int) -> None:
+        """One of the connections of the port is used."""
+        with self.lock:
+            self.left[port] -= 1
+
+    def connect(self, port: int) -> socket.socket:
+        self.take(port)
+        return clients.connect(port)
+
+    def raw(self, port: int, text: bytes, *later: bytes) -> bytes | None:
+        """What a client is answered that sends these bytes, and others later: see `clients.exchanged`."""
+        self.take(port)
+        return clients.asked(port, text, *later)
+
+    def timed(self, *pieces: bytes, pause: float = 0.0) -> clients.Timed:
+        """What a client of the active port is answered, and how long that took: see `clients.timed`."""
+        self.take(self.active)
+        return clients.timed(self.active, pieces, pause)
+
+    def get(self, port: int, path: str = "/", method: str = "GET", body: clients.Body = None,
+            fields: dict[str, str] | None = None) -> tuple[int, bytes] | None:
+        """The status and the body that Python's own client is answered: see `clients.get`."""
+        self.take(port)
+        return clients.get(port, path, method, body, fields)
+
+    def wait(self) -> Ended:
+        """Waits for the end by itself, for a while; the status is the signal's where it doesn't come."""
+        assert self.process.stdout is not None
+        with self.process.stdout:
+            printed = self.process.stdout.read()
+        status = self.process.wait(processes.LONGEST)
+        self.teller.join(processes.LONGEST)
+        return Ended(printed, status)
+
+    def end(self) -> Ended:
+        """Takes the connections that are left, and waits for the end."""
+        for port, count in self.left.items():
+            for _ in range(count):
+                clients.connect(port).close()
+        return self.wait()
+
+    def check_end(self, name: str, calls: int) -> None:
+        """A check that the program ends by itself, with so many calls and status 0."""
+        ended = self.end()
+        check(name, (ended.printed.splitlines()[-1:], ended.status), ([f"calls {calls}"], 0))
+
+    def stop(self) -> None:
+        """Ends the program at once. That it had ended by itself is a failed check."""
+        if self.process.poll() is not None:
+            fail("a switch that serves", f"it ended with {self.process.returncode}: {self.told}")
+        self.kill()
+
+    def kill(self) -> None:
+        """Ends the program at once, where it hasn't ended by itself."""
+        processes.stop(self.process)
+        assert self.process.stdout is not None
+        self.process.stdout.close()
+
+
+def opened(endpoint: int, rollout: str = ROLLOUT, *, workers: int = 1, count: int | None = None,
+           patience: int | str | None = None, descriptors: int = USUAL_DESCRIPTORS) -> tuple[Switch, Operator]:
+    """A switch that listens, whose first revision has this endpoint, and its operator."""
+    switch = Switch(rollout, workers=workers, count=count, patience=patience, descriptors=descriptors)
+    check("listening", switch.first, LISTENING)
+    operator = switch.operator()
+    operator.check(f"open one {endpoint}", "ok 0")
+    operator.check("available 1 1", "ok 0")
+    return switch, operator
+
+
+@contextlib.contextmanager
+def serving(endpoint: int, rollout: str = ROLLOUT, *, workers: int = 1, patience: int | str | None = None,
+            descriptors: int = USUAL_DESCRIPTORS) -> Iterator[Switch]:
+    """The same, for ever, and with no operator: it is ended at the end of the block."""
+    switch, operator = opened(endpoint, rollout, workers=workers, patience=patience, descriptors=descriptors)
+    operator.close()
+    try:
+        yield switch
+    finally:
+        switch.stop()

@@ -1,0 +1,71 @@
+"""A control port that a thread answers at, as the switch does: one connection after the other."""
+import socket
+import threading
+from collections.abc import Callable, Iterable, Sequence
+from types import TracebackType
+
+REPORT = ("moment 0", "phase steady", "active 1", "preview 1", "stable 1", "newest 1",
+          "revision 1 web-v1 desired 2 available 2 open 0 deadline none", "end")
+ENDS = None  # given as a reply: the connection is ended without one
+
+Answer = Callable[[str], Sequence[str] | None]
+
+
+def free_port() -> int:
+    """A port that nothing listens at."""
+    with socket.socket() as one:
+        one.bind(("127.0.0.1", 0))
+        port: int = one.getsockname()[1]
+        return port
+
+
+class FakePort:
+    """Answers each line by what a function gives for it. `lines` are all that were sent, in turn."""
+
+    def __init__(self, answer: Answer, port: int = 0, lines: list[str] | None = None) -> None:
+        self.answer = answer
+        self.lines: list[str] = [] if lines is None else lines
+        self.listener = socket.create_server(("127.0.0.1", port))
+        self.port: int = self.listener.getsockname()[1]
+        self.taken: socket.socket | None = None
+        self.thread = threading.Thread(target=self._serve, daemon=True)
+        self.thread.start()
+
+    def __enter__(self) -> "FakePort":
+        return self
+
+    def __exit__(self, kind: type[BaseException] | None, error: BaseException | None, trace: TracebackType | None) -> None:
+        self.close()
+
+    def close(self) -> None:
+        """Ends the port and the connection that it serves, as the death of a switch does."""
+        for one in (self.listener, self.taken):
+            if one is not None:
+                try:
+                    one.shutdown(socket.SHUT_RDWR)
+                except OSError:
+                    pass
+        self.thread.join(5)
+        self.listener.close()
+
+    def _serve(self) -> None:
+        while True:
+            try:
+                connection, _ = self.listener.accept()
+            except OSError:
+                return
+            self.taken = connection
+            with connection, connection.makefile("r", encoding="latin-1", newline="\n") as lines:
+                try:
+                    self._answer_lines(connection, lines)
+                except OSError:
+                    pass
+            self.taken = None
+
+    def _answer_lines(self, connection: socket.socket, lines: Iterable[str]) -> None:
+        for line in lines:
+            self.lines.append(line.rstrip("\n"))
+            reply = self.answer(line.rstrip("\n"))
+            if reply is ENDS:
+                return
+            connection.sendall("".join(f"{each}\n" for each in reply).encode("latin-1"))

@@ -1,0 +1,173 @@
+"""What the tests of whole tools share: endpoints, plans, and runs of bin/controller and bin/operator before a fake switch."""
+import contextlib
+import json
+import os
+import pathlib
+import signal
+import socket
+import subprocess
+import sys
+import threading
+import time
+from collections.abc import Callable, Iterator, Sequence
+from typing import NamedTuple
+
+TOP = pathlib.Path(__file__).resolve().parents[1]
+TOOLS = pathlib.Path(os.environ.get("BG_SWITCH_TOOLS", str(TOP / "bin")))  # other tools can be tried in their place
+WAIT = 60.0  # seconds for which anything is awaited
+LOOK = 0.02  # seconds between two looks at what is awaited
+
+
+def comes(holds: Callable[[], object], longest: float = WAIT) -> bool:
+    """Whether this holds within so many seconds."""
+    latest = time.monotonic() + longest
+    while not holds():
+        if time.monotonic() > latest:
+            return False
+        time.sleep(LOOK)
+    return True
+
+
+class Endpoint:
+    """Answers each connection with a response in pieces, with a pause after each."""
+
+    def __init__(self, status: str = "200 OK") -> None:
+        self.port = 0
+        self.pieces: Sequence[bytes] = [f"HTTP/1.1 {status}\r\nContent-Length: 2\r\n\r\nok".encode()]
+        self.pause = 0.0
+        self.start()
+
+    def start(self) -> None:
+        self.listener = socket.create_server(("127.0.0.1", self.port), backlog=64)
+        self.port = self.listener.getsockname()[1]
+        threading.Thread(target=self._accept, args=(self.listener,), daemon=True).start()
+
+    def stop(self) -> None:
+        with contextlib.suppress(OSError):
+            self.listener.shutdown(socket.SHUT_RDWR)
+        self.listener.close()
+
+    def trickle(self) -> None:
+        """From now on it sends a byte of its response every half second."""
+        self.pieces, self.pause = [bytes([byte]) for byte in b"HTTP/1.1 200 OK\r\nContent-Length: 9999\r\n\r\n" + b"x" * 9999], 0.5
+
+    def _accept(self, listener: socket.socket) -> None:
+        with contextlib.suppress(OSError):
+            while True:
+                threading.Thread(target=self._serve, args=(listener.accept()[0],), daemon=True).start()
+
+    def _serve(self, connection: socket.socket) -> None:
+        with connection, contextlib.suppress(OSError):
+            connection.recv(65536)
+            for piece in self.pieces:
+                connection.sendall(piece)
+                time.sleep(self.pause)
+
+
+class Plan:
+    """The file of a plan, which is put in place whole."""
+
+    def __init__(self, folder: str, control: int) -> None:
+        self.path = os.path.join(folder, "plan.json")
+        self.told: dict[str, object] = {"control": control, "health": {"interval": 0.1, "timeout": 0.5, "failures": 2}}
+
+    def write(self, revisions: Sequence[tuple[str, Sequence[int]]], **members: object) -> None:
+        self.told.update(members)
+        self.told["revisions"] = [{"name": name, "ports": list(ports)} for name, ports in revisions]
+        self.write_text(json.dumps(self.told))
+
+    def write_text(self, text: str) -> None:
+        pathlib.Path(f"{self.path}.fresh").write_text(text, encoding="utf-8")
+        os.replace(f"{self.path}.fresh", self.path)
+
+
+class Run(NamedTuple):
+    """What a run has printed, what it told on standard error, and its status."""
+    printed: str
+    told: str
+    status: int
+
+
+class ControllerRun:
+    """A running bin/controller, whose log is read as it comes."""
+
+    def __init__(self, words: Sequence[str], program: Sequence[str] = (str(TOOLS / "controller"),)) -> None:
+        self.log: list[str] = []
+        self.told = ""
+        self.process = subprocess.Popen([*program, *words], stdin=subprocess.DEVNULL, stdout=subprocess.PIPE,
+                                        stderr=subprocess.PIPE, text=True)
+        self.thread = threading.Thread(target=self._read, daemon=True)
+        self.thread.start()
+
+    def _read(self) -> None:
+        assert self.process.stdout is not None
+        for line in self.process.stdout:
+            self.log.append(line.rstrip("\n"))
+
+    def says(self, *words: str, longest: float = WAIT) -> bool:
+        """Whether a line of the log that has all of these words comes in time."""
+        return comes(lambda: self.count(*words) > 0, longest)
+
+    def count(self, *words: str) -> int:
+        return sum(all(word in line for word in words) for line in list(self.log))
+
+    def signal(self, number: int) -> tuple[int | None, float]:
+        """Sends a signal. Gives the status, None where it doesn't end in ten seconds, and after how many seconds it came."""
+        begun = time.monotonic()
+        self.process.send_signal(number)
+        try:
+            status: int | None = self.process.wait(10)
+        except subprocess.TimeoutExpired:
+            status = None
+        return status, time.monotonic() - begun
+
+    def kill(self) -> None:
+        """Ends it as a crash does."""
+        self.process.kill()
+        self.process.wait(WAIT)
+
+    def end(self) -> Run:
+        """Ends it, and gives what it has told."""
+        if self.process.poll() is None:
+            self.process.send_signal(signal.SIGTERM)
+        return self.wait()
+
+    def wait(self) -> Run:
+        """Waits for its end."""
+        assert self.process.stderr is not None and self.process.stdout is not None
+        try:
+            self.process.wait(WAIT)
+        except subprocess.TimeoutExpired:
+            self.kill()
+        self.thread.join(WAIT)
+        if not self.process.stderr.closed:
+            self.told = self.process.stderr.read()
+            self.process.stderr.close()
+            self.process.stdout.close()
+        return Run("\n".join(self.log), self.told, self.process.returncode)
+
+
+@contextlib.contextmanager
+def controlling(plan: Plan, *words: str) -> Iterator[ControllerRun]:
+    """A run of bin/controller, which is ended whatever happens."""
+    run = ControllerRun([*words, plan.path])
+    try:
+        yield run
+    finally:
+        run.kill()
+        run.wait()
+
+
+def with_fast_clock(factor: int, path: str, *words: str) -> list[str]:
+    """The words of a run of a Python program whose monotonic clock goes so many times faster."""
+    code = ("import sys, time, runpy; real = time.monotonic; "
+            f"time.monotonic = lambda: real() * {factor}; sys.argv = {[path, *words]!r}; "
+            f"runpy.run_path({path!r}, run_name='__main__')")
+    return [sys.executable, "-B", "-c", code]
+
+
+def operator(port: int, *words: str, lines: str = "") -> Run:
+    """A run of bin/operator."""
+    run = subprocess.run([str(TOOLS / "operator"), str(port), *words], input=lines, capture_output=True, text=True, timeout=WAIT,
+                         check=False)
+    return Run(run.stdout, run.stderr, run.returncode)

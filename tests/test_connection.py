@@ -1,0 +1,101 @@
+"""Lines that go to a control port."""
+import threading
+import time
+import unittest
+from collections.abc import Sequence
+
+from bg_switch_tools.connection import Connection, Unreachable, ask, words_of
+from tests.fake_port import ENDS, REPORT, FakePort, free_port
+
+
+def usual(line: str) -> Sequence[str]:
+    return REPORT if line == "report" else ["ok 0"]
+
+
+class Words(unittest.TestCase):
+    def test_spaces_alone_part_words(self) -> None:
+        self.assertEqual(words_of(b"  tick   5 \r"), [b"tick", b"5"])
+        self.assertEqual(words_of(b"tick\t5"), [b"tick\t5"])
+        self.assertEqual(words_of(b""), [])
+
+
+class Ask(unittest.TestCase):
+    def test_a_line_is_sent_after_a_report(self) -> None:
+        with FakePort(usual) as port:
+            self.assertEqual(ask(port.port, b"tick 1", 5), ["ok 0"])
+            self.assertEqual(port.lines, ["report", "tick 1"])
+
+    def test_a_report_is_asked_once(self) -> None:
+        with FakePort(usual) as port:
+            self.assertEqual(ask(port.port, b" report ", 5), list(REPORT))
+            self.assertEqual(port.lines, ["report"])
+
+    def test_a_report_that_is_refused_has_one_line(self) -> None:
+        with FakePort(lambda line: ["refused NotOpen"]) as port:
+            self.assertEqual(ask(port.port, b"report", 5), ["refused NotOpen"])
+
+    def test_quit_has_no_reply(self) -> None:
+        with FakePort(lambda line: ENDS if line == "quit" else REPORT) as port:
+            self.assertEqual(ask(port.port, b"quit", 5), [])
+            self.assertEqual(port.lines, ["report", "quit"])
+
+    def test_nothing_listens(self) -> None:
+        with self.assertRaisesRegex(Unreachable, "can't be reached"):
+            ask(free_port(), b"report", 0.2)
+
+    def test_a_switch_that_starts_is_waited_for(self) -> None:
+        port = free_port()
+        later: list[FakePort] = []
+        timer = threading.Timer(0.3, lambda: later.append(FakePort(usual, port)))
+        timer.start()
+        self.assertEqual(ask(port, b"tick 1", 5), ["ok 0"])
+        later[0].close()
+
+    def test_a_line_is_not_sent_where_the_port_is_held(self) -> None:
+        with FakePort(usual) as port, Connection(port.port, 5) as holder:
+            self.assertEqual(holder.answer(b"tick 1"), ["ok 0"])
+            with self.assertRaisesRegex(Unreachable, "another connection holds it"):
+                ask(port.port, b"tick 2", 0.2)
+            holder.close()
+            self.assertEqual(ask(port.port, b"tick 3", 5), ["ok 0"])
+            self.assertNotIn("tick 2", port.lines)
+
+    def test_no_reply_after_the_line_was_sent(self) -> None:
+        with FakePort(lambda line: REPORT if line == "report" else ENDS) as port:
+            with self.assertRaisesRegex(Unreachable, "a report tells whether it was carried out"):
+                ask(port.port, b"promote", 5)
+
+    def test_the_wait_is_for_the_whole_of_a_reply(self) -> None:
+        def slowly(line: str) -> Sequence[str]:
+            time.sleep(0.15)
+            return ["ok 0"]
+        with FakePort(slowly) as port, Connection(port.port, 0.4) as connection:
+            with self.assertRaises(Unreachable):
+                connection.answers([b"tick 1"] * 6)
+
+    def test_a_peer_that_is_no_switch(self) -> None:
+        wrong_ones: list[list[str]] = [["x" * 70000], ["HTTP/1.1 400 Bad Request"], ["moment 0"] * 200]
+        for reply in wrong_ones:
+            with FakePort(lambda line: reply) as port, self.assertRaisesRegex(Unreachable, "is no switch"):
+                ask(port.port, b"report", 5)
+
+
+class Lines(unittest.TestCase):
+    def test_several_lines_in_one_piece(self) -> None:
+        with FakePort(usual) as port, Connection(port.port, 5) as connection:
+            self.assertEqual(connection.answers([b"tick 1", b"report", b"tick 2"]), [["ok 0"], list(REPORT), ["ok 0"]])
+
+    def test_each_order_has_a_deadline_of_its_own(self) -> None:
+        with FakePort(usual) as port, Connection(port.port, 0.3) as connection:
+            for _ in range(3):
+                self.assertEqual(connection.order("tick 1"), "ok 0")
+                time.sleep(0.2)
+
+    def test_the_switch_ends_the_connection(self) -> None:
+        with FakePort(lambda line: ENDS) as port, Connection(port.port, 5) as connection:
+            with self.assertRaisesRegex(Unreachable, "ended the connection"):
+                connection.order("tick 1")
+
+
+if __name__ == "__main__":
+    unittest.main()

@@ -1,0 +1,92 @@
+"""Probes of endpoints."""
+import asyncio
+import time
+import unittest
+
+from bg_switch_tools.plan import Health
+from bg_switch_tools.probes import Probes, is_up
+from tests.fake_port import free_port
+from tests.scenes import Endpoint, comes
+
+HEALTH = Health("/", 0.05, 0.6, 2)
+
+
+def answered(*pieces: bytes, pause: float = 0.0) -> bool | None:
+    """What a probe says of an endpoint that answers so."""
+    endpoint = Endpoint()
+    endpoint.pieces, endpoint.pause = pieces, pause
+    try:
+        return asyncio.run(is_up(endpoint.port, HEALTH))
+    finally:
+        endpoint.stop()
+
+
+class Answers(unittest.TestCase):
+    def test_good_ones(self) -> None:
+        for whole in (b"HTTP/1.1 200 OK\r\nContent-Length: 2\r\n\r\nok", b"HTTP/1.0 204 No Content\r\n\r\n",
+                      b"HTTP/1.1 399 x\r\n\r\nto the end", b"HTTP/1.1 100 Continue\r\n\r\nHTTP/1.1 200 OK\r\nContent-Length: 0\r\n\r\n",
+                      b"HTTP/1.1 200 OK\r\nTransfer-Encoding: chunked\r\n\r\n3;x=y\r\nabc\r\n0\r\n\r\n",
+                      b"HTTP/1.1 304 Not Modified\r\nContent-Length: 7\r\n\r\n", b"HTTP/1.1 200\r\ncontent-length: 0\r\n\r\n"):
+            with self.subTest(response=whole):
+                self.assertIs(answered(whole), True)
+                self.assertIs(answered(whole[:20], whole[20:], pause=0.05), True)
+
+    def test_bad_ones(self) -> None:
+        for whole in (b"HTTP/1.1 500 x\r\nContent-Length: 0\r\n\r\n", b"HTTP/1.1 400 x\r\n\r\n", b"", b"SSH-2.0-x\r\n\r\n",
+                      b"HTTP/1.1 200 OK\r\nContent-Length: 9\r\n\r\nok", b"HTTP/1.1 200 OK\r\nContent-Length: x\r\n\r\nok",
+                      b"HTTP/1.1 200 OK\r\nTransfer-Encoding: chunked\r\n\r\n3\r\nabc\r\n", b"HTTP/1.1 200 OK\r\n",
+                      b"HTTP/1.1 200 OK\r\nTransfer-Encoding: chunked\r\n\r\nx\r\n", b"x" * 200000, b"HTTP/1.1 x OK\r\n\r\n"):
+            with self.subTest(response=whole[:40]):
+                self.assertIs(answered(whole), False)
+
+    def test_nothing_listens(self) -> None:
+        self.assertIs(asyncio.run(is_up(free_port(), HEALTH)), False)
+
+    def test_the_limit_is_for_the_whole(self) -> None:
+        begun = time.monotonic()
+        self.assertIs(answered(*[bytes([byte]) for byte in b"HTTP/1.1 200 OK\r\nContent-Length: 0\r\n\r\n"], pause=0.2), False)
+        self.assertLess(time.monotonic() - begun, 3)
+
+
+class Together(unittest.TestCase):
+    def test_no_endpoint_delays_another(self) -> None:
+        hanging = [Endpoint() for _ in range(40)]
+        for endpoint in hanging:
+            endpoint.trickle()
+            self.addCleanup(endpoint.stop)
+        good = Endpoint()
+        self.addCleanup(good.stop)
+        probes = Probes()
+        probes.watch([good.port, *(endpoint.port for endpoint in hanging)], Health("/", 0.05, 60, 2))
+        self.assertTrue(comes(lambda: probes.first_up([good.port]) == 1, 5))
+        self.assertIsNone(probes.first_up([good.port, hanging[0].port]))
+        good.stop()
+        self.assertTrue(comes(lambda: probes.first_up([good.port]) == 0, 5))
+
+    def test_failures_in_a_row(self) -> None:
+        first, second = Endpoint(), Endpoint()
+        probes = Probes()
+        ports = [first.port, second.port]
+        self.assertIsNone(probes.first_up(ports))
+        probes.watch(ports, HEALTH)
+        self.assertTrue(comes(lambda: probes.first_up(ports) == 2))
+        second.stop()
+        self.assertTrue(comes(lambda: probes.first_up(ports) == 1))
+        first.stop()
+        self.assertTrue(comes(lambda: probes.first_up(ports) == 0))
+        for endpoint in (first, second):
+            endpoint.start()
+            self.addCleanup(endpoint.stop)
+        self.assertTrue(comes(lambda: probes.first_up(ports) == 2))
+        probes.watch(ports[:1], HEALTH)
+        self.assertTrue(comes(lambda: probes.first_up(ports) is None))
+
+    def test_one_failure_of_two_is_none(self) -> None:
+        probes = Probes()
+        for up, wanted in ((True, 1), (False, 1), (False, 0), (True, 1), (None, 1), (False, 1), (True, 1), (False, 1)):
+            probes._take_in(7, up)
+            self.assertEqual(probes.first_up([7]), wanted)
+
+
+if __name__ == "__main__":
+    unittest.main()
