@@ -1,9 +1,0 @@
-use Rattle.bg_history_compaction.proofs.Compacted.{past-once}
-use Rattle.bg_history_compaction.proofs.Raising.{closed-once}
-use Rattle.bg_history_compaction.proofs.laws.compacts_once.Goals as goal
-
-pub returns-clause-past : goal.returns-clause-past
-returns-clause-past c = past-once
-
-pub returns-clause-closed : goal.returns-clause-closed
-returns-clause-closed c = closed-once

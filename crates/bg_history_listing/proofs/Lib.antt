@@ -1,5 +1,0 @@
-mod Members
-mod Templates
-mod Mapped
-mod Changed
-mod Found

@@ -1,5 +1,0 @@
-use Rattle.bg_history_settling.proofs.Work.{work-falls}
-use Rattle.bg_history_settling.proofs.laws.work_falls.Goals as goal
-
-pub returns : goal.returns
-returns c s past x first = work-falls s past x (c.existing_ascends.ensures past) first
