@@ -4,25 +4,15 @@ use crate::asking::{made, made_again};
 use crate::stop::Stop;
 use crate::strategies::base_strategy;
 use bg_audit::audit;
-use bg_history::{Entry, History, Outcome};
-use bg_revisions::{Name, Ports, Service};
+use bg_history::{Entry, History};
+use bg_revisions::Service;
 use bg_strategy::Strategy;
 use std::alloc::Global;
 
 pub fn make_calls<R: AllocGlobal + Print + Eprint>(rt: &R) -> Result<(), Stop> {
     let strategy = base_strategy(rt)?;
     let history = make_history(rt)?;
-    show_verdict(rt, &history, &strategy)?;
-    let switch = make_switch(rt)?;
-    show_verdict(rt, &switch, &strategy)
-}
-
-fn show_verdict<R: AllocGlobal + Print + Eprint>(
-    rt: &R,
-    history: &History,
-    strategy: &Strategy,
-) -> Result<(), Stop> {
-    let is_legal = audit_history(rt, history, strategy)?;
+    let is_legal = audit_history(rt, &history, &strategy)?;
     println!(rt; "legal and settled: {is_legal}")?;
     Ok(())
 }
@@ -55,36 +45,6 @@ fn new_history(alloc: Global) -> Result<History, Stop> {
         number: 1,
         revision: 1,
     });
-    Ok(history)
-}
-
-fn make_switch<R: AllocGlobal + Print + Eprint>(rt: &R) -> Result<History, Stop> {
-    let alloc = rt.alloc();
-    match made(rt, "History of a switch", new_switch(alloc))? {
-        Some(history) => Ok(history),
-        None => made_again(rt, "History of a switch", new_switch(alloc)),
-    }
-}
-
-/// Revision 2 takes the place of revision 1, which is scaled down once its delay is over.
-fn new_switch(alloc: Global) -> Result<History, Stop> {
-    let mut history = History::new(alloc, 2, "v1", &[9001, 9002])?;
-    history.reserve(8)?;
-    history.push_reserved(Entry::Deploy {
-        revision: 2,
-        name: Name::new(alloc, "v2")?,
-        ports: Ports::new(alloc, &[9101, 9102])?,
-    });
-    history.push_reserved(Entry::Available {
-        revision: 2,
-        size: 2,
-    });
-    history.push_reserved(Entry::Outcome(Outcome::Ready(2)));
-    history.push_reserved(Entry::Outcome(Outcome::Resumed(2)));
-    history.push_reserved(Entry::Outcome(Outcome::Switched(2)));
-    history.push_reserved(Entry::Outcome(Outcome::Promoted(2)));
-    history.push_reserved(Entry::Tick(30));
-    history.push_reserved(Entry::Outcome(Outcome::ScaledDown(1)));
     Ok(history)
 }
 

@@ -16,14 +16,6 @@ const REQUEST: &str =
 const RESPONSE: &str =
     "HTTP/1.1 103 Early Hints\r\nA: b\r\n\r\nHTTP/1.1 200 OK\r\nB: c\r\nContent-Length: 3\r\n\r\none";
 
-/// A request of an exchange: a field is named by Connection.
-const EXCHANGE_REQUEST: &str =
-    "GET /a HTTP/1.1\r\nHost: x\r\nConnection: keep-alive, X-Drop\r\nX-Drop: 1\r\n\r\n";
-
-/// Its response, whose body comes in chunks.
-const EXCHANGE_RESPONSE: &str =
-    "HTTP/1.1 200 OK\r\nTransfer-Encoding: chunked\r\n\r\n3\r\nabc\r\n0\r\n\r\n";
-
 /// Fields, which are displayed whole.
 #[derive(Drop)]
 struct Head {
@@ -50,19 +42,9 @@ pub fn make_calls<R: AllocGlobal + Print + Eprint>(rt: &R) -> Result<(), Stop> {
     let bytes = make_bytes(rt)?;
     println!(rt; "{bytes:?}")?;
     make_fields(rt)?;
-    make_messages(rt, REQUEST, RESPONSE)?;
-    make_messages(rt, EXCHANGE_REQUEST, EXCHANGE_RESPONSE)
-}
-
-/// Reads a request and the response to it.
-fn make_messages<R: AllocGlobal + Print + Eprint>(
-    rt: &R,
-    request: &str,
-    response: &str,
-) -> Result<(), Stop> {
-    let request = make_request(rt, request)?;
+    let request = make_request(rt)?;
     println!(rt; "{request:?}")?;
-    let response = make_response(rt, &request, response)?;
+    let response = make_response(rt, &request)?;
     println!(rt; "{response:?}")?;
     Ok(())
 }
@@ -87,17 +69,17 @@ fn make_fields<R: AllocGlobal + Print + Eprint>(rt: &R) -> Result<(), Stop> {
     show(rt, &head)
 }
 
-fn make_request<R: AllocGlobal + Print + Eprint>(rt: &R, text: &str) -> Result<Request, Stop> {
+fn make_request<R: AllocGlobal + Print + Eprint>(rt: &R) -> Result<Request, Stop> {
     let alloc = rt.alloc();
-    match made(rt, "read_request", new_request(alloc, text))? {
+    match made(rt, "read_request", new_request(alloc))? {
         Some(request) => Ok(request),
-        None => made_again(rt, "read_request", new_request(alloc, text)),
+        None => made_again(rt, "read_request", new_request(alloc)),
     }
 }
 
-fn new_request(alloc: Global, text: &str) -> Result<Request, Stop> {
+fn new_request(alloc: Global) -> Result<Request, Stop> {
     let mut client = Line {
-        input: text.as_bytes(),
+        input: REQUEST.as_bytes(),
     };
     Ok(read_request(alloc, &mut client)?)
 }
@@ -105,16 +87,15 @@ fn new_request(alloc: Global, text: &str) -> Result<Request, Stop> {
 fn make_response<R: AllocGlobal + Print + Eprint>(
     rt: &R,
     request: &Request,
-    text: &str,
 ) -> Result<Response, Stop> {
     let alloc = rt.alloc();
-    match made(rt, "read_response", new_response(alloc, request, text))? {
+    match made(rt, "read_response", new_response(alloc, request))? {
         Some(response) => Ok(response),
-        None => made_again(rt, "read_response", new_response(alloc, request, text)),
+        None => made_again(rt, "read_response", new_response(alloc, request)),
     }
 }
 
-fn new_response(alloc: Global, request: &Request, text: &str) -> Result<Response, Stop> {
-    let mut endpoint = text.as_bytes();
+fn new_response(alloc: Global, request: &Request) -> Result<Response, Stop> {
+    let mut endpoint = RESPONSE.as_bytes();
     Ok(read_response(alloc, request, &mut endpoint)?)
 }
