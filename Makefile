@@ -1,5 +1,5 @@
 # check: for the working day.  build: proves and builds the program.  test: the gate.  demo: the examples.  demo-live: a
-# rollout under traffic.  bench: times.  tools: one file of the Python tools.  lint, test-tools: judge and test them.  NAME:
+# rollout under traffic, and one that its analysis takes back.  bench: times.  tools: one file of the Python tools.  lint, test-tools: judge and test them.  NAME:
 # proves and builds the library NAME and what it stands on.
 CRATES := $(shell sed -n 's/^\([a-z_]*\)[^:]*:.*/\1/p' crates.txt)
 LIBRARIES := $(foreach crate,$(CRATES),$(if $(wildcard crates/$(crate)/src/lib.rt),$(crate)))
@@ -7,21 +7,34 @@ LIBRARIES := $(foreach crate,$(CRATES),$(if $(wildcard crates/$(crate)/src/lib.r
 below = $(filter $(LIBRARIES),$(shell sed -n 's/^$(1)\( [^:]*\)*: *//p' crates.txt))
 # How many checks the gate makes side by side, each with one job: memory holds three, and one that is split into four jobs
 # costs a sixth more processor time.
+PROCESSORS := $(shell nproc)
 CHECKS := $(shell count=$$(nproc); [ $$count -lt 3 ] || count=3; echo $$count)
+GROUPS := group-rules group-http group-others
 BENCHES := $(filter-out bench/run.sh,$(wildcard bench/*.sh))
 PYTHON := $(shell git ls-files '*.py')
 ARCHIVE := out/bg_switch_tools.pyz
 
-.PHONY: check build test lint tools test-tools demo demo-live bench $(LIBRARIES)
+.PHONY: check build test lint tools test-tools demo demo-live bench $(GROUPS) $(LIBRARIES)
 
 check:
 	rt all check
 	scripts/whole_program.sh
 
-# One command checks all crates, so that none waits for a lock: rt lib locks its crate and all below it.
+# rt locks a crate and all below it, and proves one crate at a time below the one that it is asked for. So the libraries
+# are proved side by side in groups that share none, and those of the longest chain by several processors each.
 build:
-	cd crates/bg_switch && rt all check --jobs $(shell nproc)
-	cd crates/bg_switch && rt run -- check < ../../examples/direct.json > /dev/null
+	@$(MAKE) --no-print-directory --jobs=$(CHECKS) $(GROUPS)
+	cd crates/bg_switch && rt run --jobs $(PROCESSORS) -- check < ../../examples/direct.json > /dev/null
+
+group-rules:
+	cd crates/bg_history_laws && rt lib --jobs 2
+	cd crates/bg_promotion && rt lib --jobs 2
+	cd crates/bg_script && rt lib --jobs $(PROCESSORS)
+group-http:
+	cd crates/bg_client_port && rt lib --jobs 1
+group-others:
+	for crate in bg_openlist bg_ledger bg_command_line bg_control_port bg_access_log; do \
+	    (cd crates/$$crate && rt lib --jobs 1) || exit; done
 
 $(foreach crate,$(LIBRARIES),$(eval $(crate): $(call below,$(crate))))
 
@@ -42,7 +55,7 @@ lint:
 
 # They need no switch: a thread answers at a control port of its own.
 test-tools:
-	PYTHONPATH=lib python3 -B -m tests
+	PYTHONPATH=lib:scripts python3 -B -m tests
 
 tools:
 	@mkdir -p out
@@ -57,6 +70,7 @@ demo: build
 
 demo-live: build
 	examples/live/demo.py
+	examples/live/bad_revision.py
 
 # Each bench, one after the other; it fails at the end where one did.
 bench: build

@@ -1,17 +1,19 @@
-"""The tools, by their names: `operator` and `controller`. bin/operator and bin/controller start them, and so does the one file
+"""The tools, by their names. bin/operator, bin/controller, bin/analysis and bin/dashboard start them, and so does the one file
 that `make tools` makes."""
 import contextlib
 import os
 import sys
 
-from bg_switch_tools import controller_command, operator_command
+from bg_switch_tools import analysis_command, controller_command, operator_command
+from bg_switch_tools.dashboard import dashboard_command
 
-TOOLS = {"operator": operator_command.main, "controller": controller_command.main}
+TOOLS = {"operator": operator_command.main, "controller": controller_command.main, "analysis": analysis_command.main,
+         "dashboard": dashboard_command.main}
 
 
 def main() -> int:
     if len(sys.argv) < 2 or sys.argv[1] not in TOOLS:
-        print("operator or controller is wanted, and the words of that tool after it", file=sys.stderr)
+        print("operator, controller, analysis or dashboard is wanted, and the words of that tool after it", file=sys.stderr)
         return 2
     return TOOLS[sys.argv[1]](sys.argv[2:])
 

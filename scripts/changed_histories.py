@@ -1,5 +1,5 @@
 #!/usr/bin/env python3
-"""Writes crates/bg_tests/src/history/changed.rt: histories that scripts gather, single changes of their entries, and for
+"""Writes crates/bg_tests/src/history/changed_histories.rt: histories that scripts gather, single changes of their entries, and for
 each change whether the history is still legal and settled.
 
 The verdicts come from the definitions below alone, which ask a list of entries, oldest first, as a reader would ask it.
@@ -13,7 +13,7 @@ from typing import Literal, NamedTuple, TypeAlias, TypeVar
 
 ROOT = pathlib.Path(__file__).resolve().parent.parent
 SCRIPTS = ROOT / "crates/bg_tests/src/desk/scripts.rt"
-TABLE = ROOT / "crates/bg_tests/src/history/changed.rt"
+TABLE = ROOT / "crates/bg_tests/src/history/changed_histories.rt"
 CHANGES = 200
 SEED = 2026
 SEATS = 4

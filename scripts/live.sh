@@ -1,21 +1,56 @@
 #!/bin/sh
-# Runs `serve` of the built program before small endpoints on loopback (python3, and curl): what clients and operators are
-# answered (live.py), slow peers (live_patience.py), hostile ones (live_attack.py), the
-# operator's tool, the controller, crashes, and the sessions of README.md and docs/OPERATING.md. They run side by side, since
-# they mostly wait.
+# Runs `serve` of the built program before small endpoints on loopback (python3, and curl). The parts run side by side, since
+# they mostly wait:
+#   live             what clients, operators and endpoints get through a rollout, and the last report
+#   live_starting    faults of the strategy, and ports that are taken
+#   live_timeouts    slow clients and endpoints, and requests that are given up
+#   live_resources   connections that are used up; descriptors and threads that can't be had
+#   live_attack      hostile clients, endpoints and operators
+#   live_random      ten thousand exchanges at random
+#   live_operator    the operator's tool
+#   live_controller  the controller
+#   live_crash       crashes of the switch and of the controller
+#   live_readme, live_operating   the sessions of README.md and of docs/OPERATING.md
+#   live_clients     slow, silent, hasty and many clients
+#   live_endpoints   endpoints that hang, are silent, or are ports of the switch
+#   live_control     what holds up the control port, and what browsers send there
+#   live_shutdown    the graceful shutdown, and what is told on standard error
+#   live_production  the files of examples/production, before nginx
+#   live_access_log, live_access_log_random   the access log, and two thousand connections of all kinds beside it
+#   live_history     a full history
+#   live_dashboard   the dashboard's page in a browser, and a bad revision that its analysis takes back
 set -eu
 cd "$(dirname -- "$0")/.."
 # Builds the program where it is stale.
 bin/bg_switch check < examples/direct.json > /dev/null
 work=$(mktemp -d)
 trap 'rm -rf "$work"' EXIT
-parts='live live_patience live_attack live_operator live_controller live_crash live_readme live_operating'
-for part in $parts; do
-    { python3 -B "scripts/$part.py" > "$work/$part" 2>&1 && : > "$work/$part.passed"; } &
+parts='live live_starting live_timeouts live_resources live_attack live_random live_operator live_controller
+    live_readme live_operating live_clients live_endpoints live_control live_shutdown live_production live_access_log
+    live_access_log_random live_history'
+# These run alone: one has a time limit of two seconds, and a browser is slow beside all of the others.
+alone='live_crash live_dashboard'
+play() {
+    for part in "$@"; do
+        { python3 -B "scripts/$part.py" > "$work/$part" 2>&1 && : > "$work/$part.passed"; } &
+    done
+    wait
+}
+# shellcheck disable=SC2086  # the names of the parts
+play $parts
+for part in $alone; do
+    play "$part"
 done
-wait
+# The limits in seconds assume a free processor. So a part that failed runs once more, alone. What its first run printed
+# is shown too.
+for part in $parts $alone; do
+    if [ ! -e "$work/$part.passed" ]; then
+        sed "s/^/$part, first run: /" "$work/$part"
+        play "$part"
+    fi
+done
 failed=0
-for part in $parts; do
+for part in $parts $alone; do
     cat "$work/$part"
     [ -e "$work/$part.passed" ] || failed=1
 done

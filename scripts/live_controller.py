@@ -1,8 +1,6 @@
-"""bin/controller before a running `serve` and endpoints: through a deploy, endpoints that are killed, a failed analysis, a
-retry, an undo and an abort by hand."""
+"""bin/controller before a running `serve` and endpoints: through a deploy, endpoints that are killed, a failed
+analysis, a retry, an undo and an abort by hand."""
 import contextlib
-import json
-import os
 import pathlib
 import re
 import signal
@@ -14,41 +12,44 @@ from support import TOP, checks
 from support.checks import check, comes
 from support.endpoints import Endpoint, by_target
 from support.operators import Operator
+from support.plans import Plan
 from support.ports import free_ports
+from support.processes import run_to_end
 from support.switch import Switch
+
+# isort: split; `support` tells where the tools' package is
+from bg_switch_tools.state import write_whole
 
 CONTROLLER = str(TOP / "bin" / "controller")
 WAIT = 20  # seconds for which anything is awaited
 LINE = re.compile(r"\d{4}-\d\d-\d\dT\d\d:\d\d:\d\d[+-]\d\d:\d\d (moment (?P<moment>\d+): )?(?P<text>\S.*)")
 GOOD, BAD, ENDLESS = 'test -n "$BG_REVISION" -a -n "$BG_PORTS" || exit 3', "exit 1", "sleep 600"
-ROLLOUT = """{"spec": {"replicas": 2, "strategy": {"blueGreen": {"activeService": "web", "previewService": "web-preview",
-"prePromotionAnalysis": {}, "postPromotionAnalysis": {}, "scaleDownDelaySeconds": 1}}}}"""
+ROLLOUT = """{"spec": {"replicas": 2, "strategy": {"blueGreen": {"activeService": "web",
+"previewService": "web-preview", "prePromotionAnalysis": {}, "postPromotionAnalysis": {},
+"scaleDownDelaySeconds": 1}}}}"""
 
 
 class Scene:
-    """A switch, endpoints of three revisions, and the folder of a plan whose analyses are the scripts `pre` and `post`."""
+    """A switch, endpoints of three revisions, and the folder of a plan whose analyses are the scripts `pre` and
+    `post`."""
 
     def __init__(self, folder: str) -> None:
         self.folder = pathlib.Path(folder)
-        self.plan_file = self.folder / "plan.json"
         self.ports = {name: free_ports(2) for name in ("one", "two", "three")}
-        self.endpoints = {port: Endpoint(by_target(name.encode()), port) for name, ports in self.ports.items() for port in ports}
+        self.endpoints = {port: Endpoint(by_target(name.encode()), port)
+                          for name, ports in self.ports.items() for port in ports}
         self.switch = Switch(ROLLOUT, workers=2, count=100)
+        self.plan = Plan(folder, self.switch.control, health={"path": "/", "interval": 0.3, "failures": 2},
+                         analyses={"pre": ["sh", "pre"], "post": ["sh", "post"]})
         self.write("pre", GOOD)
         self.write("post", GOOD)
 
     def write(self, name: str, text: str) -> None:
-        """A file is put in place whole, so that no reader sees a part of it."""
-        new = self.folder / f"{name}.new"
-        new.write_text(text, encoding="ascii")
-        os.replace(new, self.folder / name)
+        """Puts the script of an analysis in place."""
+        write_whole(str(self.folder / name), text.encode())
 
-    def plan(self, *names: str) -> None:
-        self.write("plan.json", json.dumps({
-            "control": self.switch.control,
-            "health": {"path": "/", "interval": 0.3, "failures": 2},
-            "analyses": {"pre": ["sh", "pre"], "post": ["sh", "post"]},
-            "revisions": [{"name": name, "ports": self.ports[name]} for name in names]}))
+    def write_plan(self, *names: str) -> None:
+        self.plan.write([(name, self.ports[name]) for name in names])
 
     def report(self) -> str:
         with contextlib.closing(Operator(self.switch.control)) as operator:
@@ -71,8 +72,9 @@ class Scene:
 
 def deploys(scene: Scene) -> None:
     scene.await_report("the first revision is opened", "revision 1 one desired 2 available 2 open 0 deadline none\n")
-    scene.plan("one", "two")
-    scene.await_report("a deploy", "phase steady\n", "active 2\n", "stable 2\n", "revision 2 two desired 2 available 2 ")
+    scene.write_plan("one", "two")
+    scene.await_report("a deploy", "phase steady\n", "active 2\n", "stable 2\n",
+                       "revision 2 two desired 2 available 2 ")
     scene.check_active("live traffic has moved", (200, b"two"))
     scene.await_report("the old one is scaled down", "revision 1 one desired 0 available 0 open 0 deadline none\n")
 
@@ -93,7 +95,7 @@ def endpoints_die(scene: Scene) -> None:
 
 def analysis_fails(scene: Scene) -> None:
     scene.write("post", BAD)
-    scene.plan("one", "two", "three")
+    scene.write_plan("one", "two", "three")
     scene.await_report("an analysis that failed", "phase aborted\n", "active 2\n", "newest 3\n")
     scene.check_active("live traffic is back", (200, b"two"))
     scene.write("post", GOOD)
@@ -134,8 +136,8 @@ def check_log(log: str) -> None:
 def whole_run() -> None:
     with tempfile.TemporaryDirectory() as folder:
         scene = Scene(folder)
-        scene.plan("one")
-        controller = subprocess.Popen([CONTROLLER, str(scene.plan_file)], stdout=subprocess.PIPE, text=True)
+        scene.write_plan("one")
+        controller = subprocess.Popen([CONTROLLER, scene.plan.path], stdout=subprocess.PIPE, text=True)
         try:
             for part in (deploys, endpoints_die, analysis_fails, operator_steps_in):
                 part(scene)
@@ -152,8 +154,8 @@ def plans_that_are_wrong() -> None:
         plan = pathlib.Path(folder) / "plan.json"
         for text in ("", "{}", "[]", '{"control": 1, "revisions": []}', '{"control": 1, "revisions": [{"name": "a"}]}'):
             plan.write_text(text, encoding="ascii")
-            run = subprocess.run([CONTROLLER, str(plan)], capture_output=True, text=True, timeout=WAIT, check=False)
-            check(f"the plan {text!r}", (run.stdout, run.returncode, "is no plan" in run.stderr), ("", 1, True))
+            run = run_to_end([CONTROLLER, str(plan)], longest=WAIT)
+            check(f"the plan {text!r}", (run.printed, run.status, "is no plan" in run.told), ("", 1, True))
 
 
 if __name__ == "__main__":

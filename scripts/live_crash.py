@@ -1,7 +1,7 @@
-"""What outlives a crash: the switch, the controller or both are killed while web-v2 is stable and web-v3 is in its pause, and
-web-v1 is gone. Started again, clients are answered by web-v2 within two seconds, and web-v3 is deployed again."""
+"""What outlives a crash: the switch, the controller or both are killed while web-v2 is stable and web-v3 is in its
+pause, and web-v1 is gone. Started again, clients are answered by web-v2 within two seconds, and web-v3 is deployed
+again."""
 import json
-import os
 import pathlib
 import subprocess
 import tempfile
@@ -13,6 +13,7 @@ from typing import NamedTuple
 from support import TOP, checks, clients, processes
 from support.checks import check, check_within, comes
 from support.endpoints import Endpoint, by_target
+from support.plans import Plan
 from support.ports import free_ports
 from support.switch import LISTENING, PROGRAM, words_of_serve
 
@@ -20,7 +21,8 @@ from support.switch import LISTENING, PROGRAM, words_of_serve
 from bg_switch_tools.connection import Unreachable, ask
 from bg_switch_tools.reports import Report, read_report
 
-ROLLOUT = """{"spec": {"replicas": 2, "strategy": {"blueGreen": {"activeService": "web", "previewService": "web-preview",
+ROLLOUT = """{"spec": {"replicas": 2, "strategy": {"blueGreen": {"activeService": "web",
+"previewService": "web-preview",
 "autoPromotionEnabled": false, "scaleDownDelaySeconds": 1}}}}"""
 NAMES = ("web-v1", "web-v2", "web-v3")
 WORKERS, COUNT = 2, 100000
@@ -72,23 +74,20 @@ class Scene:
     """A switch, a controller, endpoints of three revisions, and the plan that names them."""
 
     def __init__(self, folder: str) -> None:
-        self.plan = pathlib.Path(folder) / "plan.json"
         self.state = pathlib.Path(folder) / "plan.json.state"
         self.ports = {name: free_ports(2) for name in NAMES}
-        self.endpoints = [Endpoint(by_target(name.encode()), port) for name, ports in self.ports.items() for port in ports]
+        self.endpoints = [Endpoint(by_target(name.encode()), port)
+                          for name, ports in self.ports.items() for port in ports]
         self.active, preview, self.control = free_ports(3)
+        self.plan = Plan(folder, self.control, health={"interval": 0.2, "timeout": 1, "failures": 2})
         self.write_plan(2)
         words = [PROGRAM, *words_of_serve(self.active, self.control, preview, WORKERS, COUNT)]
         self.switch = Process(words, ROLLOUT, LISTENING)
-        self.controller = Process([str(TOP / "bin" / "controller"), str(self.plan)], "")
+        self.controller = Process([str(TOP / "bin" / "controller"), self.plan.path], "")
 
     def write_plan(self, count: int) -> None:
         """Puts a plan in place that names the first so many revisions."""
-        fresh = self.plan.with_suffix(".new")
-        fresh.write_text(json.dumps({
-            "control": self.control, "health": {"interval": 0.2, "timeout": 1, "failures": 2},
-            "revisions": [{"name": name, "ports": self.ports[name]} for name in NAMES[:count]]}), encoding="ascii")
-        os.replace(fresh, self.plan)
+        self.plan.write([(name, self.ports[name]) for name in NAMES[:count]])
 
     def report(self) -> Report | None:
         try:
@@ -133,7 +132,8 @@ class Scene:
         check(f"{what}: the first answer", answers[0].text, (200, b"web-v2"))
         check_within(f"{what}: the first answer", answers[0].after, SOON)
         check(f"{what}: other answers", [answer for answer in answers if answer.text != (200, b"web-v2")], [])
-        check(f"{what}: web-v3 is in its pause again", comes(lambda: self.is_at("paused", "web-v2", "web-v3"), WAIT), True)
+        check(f"{what}: web-v3 is in its pause again", comes(lambda: self.is_at("paused", "web-v2", "web-v3"), WAIT),
+              True)
 
     def end(self) -> None:
         self.switch.kill()
@@ -199,4 +199,5 @@ def run_drill(kill: Callable[[Scene], None]) -> Callable[[], None]:
 
 
 if __name__ == "__main__":
-    checks.run("live_crash", list(map(run_drill, (switch_is_killed, controller_is_killed, both_are_killed, state_is_cut))), 4)
+    DRILLS = (switch_is_killed, controller_is_killed, both_are_killed, state_is_cut)
+    checks.run("live_crash", list(map(run_drill, DRILLS)), 4)

@@ -1,5 +1,5 @@
-"""bin/operator before a running `serve`: its exit statuses, several of them at once, an order that was given up, a prompt
-at a terminal, and the watcher."""
+"""bin/operator before a running `serve`: its exit statuses, several of them at once, an order that was given up, a
+prompt at a terminal, and the watcher."""
 import contextlib
 import fcntl
 import os
@@ -13,13 +13,13 @@ import termios
 import threading
 import time
 from collections.abc import Iterator
-from typing import NamedTuple
 
 from support import TOP, checks
 from support.checks import check
 from support.messages import BY_HAND
 from support.operators import Operator
 from support.ports import free_port
+from support.processes import Run, run_to_end
 from support.switch import Switch
 
 # isort: split; `support` tells where the tools' package is
@@ -27,24 +27,17 @@ from bg_switch_tools.meanings import FAULTS, LINES, REFUSALS
 
 OPERATOR = str(TOP / "bin" / "operator")
 WAIT = 20  # seconds for which anything is awaited
-MEANING = "the rollout isn't waiting for a promotion"
-
-
-class Run(NamedTuple):
-    """What a run of bin/operator prints, its exit status, and what it tells on standard error."""
-    printed: str
-    status: int
-    told: str
+MEANING = "the rollout is not paused"
 
 
 def run_operator(port: int, *words: str, lines: str = "") -> Run:
-    run = subprocess.run([OPERATOR, str(port), *words], input=lines, capture_output=True, text=True, timeout=WAIT, check=False)
-    return Run(run.stdout, run.returncode, run.stderr)
+    return run_to_end([OPERATOR, str(port), *words], lines, WAIT)
 
 
 def outcome(switch: Switch, *words: str, lines: str = "") -> tuple[str, int]:
     """What a run of bin/operator prints, and its exit status."""
-    return run_operator(switch.control, *words, lines=lines)[:2]
+    run = run_operator(switch.control, *words, lines=lines)
+    return run.printed, run.status
 
 
 def moment(switch: Switch) -> str:
@@ -53,7 +46,8 @@ def moment(switch: Switch) -> str:
 
 def started(switch: Switch, *words: str) -> subprocess.Popen[str]:
     """A run of bin/operator that goes on meanwhile."""
-    return subprocess.Popen([OPERATOR, str(switch.control), *words], stdin=subprocess.PIPE, stdout=subprocess.PIPE, text=True)
+    return subprocess.Popen([OPERATOR, str(switch.control), *words], stdin=subprocess.PIPE, stdout=subprocess.PIPE,
+                            text=True)
 
 
 @contextlib.contextmanager
@@ -70,7 +64,8 @@ def without_a_switch() -> None:
     """Status 2 where there is no answer, or the words are wrong."""
     nobody = run_operator(free_port(), "--wait", "0.3", "report")
     check("no switch", (nobody.printed, nobody.status, "can't be reached" in nobody.told), ("", 2, True))
-    check("no port", run_operator(0)[:2], ("", 2))
+    no_port = run_operator(0)
+    check("no port", (no_port.printed, no_port.status), ("", 2))
 
 
 def statuses() -> None:
@@ -78,11 +73,14 @@ def statuses() -> None:
     with closed_book() as switch:
         check("before a book", outcome(switch, "tick", "1"), ("refused NotOpen\n", 1))
         check("open", outcome(switch, "open", "one", "9"), ("ok 0\n", 0))
-        check("a refusal", run_operator(switch.control, "promote"), ("refused NotPaused\n", 1, f"operator: refused NotPaused: {MEANING}\n"))
+        check("a refusal", run_operator(switch.control, "promote"),
+              ("refused NotPaused\n", f"operator: refused NotPaused: {MEANING}\n", 1))
         check("a line of a replay", outcome(switch, "enter", "0", "active"), ("refused NotHere\n", 1))
         check("good lines", outcome(switch, lines="tick 1\n  available 1 1\ntick 2"), ("ok 0\nok 0\nok 0\n", 0))
-        check("a report", (moment(switch), outcome(switch, "report")[0].endswith("\nend\n")), ("moment 2", True))
-        check("it stops at a refusal", outcome(switch, lines="tick 3\npromote\ntick 4\n"), ("ok 0\nrefused NotPaused\n", 1))
+        report, _ = outcome(switch, "report")
+        check("a report", (moment(switch), report.endswith("\nend\n")), ("moment 2", True))
+        check("it stops at a refusal", outcome(switch, lines="tick 3\npromote\ntick 4\n"),
+              ("ok 0\nrefused NotPaused\n", 1))
         check("what followed wasn't sent", moment(switch), "moment 3")
         check("it stops at a fault", outcome(switch, lines="\ntick 4\n"), ("fault Empty\n", 1))
         check("it keeps going", outcome(switch, "--keep-going", lines="promote\njump\ntick 5\n"),
@@ -130,9 +128,9 @@ class Terminal:
 
     def __init__(self, switch: Switch, *words: str) -> None:
         self.end, other = pty.openpty()
-        self.process = subprocess.Popen([OPERATOR, str(switch.control), *words], stdin=other, stdout=other, stderr=other,
-                                        start_new_session=True, env={**os.environ, "TERM": "xterm"},
-                                        preexec_fn=lambda: fcntl.ioctl(0, termios.TIOCSCTTY, 0))
+        self.process = subprocess.Popen(
+            [OPERATOR, str(switch.control), *words], stdin=other, stdout=other, stderr=other, start_new_session=True,
+            env={**os.environ, "TERM": "xterm"}, preexec_fn=lambda: fcntl.ioctl(0, termios.TIOCSCTTY, 0))
         os.close(other)
         self.shown = ""
 
@@ -163,6 +161,17 @@ class Terminal:
         os.close(self.end)
         return status
 
+    def interrupted(self) -> int:
+        """Types ctrl-C up to the end of the process, and gives its status. `input` of Python misses a signal that comes
+        after it has written the prompt and before it waits for a key, so the first ctrl-C may need a second."""
+        latest = time.monotonic() + WAIT
+        while self.process.poll() is None and time.monotonic() < latest:
+            with contextlib.suppress(OSError):  # it ended meanwhile
+                self.type("\x03")
+            with contextlib.suppress(subprocess.TimeoutExpired):
+                self.process.wait(1)
+        return self.status()
+
 
 def at_a_prompt() -> None:
     """The prompt, what it says of a refusal, and how it ends."""
@@ -183,8 +192,7 @@ def at_a_prompt() -> None:
         check("ctrl-D", terminal.status(), 0)
         terminal = Terminal(switch)
         check("a second prompt", terminal.await_text(f"{switch.control}> "), True)
-        terminal.type("\x03")
-        check("ctrl-C", terminal.status(), 0)
+        check("ctrl-C", terminal.interrupted(), 0)
 
 
 def watcher_at_a_terminal() -> None:
@@ -193,8 +201,7 @@ def watcher_at_a_terminal() -> None:
         terminal = Terminal(switch, "watch")
         check("a screen that is cleared", terminal.await_text("\x1b[H\x1b[J"), True)
         check("the tree", terminal.await_text("└─ 1 one"), True)
-        terminal.type("\x03")
-        check("ctrl-C at the watcher", terminal.status(), 0)
+        check("ctrl-C at the watcher", terminal.interrupted(), 0)
 
 
 def side_by_side() -> None:
@@ -246,4 +253,5 @@ def meanings() -> None:
 if __name__ == "__main__":
     # a shell's background job ignores interrupts, and so would all that it starts
     signal.signal(signal.SIGINT, signal.default_int_handler)
-    checks.run("live_operator", [without_a_switch, statuses, given_up, at_a_prompt, watcher_at_a_terminal, side_by_side, meanings], at_once=3)
+    PARTS = [without_a_switch, statuses, given_up, at_a_prompt, watcher_at_a_terminal, side_by_side, meanings]
+    checks.run("live_operator", PARTS, at_once=3)

@@ -95,13 +95,13 @@ has_no_complaint() {
 
 # Status and replies are the row's.
 is_as_in_row() {
-    has_no_complaint && [ "$status" = "$(cat "$row/status")" ] && cmp -s "$row/replies" "$work/replies"
+    has_no_complaint && [ "$status" = "$(cat "$row/status")" ] && cmp -s "$work/row_replies" "$work/replies"
 }
 
 # The run has ended for want of memory, and what it wrote until then is the row's.
 has_ended() {
     [ "$status" -eq 1 ] && [ "$(cat "$work/complaint")" = OutOfMemory ] &&
-        head -c "$(wc -c < "$work/replies")" "$row/replies" | cmp -s - "$work/replies"
+        head -c "$(wc -c < "$work/replies")" "$work/row_replies" | cmp -s - "$work/replies"
 }
 
 # Prints the place of the one reply that says OutOfMemory, from 1; a report is one reply, though of many lines.
@@ -139,6 +139,7 @@ has_said_so() {
 
 refuse_to_row() {
     row=$1
+    scripts/row_replies.sh "$row" > "$work/row_replies"
     # shellcheck disable=SC2046  # the words of the command
     set -- $(cat "$row/command")
     requests=0

@@ -38,10 +38,11 @@ expect_to() {
 
 # The worked rows. Where the strategy is no JSON, standard error says where it breaks.
 for row in rows/*; do
+    scripts/row_replies.sh "$row" > "$work/row_replies"
     complaint=''
-    ! grep -qx 'fault NotJson' "$row/replies" || complaint='bg_switch: the strategy is no JSON: *'
+    ! grep -qx 'fault NotJson' "$work/row_replies" || complaint='bg_switch: the strategy is no JSON: *'
     # shellcheck disable=SC2046  # the words of the command
-    expect "$(cat "$row/status")" "$row/replies" "$complaint" $(cat "$row/command") < "$row/input"
+    expect "$(cat "$row/status")" "$work/row_replies" "$complaint" $(cat "$row/command") < "$row/input"
 done
 
 # The examples.
@@ -93,6 +94,11 @@ for word in '' serve; do
     expect 2 /dev/null '*--active*65535*--preview*65535*--control*65535*--workers*1 to 7*--count*1 to 1000000*' $word --help < /dev/null
 done
 expect 2 /dev/null '*1 to 8*4 where it isn*' replay --help < /dev/null
+
+# The version.
+sed -n 's/^const VERSION: &str = "\(.*\)";/bg_switch \1/p' crates/bg_command_line/src/command_line.rt > "$work/version"
+expect 0 "$work/version" '' --version < /dev/null
+expect_to /dev/full 1 /dev/null WriteFailed --version < /dev/null
 
 # As many seats as the words ask for, and 4 where they ask for none: a request at each of nine places.
 {

@@ -1,4 +1,6 @@
-"""Runs all tests, a process for each class, several at once, since they mostly wait: python3 -m tests"""
+"""Runs all tests, a process for each class, several at once, since they mostly wait: python3 -m tests
+
+They share processors and ports, so a class that failed runs once more, alone. What its first run told is shown too."""
 import concurrent.futures
 import subprocess
 import sys
@@ -32,6 +34,10 @@ def main() -> int:
     found = sorted(set(classes(unittest.defaultTestLoader.discover("tests", top_level_dir="."))))
     with concurrent.futures.ThreadPoolExecutor(AT_ONCE) as pool:
         results = dict(zip(found, pool.map(run, found)))
+    for name, (passed, told) in results.items():
+        if not passed:
+            print(f"{name}, first run:\n{told}")
+            results[name] = run(name)
     failed = {name: told for name, (passed, told) in results.items() if not passed}
     for name, told in failed.items():
         print(f"{name}:\n{told}")

@@ -1,4 +1,5 @@
 """A control port that a thread answers at, as the switch does: one connection after the other."""
+import random
 import socket
 import threading
 from collections.abc import Callable, Iterable, Sequence
@@ -11,11 +12,20 @@ ENDS = None  # given as a reply: the connection is ended without one
 Answer = Callable[[str], Sequence[str] | None]
 
 
+# Below the ports that the system gives to connections by itself: such a connection would keep a port from the test that
+# listens at it once more.
+PORTS = range(10_000, 20_000)
+
+
 def free_port() -> int:
     """A port that nothing listens at."""
-    with socket.socket() as one:
-        one.bind(("127.0.0.1", 0))
-        port: int = one.getsockname()[1]
+    while True:
+        port = random.choice(PORTS)
+        with socket.socket() as one:
+            try:
+                one.bind(("127.0.0.1", port))
+            except OSError:
+                continue
         return port
 
 
@@ -25,7 +35,7 @@ class FakePort:
     def __init__(self, answer: Answer, port: int = 0, lines: list[str] | None = None) -> None:
         self.answer = answer
         self.lines: list[str] = [] if lines is None else lines
-        self.listener = socket.create_server(("127.0.0.1", port))
+        self.listener = socket.create_server(("127.0.0.1", port or free_port()))
         self.port: int = self.listener.getsockname()[1]
         self.taken: socket.socket | None = None
         self.thread = threading.Thread(target=self._serve, daemon=True)

@@ -1,6 +1,5 @@
 """What the tests of whole tools share: endpoints, plans, and runs of bin/controller and bin/operator before a fake switch."""
 import contextlib
-import json
 import os
 import pathlib
 import signal
@@ -10,82 +9,43 @@ import sys
 import threading
 import time
 from collections.abc import Callable, Iterator, Sequence
-from typing import NamedTuple
+
+from support import checks, endpoints
+from support.clients import send_in_pieces
+from support.messages import response
+from support.plans import Plan
+from support.processes import Run, run_to_end
 
 TOP = pathlib.Path(__file__).resolve().parents[1]
 TOOLS = pathlib.Path(os.environ.get("BG_SWITCH_TOOLS", str(TOP / "bin")))  # other tools can be tried in their place
 WAIT = 60.0  # seconds for which anything is awaited
-LOOK = 0.02  # seconds between two looks at what is awaited
 
 
 def comes(holds: Callable[[], object], longest: float = WAIT) -> bool:
     """Whether this holds within so many seconds."""
-    latest = time.monotonic() + longest
-    while not holds():
-        if time.monotonic() > latest:
-            return False
-        time.sleep(LOOK)
-    return True
+    return checks.comes(holds, longest)
 
 
-class Endpoint:
-    """Answers each connection with a response in pieces, with a pause after each."""
+class Endpoint(endpoints.Endpoint):
+    """Answers each connection with a response in pieces, with a pause between them."""
 
-    def __init__(self, status: str = "200 OK") -> None:
-        self.port = 0
-        self.pieces: Sequence[bytes] = [f"HTTP/1.1 {status}\r\nContent-Length: 2\r\n\r\nok".encode()]
+    def __init__(self) -> None:
+        self.pieces: Sequence[bytes] = [response(b"ok")]
         self.pause = 0.0
-        self.start()
+        super().__init__(self.give)
 
-    def start(self) -> None:
-        self.listener = socket.create_server(("127.0.0.1", self.port), backlog=64)
-        self.port = self.listener.getsockname()[1]
-        threading.Thread(target=self._accept, args=(self.listener,), daemon=True).start()
-
-    def stop(self) -> None:
-        with contextlib.suppress(OSError):
-            self.listener.shutdown(socket.SHUT_RDWR)
-        self.listener.close()
+    def give(self, _: endpoints.Request, connection: socket.socket) -> None:
+        send_in_pieces(connection, self.pieces, self.pause)
 
     def trickle(self) -> None:
         """From now on it sends a byte of its response every half second."""
-        self.pieces, self.pause = [bytes([byte]) for byte in b"HTTP/1.1 200 OK\r\nContent-Length: 9999\r\n\r\n" + b"x" * 9999], 0.5
-
-    def _accept(self, listener: socket.socket) -> None:
-        with contextlib.suppress(OSError):
-            while True:
-                threading.Thread(target=self._serve, args=(listener.accept()[0],), daemon=True).start()
-
-    def _serve(self, connection: socket.socket) -> None:
-        with connection, contextlib.suppress(OSError):
-            connection.recv(65536)
-            for piece in self.pieces:
-                connection.sendall(piece)
-                time.sleep(self.pause)
+        whole = response(b"x" * 9999)
+        self.pieces, self.pause = [bytes([byte]) for byte in whole], 0.5
 
 
-class Plan:
-    """The file of a plan, which is put in place whole."""
-
-    def __init__(self, folder: str, control: int) -> None:
-        self.path = os.path.join(folder, "plan.json")
-        self.told: dict[str, object] = {"control": control, "health": {"interval": 0.1, "timeout": 0.5, "failures": 2}}
-
-    def write(self, revisions: Sequence[tuple[str, Sequence[int]]], **members: object) -> None:
-        self.told.update(members)
-        self.told["revisions"] = [{"name": name, "ports": list(ports)} for name, ports in revisions]
-        self.write_text(json.dumps(self.told))
-
-    def write_text(self, text: str) -> None:
-        pathlib.Path(f"{self.path}.fresh").write_text(text, encoding="utf-8")
-        os.replace(f"{self.path}.fresh", self.path)
-
-
-class Run(NamedTuple):
-    """What a run has printed, what it told on standard error, and its status."""
-    printed: str
-    told: str
-    status: int
+def plan_of(folder: str, control: int) -> Plan:
+    """A plan whose probes are fast."""
+    return Plan(folder, control, health={"interval": 0.1, "timeout": 0.5, "failures": 2})
 
 
 class ControllerRun:
@@ -168,6 +128,4 @@ def with_fast_clock(factor: int, path: str, *words: str) -> list[str]:
 
 def operator(port: int, *words: str, lines: str = "") -> Run:
     """A run of bin/operator."""
-    run = subprocess.run([str(TOOLS / "operator"), str(port), *words], input=lines, capture_output=True, text=True, timeout=WAIT,
-                         check=False)
-    return Run(run.stdout, run.stderr, run.returncode)
+    return run_to_end([str(TOOLS / "operator"), str(port), *words], lines, WAIT)

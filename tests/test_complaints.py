@@ -12,7 +12,7 @@ import time
 import unittest
 
 from tests.fake_switch import FakeSwitch
-from tests.scenes import TOOLS, TOP, WAIT, ControllerRun, Endpoint, Plan, comes, controlling, operator, with_fast_clock
+from tests.scenes import TOOLS, TOP, WAIT, ControllerRun, Endpoint, comes, controlling, operator, plan_of, with_fast_clock
 
 
 class Controlled(unittest.TestCase):
@@ -28,7 +28,7 @@ class Controlled(unittest.TestCase):
                 self.stack.callback(endpoint.stop)
         self.switch = FakeSwitch("pause")
         self.stack.callback(self.switch.kill)
-        self.plan = Plan(folder, self.switch.port)
+        self.plan = plan_of(folder, self.switch.port)
 
     def ports(self, name: str) -> list[int]:
         return [endpoint.port for endpoint in self.endpoints[name]]
@@ -205,7 +205,7 @@ class Pipelines(Controlled):
         reply = operator(self.switch.port, "promote", "--json")
         self.assertEqual((json.loads(reply.printed), reply.status), (
             {"line": "promote", "reply": "refused NotPaused", "carried_out": False,
-             "meaning": "the rollout isn't waiting for a promotion"}, 1))
+             "meaning": "the rollout is not paused"}, 1))
 
 
 class Prompts(Controlled):
@@ -254,7 +254,7 @@ class Logs(Controlled):
         run = self.run_controller()
         self.assertTrue(run.says(f"deploy {self.words('web-v3')} => ok 0"))
         self.write("web-v1", "web-v2")
-        self.assertTrue(run.says(f"deploy {self.words('web-v2')} => refused PortsDiffer: a revision of this name has other ports"))
+        self.assertTrue(run.says(f"deploy {self.words('web-v2')} => refused PortsDiffer: a revision of this name already has other ports"))
 
 
 if __name__ == "__main__":

@@ -49,6 +49,8 @@ class Ask(unittest.TestCase):
         timer = threading.Timer(0.3, lambda: later.append(FakePort(usual, port)))
         timer.start()
         self.assertEqual(ask(port, b"tick 1", 5), ["ok 0"])
+        # the port answers before its thread has put it into the list
+        timer.join()
         later[0].close()
 
     def test_a_line_is_not_sent_where_the_port_is_held(self) -> None:

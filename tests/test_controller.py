@@ -17,7 +17,7 @@ from bg_switch_tools.log import Log
 from bg_switch_tools.plan_file import PlanFile
 from bg_switch_tools.state import StateFile
 from tests.fake_switch import FakeSwitch
-from tests.scenes import Endpoint, Plan, comes
+from tests.scenes import Endpoint, comes, plan_of
 
 NAMES = ("web-v1", "web-v2", "web-v3")
 
@@ -37,7 +37,7 @@ class Turns(unittest.TestCase):
                 self.stack.callback(endpoint.stop)
         self.switch = FakeSwitch(*self.steps)
         self.stack.callback(self.switch.kill)
-        self.plan = Plan(self.folder, self.switch.port)
+        self.plan = plan_of(self.folder, self.switch.port)
         self.out = io.StringIO()
 
     def words(self, name: str) -> str:
@@ -191,7 +191,7 @@ class Openings(Turns):
         self.plan.write([("web-v1", [1])])
         runner = self.start()
         self.assertTrue(comes(lambda: not runner.thread.is_alive()))
-        self.assertIn("the switch can't be opened with web-v1: open web-v1 1 => refused BadPorts: there isn't one port for each",
+        self.assertIn("the switch can't be opened with web-v1: open web-v1 1 => refused BadPorts: a revision has one port for each",
                       runner.unfit)
 
     def test_a_number_of_ports_that_does_not_fit_an_open_book(self) -> None:
@@ -199,7 +199,7 @@ class Openings(Turns):
         self.plan.write([("web-v1", [1]), ("web-v2", [2])])
         with mock.patch("sys.stderr", io.StringIO()) as told:
             self.start()
-            self.await_log("deploy web-v2 2 => refused BadPorts: there isn't one port for each replica")
+            self.await_log("deploy web-v2 2 => refused BadPorts: a revision has one port for each replica")
         self.assertIn("the number of ports of each revision of the plan is 1, and the switch wants one for each of 2 replicas", told.getvalue())
 
 
@@ -297,7 +297,8 @@ class Analyses(Turns):
         self.write(*NAMES[:2], analyses={"pre": ["sh", "-c", pre], "post": ["sh", "-c", post], "seconds": seconds})
 
     def test_verdicts(self) -> None:
-        self.write_with('test "$BG_REVISION" = web-v2 -a "$BG_PORTS" = "' + self.words("web-v2").removeprefix("web-v2 ") + '"', "exit 1")
+        ports = self.words("web-v2").removeprefix("web-v2 ")
+        self.write_with(f'test "$BG_REVISION $BG_REVISION_NUMBER $BG_PORTS" = "web-v2 2 {ports}"', "exit 1")
         self.start()
         self.await_book("paused", 2)
         self.by_hand("promote")
@@ -384,7 +385,7 @@ class Logs(Turns):
         self.start()
         self.await_book("steady", 1)
         self.switch.book.refusals["tick"] = "HistoryFull"
-        self.await_log("=> refused HistoryFull: the history has no room for a line of this kind; compact makes room")
+        self.await_log("=> refused HistoryFull: the history has no room left; compact makes room")
         self.some_turns()
         self.assertEqual(self.log().count("HistoryFull"), 1)
 

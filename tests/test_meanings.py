@@ -32,11 +32,11 @@ class Meanings(unittest.TestCase):
             self.assertEqual(line.example.split()[0], line.form.split()[0])
 
     def test_what_a_reply_means(self) -> None:
-        self.assertEqual(meaning_of("refused NotPaused"), "the rollout isn't waiting for a promotion")
-        self.assertEqual(meaning_of("fault WrongCount"), "too few or too many words follow the first")
+        self.assertEqual(meaning_of("refused NotPaused"), "the rollout is not paused")
+        self.assertEqual(meaning_of("fault WrongCount"), "the line has too few or too many words")
         for reply in ("ok 0", "moment 3", "refused Unheard", "fault NotPaused", ""):
             self.assertIsNone(meaning_of(reply))
-        self.assertEqual(with_meaning("refused NotPaused"), "refused NotPaused: the rollout isn't waiting for a promotion")
+        self.assertEqual(with_meaning("refused NotPaused"), "refused NotPaused: the rollout is not paused")
         self.assertEqual(with_meaning("ok 3"), "ok 3")
         self.assertEqual([was_carried_out(reply) for reply in ("ok 0", "moment 1", "refused X", "fault X")],
                          [True, True, False, False])

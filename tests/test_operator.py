@@ -47,7 +47,7 @@ class Lines(Operated):
     def test_statuses(self) -> None:
         self.assertEqual(self.operator("tick", "5"), ("ok 0\n", "", 0))
         self.assertEqual(self.operator("promote"), (
-            "refused NotPaused\n", "operator: refused NotPaused: the rollout isn't waiting for a promotion\n", 1))
+            "refused NotPaused\n", "operator: refused NotPaused: the rollout is not paused\n", 1))
         self.assertEqual(self.operator(lines="tick 6\npromote\ntick 7\n")[::2], ("ok 0\nrefused NotPaused\n", 1))
         self.assertEqual(self.operator("--keep-going", lines="promote\njump\ntick 8\n")[::2],
                          ("refused NotPaused\nfault UnknownWord\nok 0\n", 1))
@@ -63,7 +63,7 @@ class Lines(Operated):
         tick, jump, report = map(json.loads, told.printed.splitlines())
         self.assertEqual(tick, {"line": "tick 5", "reply": "ok 0", "carried_out": True, "meaning": None})
         self.assertEqual(jump, {"line": "jump", "reply": "fault UnknownWord", "carried_out": False,
-                                "meaning": "the first word begins no line; help lists the lines"})
+                                "meaning": "the first word of the line is none that is known; help lists the lines"})
         self.assertEqual((report["moment"], report["stable"], report["revisions"][0]["available"]),
                          (5, {"number": 1, "name": "web-v1"}, 2))
 
@@ -203,7 +203,7 @@ class Prompts(Operated):
 
     def test_lines_and_their_meaning(self) -> None:
         told = self.typed("tick 5", "", "promote", "deploy web-v2 3 4", "status", "help")
-        for text in ("ok 0\n", "refused NotPaused: the rollout isn't waiting for a promotion\n", "makes revision 2 web-v2\n",
+        for text in ("ok 0\n", "refused NotPaused: the rollout is not paused\n", "makes revision 2 web-v2\n",
                      "the status\n", "quit, exit, ctrl-D   leave this prompt"):
             self.assertIn(text, told)
 

@@ -4,22 +4,19 @@
 It prints each line of the operator with its reply, and for each part of the story how many requests each revision
 answered. It ends with status 0 where no request failed.
 """
-import collections
 import contextlib
 import pathlib
-import subprocess
 import sys
-import threading
 import time
 
 HERE = pathlib.Path(__file__).resolve().parent
 sys.dont_write_bytecode = True
 sys.path.insert(0, str(HERE.parents[1] / "scripts"))
 
-from support.clients import get  # noqa: E402 (its folder is known by now)
-from support.endpoints import Endpoint, by_target  # noqa: E402
+from support.endpoints import Endpoint, by_target  # noqa: E402 (its folder is known by now)
+from support.examples import start_switch  # noqa: E402
 from support.operators import Operator  # noqa: E402
-from support.switch import PROGRAM  # noqa: E402
+from support.traffic import Traffic, ask  # noqa: E402
 
 ACTIVE, PREVIEW, CONTROL = 18080, 18081, 18082
 REVISIONS = {"media-v1": (19101, 19102), "media-v2": (19201, 19202), "media-v3": (19301, 19302)}
@@ -31,45 +28,8 @@ LONGEST = 30
 
 def answered_by(port: int) -> str | None:
     """The revision that answers a request, or None where none does."""
-    answer = get(port)
-    return answer[1].decode() if answer is not None and answer[0] == 200 else None
-
-
-class Traffic:
-    """Clients that ask the active service without pause."""
-
-    def __init__(self) -> None:
-        self.answered: collections.Counter[str] = collections.Counter()
-        self.failed = 0
-        self.lock = threading.Lock()
-        self.ended = threading.Event()
-        self.clients = [threading.Thread(target=self.ask) for _ in range(CLIENTS)]
-
-    def start(self) -> None:
-        """Starts the clients, where they haven't started yet."""
-        for client in self.clients:
-            if client.ident is None:
-                client.start()
-
-    def ask(self) -> None:
-        while not self.ended.wait(PAUSE):
-            revision = answered_by(ACTIVE)
-            with self.lock:
-                if revision is None:
-                    self.failed += 1
-                else:
-                    self.answered[revision] += 1
-
-    def part(self) -> collections.Counter[str]:
-        """What was answered since the last part."""
-        with self.lock:
-            answered, self.answered = self.answered, collections.Counter()
-        return answered
-
-    def end(self) -> None:
-        self.ended.set()
-        for client in self.clients:
-            client.join()
+    asked = ask(port)
+    return asked.revision if asked.status == 200 else None
 
 
 class Story:
@@ -116,23 +76,12 @@ class Story:
             sys.exit("an order of the story was not carried out")
 
 
-def start_switch() -> subprocess.Popen[str]:
-    with open(HERE / "rollout.json", "rb") as rollout:
-        switch = subprocess.Popen(
-            [PROGRAM, "serve", "--active", str(ACTIVE), "--preview", str(PREVIEW), "--control", str(CONTROL),
-             "--workers", str(WORKERS), "--forever"], stdin=rollout, stdout=subprocess.PIPE, text=True)
-    assert switch.stdout is not None
-    if switch.stdout.readline() != "listening\n":
-        sys.exit("the switch doesn't listen")
-    return switch
-
-
 def main() -> None:
     for revision, ports in REVISIONS.items():
         for port in ports:
             Endpoint(by_target(revision.encode()), port)
-    switch = start_switch()
-    traffic = Traffic()
+    switch = start_switch(HERE / "rollout.json", ACTIVE, PREVIEW, CONTROL, WORKERS)
+    traffic = Traffic(ACTIVE, CLIENTS, PAUSE)
     story = Story(traffic)
     try:
         for line in (HERE / "operator.txt").read_text(encoding="ascii").splitlines():

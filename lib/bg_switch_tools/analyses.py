@@ -27,7 +27,7 @@ class Analysis:
         self.end = time.monotonic() + seconds
         self.fault = ""
         self.process: subprocess.Popen[bytes] | None = None
-        told = {"BG_REVISION": revision.name, "BG_PORTS": " ".join(map(str, revision.ports))}
+        told = {"BG_REVISION": revision.name, "BG_REVISION_NUMBER": str(number), "BG_PORTS": " ".join(map(str, revision.ports))}
         try:
             self.process = subprocess.Popen(command, cwd=folder, env={**os.environ, **told}, stdin=subprocess.DEVNULL,
                                             stdout=TO_STDERR, start_new_session=True)

@@ -38,8 +38,8 @@ A plan:
    "revisions": [{"name": "web-v1", "ports": [9101, 9102]}, from the first one to the one that is to be live
                  {"name": "web-v2", "ports": [9201, 9202]}]}
 What "health" and "progress" leave out is as above; an analysis that is left out waits for a verdict by hand. A command finds
-the name and the ports of the revision that it judges in BG_REVISION and BG_PORTS. docs/OPERATING.md says what each line of the
-log means.
+the name, the number and the ports of the revision that it judges in BG_REVISION, BG_REVISION_NUMBER and BG_PORTS; bin/analysis
+is one that judges by the access log. docs/OPERATING.md says what each line of the log means.
 
 Exit status: 0 after SIGTERM or ctrl-C, and for a plan in which `check` finds nothing wrong; 1 where the plan is wrong when it
 starts, or by `check`; 2 where the words are wrong.

@@ -26,56 +26,66 @@ LINES = (
     Line("quit", "shuts the switch down: no operator is answered any more", "quit"),
 )
 
+# The sentences of the switch itself: those of its error types. tests/test_sentences.py compares them.
 REFUSALS = {
-    "Aborted": "the last attempt was aborted or failed; retry begins it again",
-    "AlreadyAborted": "the last attempt was aborted already",
-    "AlreadyFull": "this attempt was promoted in full already",
+    "Aborted": "the last attempt was aborted",
+    "AlreadyAborted": "the last attempt was already aborted",
+    "AlreadyFull": "this attempt was already promoted in full",
     "AlreadyOpen": "a book is open already",
-    "BadLimits": "the book's limits are too large",
-    "BadName": "a name is 1 to 63 lower-case letters, digits and hyphens, and begins and ends with a letter or digit",
-    "BadPorts": "there isn't one port for each replica, or one is 0, or two are equal",
-    "BadSeats": "there aren't 1 to 8 workers",
-    "HistoryFull": "the history has no room for a line of this kind; compact makes room",
-    "MomentBack": "the time is past that moment already",
-    "MomentTooLarge": "a moment is at most 2^53",
-    "MoreThanDesired": "the revision wants fewer endpoints than that",
-    "NoAnalysis": "this analysis isn't awaited now",
-    "NoEndpoints": "the revision has no available endpoint",
+    "BadLimits": "a limit is above the usual one",
+    "BadName": "a name is 1 to 63 lower-case letters, digits and hyphens, with no hyphen at its ends",
+    "BadPorts": "a revision has one port for each replica, all distinct and none of them 0",
+    "BadSeats": "a book has 1 to 8 seats",
+    "HistoryFull": "the history has no room left",
+    "MomentBack": "the moment lies before the book's",
+    "MomentTooLarge": "a moment is at most 2^53 seconds",
+    "MoreThanDesired": "more endpoints are reported than the revision wants",
+    "NoAnalysis": "this analysis is not awaited",
+    "NoEndpoints": "the selected revision has no available endpoint",
     "NoPreview": "no preview service is set",
     "NoSuchRevision": "no revision has this number",
-    "NoSuchSeat": "no seat has this number",
-    "NotAborted": "the last attempt wasn't aborted",
-    "NotHere": "enter and leave are lines of a replay: here requests come from clients",
-    "NotOpen": "no book is open yet; open NAME PORT.. opens it",
-    "NotPaused": "the rollout isn't waiting for a promotion",
-    "NothingToAbort": "no attempt runs",
-    "NothingToPromote": "no attempt runs",
-    "NumbersSpent": "every request number was given",
-    "OutOfMemory": "memory was refused; nothing has changed",
-    "PortsDiffer": "a revision of this name has other ports, or has them in another order",
-    "SameTemplate": "the newest revision has this name and these ports already",
-    "SeatBusy": "the seat holds a request already",
-    "SeatIdle": "the seat holds no request",
-    "TooManyRevisions": "64 revisions exist",
+    "NoSuchSeat": "no seat has this place",
+    "NotAborted": "the last attempt was not aborted",
+    "NotHere": "requests enter and leave elsewhere, by the workers",
+    "NotOpen": "the line asks for an open book, and none is open",
+    "NotPaused": "the rollout is not paused",
+    "NothingToAbort": "there is no attempt to abort",
+    "NothingToPromote": "there is no attempt to promote",
+    "NumbersSpent": "every request number has been given",
+    "OutOfMemory": "out of memory",
+    "PortsDiffer": "a revision of this name already has other ports",
+    "SameTemplate": "the newest revision already has this name and these ports",
+    "SeatBusy": "the seat holds a request, so none can enter at it",
+    "SeatIdle": "the seat holds no request, so none can leave it",
+    "TooManyRevisions": "64 revisions exist already",
 }
 
 FAULTS = {
-    "BadNumber": "the first wrong word should be a number, or a smaller one",
-    "BadWord": "the first wrong word is none of those that can stand there",
+    "BadNumber": "a word of the line is not a number that its place allows",
+    "BadWord": "a word of the line is none that its place allows",
     "Empty": "the line has no word",
-    "NotAscii": "the line has a tab, or another byte outside 32 to 126",
-    "OutOfMemory": "memory for the name and the ports was refused",
-    "TooLong": "a line has at most 4,096 bytes",
-    "UnknownWord": "the first word begins no line; help lists the lines",
-    "WrongCount": "too few or too many words follow the first",
+    "NotAscii": "the line has a byte that is no printable ASCII character",
+    "OutOfMemory": "out of memory",
+    "TooLong": "the line has more than 4,096 bytes",
+    "UnknownWord": "the first word of the line is none that is known",
+    "WrongCount": "the line has too few or too many words",
+}
+
+# What an operator can do next, or may rely on.
+HINTS = {
+    "Aborted": "retry begins it again",
+    "HistoryFull": "compact makes room",
+    "NotOpen": "open NAME PORT.. opens one",
+    "OutOfMemory": "nothing has changed",
+    "UnknownWord": "help lists the lines",
 }
 
 
 def meaning_of(reply: str) -> str | None:
-    """What a line `refused NAME` or `fault NAME` means, in one sentence; None for any other line."""
+    """What a line `refused NAME` or `fault NAME` means, and a hint where there is one; None for any other line."""
     kind, _, name = reply.partition(" ")
-    meanings = {"refused": REFUSALS, "fault": FAULTS}.get(kind)
-    return meanings.get(name) if meanings else None
+    sentence = {"refused": REFUSALS, "fault": FAULTS}.get(kind, {}).get(name)
+    return f"{sentence}; {HINTS[name]}" if sentence and name in HINTS else sentence
 
 
 def was_carried_out(reply: str) -> bool:

@@ -8,7 +8,6 @@ from collections.abc import Iterable, Sequence
 from bg_switch_tools.commands import examples, help_lines
 from bg_switch_tools.conditions import FORMS, Conditions, WrongCondition
 from bg_switch_tools.connection import Unreachable, ask, words_of
-from bg_switch_tools.judging import GREATEST_PORT
 from bg_switch_tools.meanings import with_meaning
 from bg_switch_tools.ordering import Reply, carry_out
 from bg_switch_tools.prompting import Command, Prompt, confirm_shutdown
@@ -16,6 +15,7 @@ from bg_switch_tools.reports import NoReport, Report, as_json, read_report
 from bg_switch_tools.tables import in_one_line
 from bg_switch_tools.waiting import TOO_LATE, wait_for
 from bg_switch_tools.watching import dated, watch
+from bg_switch_tools.words import port_of, seconds_of
 
 ABOUT = """Sends lines to the control port of a running switch, and prints the replies.
 
@@ -28,25 +28,8 @@ Conditions of wait: {FORMS}.
 Exit status: 0 where every line was carried out; 1 where one was refused or faulty, at which it stops; 2 where the switch gave no
 answer in time, or the words are wrong. docs/LINES.md has each line and its replies.
 """
-LONGEST = 86400.0  # seconds
 INTERRUPTED = 130
 COMMANDS = ("status", "wait", "watch", "shutdown", "help")
-
-
-def port_of(text: str) -> int:
-    if not text.isascii() or not text.isdigit() or not 1 <= int(text[:9]) <= GREATEST_PORT:
-        raise argparse.ArgumentTypeError(f"the control port is wanted, a number from 1 to {GREATEST_PORT}, and not {text!r}")
-    return int(text)
-
-
-def seconds_of(text: str) -> float:
-    try:
-        seconds = float(text)
-    except ValueError:
-        seconds = -1
-    if not 0 <= seconds <= LONGEST:
-        raise argparse.ArgumentTypeError(f"a number of seconds from 0 to {LONGEST:.0f} is wanted, and not {text!r}")
-    return seconds
 
 
 def parser() -> argparse.ArgumentParser:

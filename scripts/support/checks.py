@@ -59,7 +59,7 @@ def check_within(name: str, seconds: float, most: float) -> None:
         fail(name, f"{seconds:.2f} seconds, which is above {most:g}")
 
 
-def comes(holds: Callable[[], bool], longest: float = LONGEST_WAIT) -> bool:
+def comes(holds: Callable[[], object], longest: float = LONGEST_WAIT) -> bool:
     """Whether this holds within so many seconds. It is asked again and again."""
     latest = time.monotonic() + longest
     while not holds():
@@ -78,8 +78,8 @@ def run_part(part: Part) -> None:
 
 
 def run(name: str, parts: Sequence[Part], at_once: int = 1, by_hand: Sequence[Part] = ()) -> NoReturn:
-    """Runs the parts in turn, or so many at once, and prints the counts; status 0 where no check has failed. The words name
-    parts that are run alone; with `--by-hand` those are run that take too long for the gate."""
+    """Runs the parts in turn, or so many at once, and prints the counts; status 0 where no check has failed. The words
+    name parts that are run alone; with `--by-hand` those are run that take too long for the gate."""
     faulthandler.dump_traceback_later(LONGEST_RUN, exit=True)
     os.chdir(TOP)
     if sys.argv[1:] == ["--by-hand"]:

@@ -21,7 +21,8 @@ Given = TypeVar("Given")
 
 
 def connect(port: int, receive_buffer: int | None = None) -> socket.socket:
-    """A connection to a port, whose system takes as many bytes ahead as `receive_buffer` says, or as many as it likes."""
+    """A connection to a port, whose system takes as many bytes ahead as `receive_buffer` says, or as many as it
+    likes."""
     client = socket.socket()
     if receive_buffer is not None:
         client.setsockopt(socket.SOL_SOCKET, socket.SO_RCVBUF, receive_buffer)
@@ -58,8 +59,8 @@ def send_in_pieces(connection: socket.socket, pieces: Iterable[bytes], pause: fl
 
 
 def exchanged(connection: socket.socket, text: bytes, *later: bytes) -> bytes | None:
-    """What a client that sends these bytes, and others later, and ends its side, is answered, or None where the connection
-    is reset."""
+    """What a client that sends these bytes, and others later, and ends its side, is answered, or None where the
+    connection is reset."""
     try:
         connection.sendall(text)
         for piece in later:
@@ -92,6 +93,25 @@ def timed(port: int, pieces: Sequence[bytes] = (request(),), pause: float = 0.0)
     with connect(port) as client:
         send_in_pieces(client, pieces, pause)
         return Timed(received(client), time.monotonic() - start)
+
+
+def dripped(port: int, pieces: Iterable[bytes], pause: float) -> Timed:
+    """The same, but the answer is received while the pieces are being sent."""
+    start = time.monotonic()
+    with connect(port) as client:
+        threading.Thread(target=send_in_pieces, args=(client, pieces, pause), daemon=True).start()
+        return Timed(received(client), time.monotonic() - start)
+
+
+def timed_for(port: int, longest: float, pieces: Sequence[bytes] = (request(),), pause: float = 0.0) -> Timed:
+    """The same, where a client may wait for no longer than so many seconds: the answer is none then."""
+    start = time.monotonic()
+    with connect(port) as client:
+        client.settimeout(longest)
+        send_in_pieces(client, pieces, pause)
+        with contextlib.suppress(TimeoutError):
+            return Timed(received(client), time.monotonic() - start)
+    return Timed(b"", time.monotonic() - start)
 
 
 def get(port: int, path: str = "/", method: str = "GET", body: Body = None,

@@ -20,11 +20,12 @@ LONGEST = 120
 
 
 class Request(NamedTuple):
-    """A request as an endpoint reads it; the field names are in lower case."""
+    """A request as an endpoint reads it, and its head as it came, with its end."""
     method: bytes
     target: bytes
     fields: list[tuple[bytes, bytes]]
     body: bytes
+    head: bytes
 
     def value(self, name: bytes) -> bytes | None:
         return next((value for field, value in self.fields if field.lower() == name.lower()), None)
@@ -53,7 +54,7 @@ def read_request(connection: socket.socket) -> Request | None:
     line, *rest = read[0].split(b"\r\n")
     method, target, _ = line.split(b" ", 2)
     fields = [(name, value.strip()) for name, _, value in (field.partition(b":") for field in rest)]
-    head = Request(method, target, fields, b"")
+    head = Request(method, target, fields, b"", read[0] + END_OF_HEAD)
     body = bytearray(read[1])
     while len(body) < int(head.value(b"Content-Length") or b"0"):
         piece = connection.recv(65536)
@@ -64,8 +65,8 @@ def read_request(connection: socket.socket) -> Request | None:
 
 
 class Endpoint:
-    """A server that reads each request whole and answers it by a function. It counts its requests, and it can be stopped and
-    started again."""
+    """A server that reads each request whole and answers it by a function. It counts its requests, and it can be
+    stopped and started again."""
 
     def __init__(self, answer: Answer, port: int = 0) -> None:
         self.answer = answer
@@ -80,7 +81,9 @@ class Endpoint:
         threading.Thread(target=self.accept, args=(self.listener,), daemon=True).start()
 
     def stop(self) -> None:
-        self.listener.shutdown(socket.SHUT_RDWR)
+        # it may have been stopped before
+        with contextlib.suppress(OSError):
+            self.listener.shutdown(socket.SHUT_RDWR)
         self.listener.close()
 
     def accept(self, listener: socket.socket) -> None:
@@ -146,8 +149,9 @@ def by_target(name: bytes) -> Answer:
         elif target == ALL_FIELDS:
             connection.sendall(response(b"\n".join(b"%s: %s" % field for field in request.fields)))
         else:
-            whole = response(name + request.body)
-            connection.sendall(whole[:whole.index(END_OF_HEAD) + len(END_OF_HEAD)] if request.method == b"HEAD" else whole)
+            body = name + request.body
+            whole = response(body)
+            connection.sendall(whole.removesuffix(body) if request.method == b"HEAD" else whole)
 
     return answer
 
@@ -166,7 +170,8 @@ def in_pieces(pieces: Sequence[bytes], pause: float = 0.0, silent_after: int | N
 
 
 class Held:
-    """Answers requests only once they are let go; it counts those that wait, and those whose connection the switch closed."""
+    """Answers requests only once they are let go; it counts those that wait, and those whose connection the switch
+    closed."""
 
     def __init__(self, body: bytes) -> None:
         self.body = body
@@ -195,6 +200,18 @@ class Held:
         return comes(lambda: self.waiting - self.closed >= count)
 
 
+def held_at(target: bytes, held: Held, others: Answer) -> Answer:
+    """Holds the requests for a target, and answers the others otherwise."""
+
+    def answer(request: Request, connection: socket.socket) -> None:
+        if request.target == target:
+            held(request, connection)
+        else:
+            others(request, connection)
+
+    return answer
+
+
 def has_more(connection: socket.socket) -> bool:
     """Whether something comes before the peer closes or resets the connection. Fails with TimeoutError where it is quiet."""
     try:
@@ -204,14 +221,20 @@ def has_more(connection: socket.socket) -> bool:
 
 
 @contextlib.contextmanager
-def full_backlog() -> Iterator[int]:
-    """The port of an endpoint that accepts nothing, and whose backlog is full: a connect to it hangs."""
+def full_listener() -> Iterator[socket.socket]:
+    """A listener that accepts nothing, and whose backlog is full: a connect to it hangs until it accepts."""
     with contextlib.ExitStack() as stack:
         listener = stack.enter_context(socket.create_server((HOST, 0), backlog=0))
-        port = listener.getsockname()[1]
         for _ in range(4):
             client = stack.enter_context(socket.socket())
             client.setblocking(False)
-            client.connect_ex((HOST, port))
+            client.connect_ex(listener.getsockname())
         time.sleep(0.2)
-        yield port
+        yield listener
+
+
+@contextlib.contextmanager
+def full_backlog() -> Iterator[int]:
+    """The port of an endpoint that accepts nothing, and whose backlog is full."""
+    with full_listener() as listener:
+        yield listener.getsockname()[1]

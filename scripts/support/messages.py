@@ -1,7 +1,7 @@
 """Requests as clients send them, and what the switch answers."""
 ROLLOUT = '{"spec": {"strategy": {"blueGreen": {"activeService": "web", "previewService": "web-preview"}}}}'
-BY_HAND = """{"spec": {"replicas": 1, "strategy": {"blueGreen": {"activeService": "web", "previewService": "web-preview",
-"autoPromotionEnabled": false}}}}"""
+BY_HAND = """{"spec": {"replicas": 1, "strategy": {"blueGreen": {"activeService": "web",
+"previewService": "web-preview", "autoPromotionEnabled": false}}}}"""
 NO_PREVIEW = '{"spec": {"strategy": {"blueGreen": {"activeService": "web"}}}}'
 LARGEST_BODY = 1048576
 

@@ -10,12 +10,15 @@ from collections.abc import Iterator
 from support.checks import LONGEST_WAIT, comes
 
 HOST = "127.0.0.1"
-# The scripts that run side by side. Each takes its ports from a share of its own, so that none takes another's; all are below
-# those that the system gives to connections of itself.
-SCRIPTS = ("live", "live_timeouts", "live_attack", "live_operator", "live_controller", "live_readme", "live_random",
-           "live_clients", "live_endpoints", "live_control", "live_shutdown", "live_crash", "live_operating")
-FIRST_PORT, PORTS_EACH = 20000, 900
-# The columns of the system's table of sockets, and the state of one that listens.
+# The scripts that run side by side. Each takes its ports from a share of its own, so that none takes another's; all are
+# below those that the system gives to connections of itself.
+SCRIPTS = ("live", "live_starting", "live_timeouts", "live_resources", "live_attack", "live_random", "live_operator",
+           "live_controller", "live_crash", "live_readme", "live_operating", "live_clients", "live_endpoints",
+           "live_control", "live_shutdown", "live_production", "live_access_log", "live_access_log_random",
+           "live_history", "live_dashboard")
+FIRST_PORT, PORTS_EACH = 20000, 580
+# The system's table of sockets, its columns, and the state of a socket that listens.
+TABLE = pathlib.Path("/proc/net/tcp")
 LOCAL, STATE, INODE, LISTENS = 1, 3, 9, "0A"
 
 
@@ -66,7 +69,8 @@ def refuses(port: int) -> bool:
         socket.create_connection((HOST, port), timeout=LONGEST_WAIT).close()
     except ConnectionRefusedError:
         return True
-    except ConnectionResetError:
+    except (ConnectionResetError, TimeoutError):
+        # one that nobody accepts times out once the backlog is full
         pass
     return False
 
@@ -78,8 +82,10 @@ def is_refused(port: int) -> bool:
 
 def sockets_at(port: int) -> list[str]:
     """The states of the sockets of programs at a port of this machine, by the system's table, as it writes them."""
-    rows = [line.split() for line in pathlib.Path("/proc/net/tcp").read_text(encoding="ascii").splitlines()[1:]]
-    return [row[STATE] for row in rows if row[LOCAL].endswith(f":{port:04X}") and row[INODE] != "0"]
+    place = f":{port:04X} "
+    # the table may have tens of thousands of rows of connections that have ended, which aren't split
+    rows = [line.split() for line in TABLE.read_text(encoding="ascii").splitlines() if place in line]
+    return [row[STATE] for row in rows if row[LOCAL].endswith(place.rstrip()) and row[INODE] != "0"]
 
 
 def is_open(port: int) -> bool:

@@ -5,9 +5,26 @@ import pathlib
 import resource
 import subprocess
 import threading
+from collections.abc import Sequence
+from typing import NamedTuple
 
 # No program that these scripts start runs for longer, in seconds.
 LONGEST = 160
+# The standard streams have the lowest descriptors.
+STANDARD_STREAMS = 3
+
+
+class Run(NamedTuple):
+    """What a run of a program has printed, what it told on standard error, and its status."""
+    printed: str
+    told: str
+    status: int
+
+
+def run_to_end(words: Sequence[str], given: str = "", longest: float = LONGEST) -> Run:
+    """A run of a program that ends by itself, with this standard input."""
+    run = subprocess.run(words, input=given, capture_output=True, text=True, timeout=longest, check=False)
+    return Run(run.stdout, run.stderr, run.returncode)
 
 
 def limit(process: subprocess.Popen[str]) -> None:
@@ -55,7 +72,14 @@ class DescriptorLimit:
 
     def leave(self, count: int) -> None:
         """No more than so many descriptors can be had beside those that are open, from the highest of them on."""
-        resource.prlimit(self.process, resource.RLIMIT_NOFILE, (1 + descriptors(self.process)[-1] + count, self.most[1]))
+        self.set(1 + descriptors(self.process)[-1] + count)
+
+    def refuse(self) -> None:
+        """None can be had from now on, whatever is closed but the standard streams. Those that are open stay."""
+        self.set(STANDARD_STREAMS)
 
     def lift(self) -> None:
-        resource.prlimit(self.process, resource.RLIMIT_NOFILE, self.most)
+        self.set(self.most[0])
+
+    def set(self, most: int) -> None:
+        resource.prlimit(self.process, resource.RLIMIT_NOFILE, (most, self.most[1]))

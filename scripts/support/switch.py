@@ -4,7 +4,7 @@ import os
 import socket
 import subprocess
 import threading
-from collections.abc import Callable, Iterator
+from collections.abc import Callable, Iterator, Mapping
 from typing import NamedTuple
 
 from support import TOP, clients, processes
@@ -15,24 +15,15 @@ from support.ports import free_ports
 
 # Another program can be tried by hand in its place.
 PROGRAM = os.environ.get("BG_SWITCH_PROGRAM", str(TOP / "bin" / "bg_switch"))
-PATIENCE = "BG_SWITCH_PATIENCE_SECONDS"
+TIMEOUT_VARIABLE = "BG_SWITCH_PATIENCE_SECONDS"
 LISTENING = "listening\n"
 # The usual limit of a system, which holds whatever the script itself may have.
 USUAL_DESCRIPTORS = 1024
 
 
-class Run(NamedTuple):
-    """What a run of `serve` prints, what it tells on standard error, and its status."""
-    printed: str
-    told: str
-    status: int
-
-
-def run_to_end(rollout: str, active: int, control: int, preview: int | None = None) -> Run:
+def run_to_end(rollout: str, active: int, control: int, preview: int | None = None) -> processes.Run:
     """A run of `serve` that ends by itself, since it can't begin to serve."""
-    words = [PROGRAM, *words_of_serve(active, control, preview, 1, 1)]
-    run = subprocess.run(words, input=rollout, capture_output=True, text=True, timeout=processes.LONGEST, check=False)
-    return Run(run.stdout, run.stderr, run.returncode)
+    return processes.run_to_end([PROGRAM, *words_of_serve(active, control, preview, 1, 1)], rollout)
 
 
 def words_of_serve(active: int, control: int, preview: int | None, workers: int, count: int | None) -> list[str]:
@@ -51,27 +42,29 @@ class Ended(NamedTuple):
 class Switch:
     """A running `serve`, whose connections are counted, and whose standard error is kept.
 
-    With a `count` each worker takes exactly so many connections, and `end` takes all that the checks have left over; without
-    one it serves for ever. It may have so many descriptors, and `prepare` is called in its process before it starts.
+    With a `count` each worker takes exactly so many connections, and `end` takes all that the checks have left over;
+    without one it serves for ever. It may have so many descriptors, `prepare` is called in its process before it
+    starts, and it has these variables of the environment beside those of the script.
     """
 
     def __init__(self, rollout: str = ROLLOUT, *, workers: int = 1, count: int | None = None, preview: bool = True,
-                 patience: int | str | None = None, descriptors: int = USUAL_DESCRIPTORS,
-                 prepare: Callable[[], object] = lambda: None) -> None:
+                 timeout: int | str | None = None, descriptors: int = USUAL_DESCRIPTORS,
+                 prepare: Callable[[], object] = lambda: None, variables: Mapping[str, str] | None = None) -> None:
         self.active, self.preview, self.control = free_ports(3)
         self.left = {self.active: workers * (count or 0), self.preview: count or 0 if preview else 0}
         self.lock = threading.Lock()
         words = [PROGRAM, *words_of_serve(self.active, self.control, self.preview if preview else None, workers, count)]
-        environment = {name: value for name, value in os.environ.items() if name != PATIENCE}
-        if patience is not None:
-            environment[PATIENCE] = str(patience)
+        environment = {name: value for name, value in os.environ.items() if name != TIMEOUT_VARIABLE}
+        environment.update(variables or {})
+        if timeout is not None:
+            environment[TIMEOUT_VARIABLE] = str(timeout)
 
         def before() -> None:
             processes.limit_descriptors(descriptors)
             prepare()
 
-        self.process = subprocess.Popen(words, stdin=subprocess.PIPE, stdout=subprocess.PIPE, stderr=subprocess.PIPE, text=True,
-                                        env=environment, preexec_fn=before)
+        self.process = subprocess.Popen(words, stdin=subprocess.PIPE, stdout=subprocess.PIPE, stderr=subprocess.PIPE,
+                                        text=True, env=environment, preexec_fn=before)
         processes.limit(self.process)
         self.told: list[str] = []
         self.teller = threading.Thread(target=self.keep_standard_error, daemon=True)
@@ -98,6 +91,10 @@ class Switch:
         """How many lines with each of these words have come on standard error."""
         return sum(all(word in line for word in words) for line in list(self.told))
 
+    def count_descriptors(self) -> int:
+        """How many descriptors the program has open. Each connection that it has taken is one."""
+        return len(processes.descriptors(self.process.pid))
+
     def operator(self) -> Operator:
         return Operator(self.control)
 
@@ -111,10 +108,10 @@ class Switch:
         with contextlib.closing(self.operator()) as operator:
             return operator.open_requests()
 
-    def take(self, port: int) -> None:
-        """One of the connections of the port is used."""
+    def take(self, port: int, count: int = 1) -> None:
+        """So many of the connections of the port are used."""
         with self.lock:
-            self.left[port] -= 1
+            self.left[port] -= count
 
     def connect(self, port: int) -> socket.socket:
         self.take(port)
@@ -153,9 +150,15 @@ class Switch:
         return self.wait()
 
     def check_end(self, name: str, calls: int) -> None:
-        """A check that the program ends by itself, with so many calls and status 0."""
+        """A check that the program ends by itself, with so many calls after its last report, and status 0."""
         ended = self.end()
-        check(name, (ended.printed.splitlines()[-1:], ended.status), ([f"calls {calls}"], 0))
+        check(name, (ended.printed.splitlines()[-2:], ended.status), (["end", f"calls {calls}"], 0))
+
+    def check_end_after(self, operator: Operator, name: str, calls: int) -> None:
+        """The same, once this operator has ordered `quit`."""
+        operator.order_quit()
+        self.check_end(name, calls)
+        operator.close()
 
     def stop(self) -> None:
         """Ends the program at once. That it had ended by itself is a failed check."""
@@ -170,10 +173,10 @@ class Switch:
         self.process.stdout.close()
 
 
-def opened(endpoint: int, rollout: str = ROLLOUT, *, workers: int = 1, count: int | None = None,
-           patience: int | str | None = None, descriptors: int = USUAL_DESCRIPTORS) -> tuple[Switch, Operator]:
+def opened(endpoint: int, rollout: str = ROLLOUT, *, workers: int = 1, count: int | None = None, preview: bool = True,
+           timeout: int | str | None = None, descriptors: int = USUAL_DESCRIPTORS) -> tuple[Switch, Operator]:
     """A switch that listens, whose first revision has this endpoint, and its operator."""
-    switch = Switch(rollout, workers=workers, count=count, patience=patience, descriptors=descriptors)
+    switch = Switch(rollout, workers=workers, count=count, preview=preview, timeout=timeout, descriptors=descriptors)
     check("listening", switch.first, LISTENING)
     operator = switch.operator()
     operator.check(f"open one {endpoint}", "ok 0")
@@ -182,10 +185,10 @@ def opened(endpoint: int, rollout: str = ROLLOUT, *, workers: int = 1, count: in
 
 
 @contextlib.contextmanager
-def serving(endpoint: int, rollout: str = ROLLOUT, *, workers: int = 1, patience: int | str | None = None,
+def serving(endpoint: int, rollout: str = ROLLOUT, *, workers: int = 1, timeout: int | str | None = None,
             descriptors: int = USUAL_DESCRIPTORS) -> Iterator[Switch]:
     """The same, for ever, and with no operator: it is ended at the end of the block."""
-    switch, operator = opened(endpoint, rollout, workers=workers, patience=patience, descriptors=descriptors)
+    switch, operator = opened(endpoint, rollout, workers=workers, timeout=timeout, descriptors=descriptors)
     operator.close()
     try:
         yield switch

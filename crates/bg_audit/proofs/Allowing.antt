@@ -27,7 +27,7 @@ use Rattle.bg_audit.specs.Scans.{fits_named, wants_in, has_port_in, is_held_in, 
 use Rattle.bg_audit.proofs.Tests.{and_parts, equal_numbers}
 use Rattle.bg_audit.proofs.Listed.{Finds, found-member, sized-desired}
 
--- what is found by its number is there
+-- a revision that is found by its number is in the list
 found-there : (s : Strategy) (o : Opening) (p : List Entry) (r : ℕ) (xs : List Revision) → xs ≡ revisions_of s o p → Finds s o p r → exists_in r p ≡ true → numbered r xs ≡ Some (revision_of s o p r)
 found-there s o p r xs is finds there = ap (numbered r) is ∙ finds ∙ ap (λ b. cond b (Some (revision_of s o p r)) None) there
 
@@ -63,7 +63,7 @@ owner-fits s o p f r name ports known reach law count =
       go (Some q) is =
           owned r ports q (desired s q p) (available q p) (template o q p) (reach.templates q (found-member (λ x. is_named name (template o x p)) q (existing p) is))
 
--- a report of so many
+-- a report of this many endpoints
 pub report-fits : (s : Strategy) (o : Opening) (p : List Entry) (f : Facts) (r n : ℕ) → Knows s o p f → Finds s o p r
     → wants_in n (numbered r f.revisions.items) ≡ (exists_in r p && nat_le n (desired s r p))
 report-fits s o p f r n known finds = ap (λ vs. wants_in n (numbered r vs)) known.revisions ∙ ap (wants_in n) finds ∙ go (exists_in r p) where
@@ -79,7 +79,7 @@ find-told seat (q ∷ qs) = go (q.seat == seat) (find-told seat qs) where
   go true rest = refl
   go false rest = rest
 
--- the request that a seat holds is kept
+-- the facts have the request that a seat holds
 held-is : (s : Strategy) (o : Opening) (p : List Entry) (f : Facts) (seat : ℕ) → Knows s o p f → find (λ q. q.seat == seat) f.requests.items ≡ option_map request_told (held_by seat p)
 held-is s o p f seat known = ap (λ qs. find (λ q. q.seat == seat) qs) known.requests ∙ find-told seat (open_requests p)
 
@@ -99,7 +99,7 @@ and-is_true : (b : Bool) → b ≡ b && true
 and-is_true true = refl
 and-is_true false = refl
 
--- a number above the greatest is above all
+-- a number above the greatest number is above every number
 above-all : (n : ℕ) (ms : List ℕ) → is_above n (greatest_of ms) ≡ list_all (λ m. nat_lt m n) ms
 above-all n [] = refl
 above-all n (m ∷ ms) = go (greatest_of ms) ∙ ap (λ b. nat_lt m n && b) (above-all n ms) where
@@ -131,7 +131,7 @@ entering true true d e f x h = ap (λ b. b && e) (h refl) ∙ go d e f where
   go true false true = refl
   go true false false = refl
 
--- a request may enter where the facts say so
+-- a request may enter if the facts say so
 pub enters-is : (s : Strategy) (o : Opening) (p : List Entry) (f : Facts) (service : Service) (seats seat number r port : ℕ) → Knows s o p f → Reachable s o p → Finds s o p r → seats ≡ o.seats
     → enters_in f seats (selection s service p) seat number r port ≡ may_enter s o seat service number r port p
 enters-is s o p f service seats seat number r port known reach finds is =

@@ -1,4 +1,4 @@
--- What the facts of a past answer of its revisions.
+-- What the facts of a past say of its revisions.
 use Rattle.std.proofs.Common.{◌≡◌, ◌+◌, ℕ, Bool, true, false, not, cond, ◌==◌, ◌&&◌, ◌||◌, nat_lt, nat_le, List, [], ◌∷◌, map, filter, find, length, count_by, Option, Some, None, is_some, is_none, refl, ap, sym, ◌∙◌}
 use Rattle.std.specs.List.{list_any}
 use Rattle.std.specs.Option.{option_or, option_map}
@@ -16,17 +16,17 @@ use Rattle.bg_history.specs.Templates.{template}
 use Rattle.bg_history.specs.Promotion.{first_promotion}
 use Rattle.bg_history.specs.Marks as past
 use Rattle.bg_history.specs.Requests.{Request, open_requests, open_at}
-use Rattle.bg_history.specs.Deadlines.{exists_in, is_spare, is_left, left_later, rank_after, is_over, is_reached, time_of, marks_due, is_empty, may_scale_down, is_old, old_revisions, is_first, may_remove}
+use Rattle.bg_history.specs.Deadlines.{exists_in, is_spare, is_left, left_later, rank_after, reaches_limit, is_reached, time_of, marks_due, is_empty, may_scale_down, is_old, old_revisions, is_first, may_remove}
 use Rattle.bg_history.specs.Steps.{is_settled}
 use Rattle.bg_history_laws.specs.Listed.{sized, revision_of, revisions_of}
 use Rattle.bg_audit.specs.declared.course.Course.{Course}
 use Rattle.bg_audit.specs.declared.facts.Facts.{Facts}
-use Rattle.bg_audit.specs.Standing.{IsCourse}
+use Rattle.bg_audit.specs.Course.{IsCourse}
 use Rattle.bg_audit.specs.Marked.{kind_told, mark_told, mark_there, mark_in}
 use Rattle.bg_audit.specs.Requests.{request_told}
 use Rattle.bg_audit.specs.Known.{Knows}
 use Rattle.bg_audit.specs.Selected.{selects_in}
-use Rattle.bg_audit.specs.Scans.{is_spare_in, is_left_in, left_later_in, time_in, rank_in, marks_due_in, scales_down_in, is_old_in, is_numbered, removes_in}
+use Rattle.bg_audit.specs.Scans.{is_spare_in, is_left_in, left_later_in, time_in, count_left_later, marks_due_in, scales_down_in, is_old_in, is_numbered, removes_in}
 use Rattle.bg_audit.proofs.Tests.{equal_itself}
 use Rattle.bg_audit.proofs.Listed.{Finds, sized-desired}
 
@@ -68,7 +68,7 @@ or-true : (a b : Bool) → b ≡ true → a || b ≡ true
 or-true true b h = refl
 or-true false b h = h
 
--- counting what is listed
+-- counting over the list of revisions
 count-map : (g : ℕ → Revision) (p : Revision → Bool) (t : ℕ → Bool) (xs : List ℕ) → ((q : ℕ) → member q xs ≡ true → p (g q) ≡ t q) → count_by p (map g xs) ≡ count_by t xs
 count-map g p t [] same = refl
 count-map g p t (x ∷ xs) same =
@@ -77,7 +77,7 @@ count-map g p t (x ∷ xs) same =
     ∙ ap (λ n. cond (t x) 1 0 + n) (count-map g p t xs (λ q h. same q (or-true (x == q) (member q xs) h)))
     ∙ sym (sum_by-cons (λ y. cond (t y) 1 0) x xs)
 
--- finding one that passes, or telling that there is one
+-- finding a number that passes, and testing whether there is one
 numbered-first : (g : ℕ → Revision) (p : Revision → Bool) (t : ℕ → Bool) (r : ℕ) (xs : List ℕ) → ((q : ℕ) → (g q).number ≡ q) → ((q : ℕ) → p (g q) ≡ t q)
     → is_numbered r (find p (map g xs)) ≡ is_first r (filter t xs)
 numbered-first g p t r [] own same = refl
@@ -88,7 +88,7 @@ numbered-first g p t r (x ∷ xs) own same =
       go true rest = ap (λ n. n == r) (own x)
       go false rest = rest
 
--- a mark that is told says what the mark does
+-- a mark in the type of the code says the same as the mark
 time-told : (s : Strategy) (k : past.MarkKind) (at : ℕ) → time_in s (kind_told k) at ≡ time_of s k at
 time-told s past.Left at = refl
 time-told s past.Superseded at = refl
@@ -101,31 +101,31 @@ left-told past.Superseded = refl
 left-told past.Aborted = refl
 left-told past.Cleared = refl
 
-later-told : (stood : ℕ) (m : Option past.Mark) → left_later_in stood (option_map mark_told m) ≡ left_later stood m
-later-told stood None = refl
-later-told stood (Some m) = ap (λ b. b && nat_lt stood m.stood) (left-told m.kind)
+later-told : (position : ℕ) (m : Option past.Mark) → left_later_in position (option_map mark_told m) ≡ left_later position m
+later-told position None = refl
+later-told position (Some m) = ap (λ b. b && nat_lt position m.position) (left-told m.kind)
 
 mark-is : (s : Strategy) (o : Opening) (p : List Entry) (f : Facts) (r : ℕ) → Knows s o p f → exists_in r p ≡ true → mark_in (revision_of s o p r).number f.marks.items ≡ option_map mark_told (past.mark s r p)
 mark-is s o p f r known there = ap (λ n. mark_in n f.marks.items) (own-number s o p r) ∙ ap mark_there (known.marks r there)
 
-rank-is : (s : Strategy) (o : Opening) (p : List Entry) (f : Facts) (stood : ℕ) → Knows s o p f → rank_in f stood ≡ rank_after s stood p
-rank-is s o p f stood known =
-    ap (λ vs. count_by (λ v. is_spare_in f.course v && left_later_in stood (mark_in v.number f.marks.items)) vs) known.revisions
-    ∙ count-map (revision_of s o p) (λ v. is_spare_in f.course v && left_later_in stood (mark_in v.number f.marks.items)) (λ q. is_spare s q p && left_later stood (past.mark s q p)) (existing p)
+rank-is : (s : Strategy) (o : Opening) (p : List Entry) (f : Facts) (position : ℕ) → Knows s o p f → count_left_later f position ≡ rank_after s position p
+rank-is s o p f position known =
+    ap (λ vs. count_by (λ v. is_spare_in f.course v && left_later_in position (mark_in v.number f.marks.items)) vs) known.revisions
+    ∙ count-map (revision_of s o p) (λ v. is_spare_in f.course v && left_later_in position (mark_in v.number f.marks.items)) (λ q. is_spare s q p && left_later position (past.mark s q p)) (existing p)
     (λ q there.
-    ap (λ b. b && left_later_in stood (mark_in (revision_of s o p q).number f.marks.items)) (spare-is s o p f.course q known.course)
-    ∙ ap (λ m. is_spare s q p && left_later_in stood m) (mark-is s o p f q known there)
-    ∙ ap (λ b. is_spare s q p && b) (later-told stood (past.mark s q p)))
+    ap (λ b. b && left_later_in position (mark_in (revision_of s o p q).number f.marks.items)) (spare-is s o p f.course q known.course)
+    ∙ ap (λ m. is_spare s q p && left_later_in position m) (mark-is s o p f q known there)
+    ∙ ap (λ b. is_spare s q p && b) (later-told position (past.mark s q p)))
 
 due-told : (s : Strategy) (o : Opening) (p : List Entry) (f : Facts) (m : Option past.Mark) → Knows s o p f → marks_due_in s f (option_map mark_told m) ≡ marks_due s m p
 due-told s o p f None known = refl
 due-told s o p f (Some m) known =
-    ap (λ t. is_reached t f.course.moment || (is_left_in (kind_told m.kind) && is_over s.revision_limit (rank_in f m.stood))) (time-told s m.kind m.moment)
-    ∙ ap (λ n. is_reached (time_of s m.kind m.moment) n || (is_left_in (kind_told m.kind) && is_over s.revision_limit (rank_in f m.stood))) known.course.moment_is
-    ∙ ap (λ b. is_reached (time_of s m.kind m.moment) (moment p) || (b && is_over s.revision_limit (rank_in f m.stood))) (left-told m.kind)
-    ∙ ap (λ n. is_reached (time_of s m.kind m.moment) (moment p) || (is_left m.kind && is_over s.revision_limit n)) (rank-is s o p f m.stood known)
+    ap (λ t. is_reached t f.course.moment || (is_left_in (kind_told m.kind) && reaches_limit s.revision_limit (count_left_later f m.position))) (time-told s m.kind m.moment)
+    ∙ ap (λ n. is_reached (time_of s m.kind m.moment) n || (is_left_in (kind_told m.kind) && reaches_limit s.revision_limit (count_left_later f m.position))) known.course.moment_is
+    ∙ ap (λ b. is_reached (time_of s m.kind m.moment) (moment p) || (b && reaches_limit s.revision_limit (count_left_later f m.position))) (left-told m.kind)
+    ∙ ap (λ n. is_reached (time_of s m.kind m.moment) (moment p) || (is_left m.kind && reaches_limit s.revision_limit n)) (rank-is s o p f m.position known)
 
--- no request is open at r where none of those told is
+-- if no request in the facts is at r, no request is open at r
 none-open : (r : ℕ) (qs : List Request) → not (list_any (λ q. q.revision == r) (map request_told qs)) ≡ is_empty (map (λ q. q.number) (filter (λ q. q.revision == r) qs))
 none-open r [] = refl
 none-open r (q ∷ qs) = go (q.revision == r) (none-open r qs) where
@@ -134,7 +134,7 @@ none-open r (q ∷ qs) = go (q.revision == r) (none-open r qs) where
   go true rest = refl
   go false rest = rest
 
--- a revision may be scaled down where the facts say so
+-- a revision may be scaled down if the facts say so
 pub scales-down : (s : Strategy) (o : Opening) (p : List Entry) (f : Facts) (r : ℕ) → Knows s o p f → Finds s o p r → scales_down_in s f (numbered r f.revisions.items) ≡ may_scale_down s r p
 scales-down s o p f r known finds =
     ap (λ vs. scales_down_in s f (numbered r vs)) known.revisions ∙ ap (scales_down_in s f) finds ∙ go (exists_in r p) refl where
@@ -152,7 +152,7 @@ scales-down s o p f r known finds =
       go true is = there is
       go false is = refl
 
--- a revision may be removed where the facts say so
+-- a revision may be removed if the facts say so
 pub removes-is : (s : Strategy) (o : Opening) (p : List Entry) (f : Facts) (r : ℕ) → Knows s o p f → removes_in s f r ≡ may_remove s r p
 removes-is s o p f r known =
     ap (λ vs. nat_lt s.history_limit (count_by (is_old_in f.course) vs) && is_numbered r (find (is_old_in f.course) vs)) known.revisions
@@ -161,7 +161,7 @@ removes-is s o p f r known =
     ∙ ap (λ b. nat_lt s.history_limit (length (old_revisions s p)) && b)
     (numbered-first (revision_of s o p) (is_old_in f.course) (is_old s p) r (existing p) (own-number s o p) (λ q. old-is s o p f.course q known.course))
 
--- one of two kinds of end is allowed for some revision
+-- one of the two outcomes is allowed for some revision
 or-four : (a b c d : Bool) → (a || b) || (c || d) ≡ (a || c) || (b || d)
 or-four true b c d = refl
 or-four false true true d = refl
@@ -197,7 +197,7 @@ ends-is s o p f known finds =
     (λ q. ap (λ n. scales_down_in s f (numbered n f.revisions.items) || removes_in s f n) (own-number s o p q)
     ∙ ap (λ b. b || removes_in s f q) (scales-down s o p f q known (finds q)) ∙ ap (λ b. may_scale_down s q p || b) (removes-is s o p f q known))
 
--- nothing is left undone
+-- no allowed outcome is left undone
 pub settled-is : (s : Strategy) (p : List Entry) (step ends : Bool) → step ≡ is_some (first_promotion s p)
     → ends ≡ (is_some (find (λ r. may_scale_down s r p) (existing p)) || is_some (find (λ r. may_remove s r p) (existing p)))
     → (not step && not ends) ≡ is_settled s p

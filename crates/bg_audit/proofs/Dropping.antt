@@ -1,9 +1,9 @@
--- What an entry makes of the requests that are kept.
+-- The effect of an entry on the requests in the facts.
 use Rattle.std.proofs.Common.{◌≡◌, ℕ, Bool, true, false, not, cond, ◌==◌, List, [], ◌∷◌, map, filter, refl, ap}
 use Rattle.bg_history.specs.Requests.{Request}
 use Rattle.bg_audit.specs.Requests.{request_told}
 
--- to drop a number is to drop its request
+-- dropping a number drops its request
 pub dropped-told : (n : ℕ) (qs : List Request) → filter (λ q. not (q.number == n)) (map request_told qs) ≡ map request_told (filter (λ q. not (q.number == n)) qs)
 dropped-told n [] = refl
 dropped-told n (q ∷ qs) = go (not (q.number == n)) (dropped-told n qs) where

@@ -1,4 +1,4 @@
--- What an entry makes of the revisions that are kept.
+-- The effect of an entry on the revisions in the facts.
 use Rattle.std.proofs.Common.{◌≡◌, ◌<◌, ◌+◌, ℕ, Bool, true, false, cond, max, ◌==◌, ◌||◌, nat_lt, List, [], ◌∷◌, ◌++◌, map, find, length, Option, Some, None, is_some, refl, ap, sym, ◌∙◌, arith}
 use Rattle.std.specs.List.{list_any}
 use Rattle.bg_strategy.specs.declared.strategy.Strategy.{Strategy}
@@ -19,7 +19,7 @@ use Rattle.bg_history_laws.specs.Listed.{sized, revision_of, revisions_of}
 use Rattle.bg_audit.specs.Sizes.{wanted, desired_in}
 use Rattle.bg_audit.proofs.Tests.{and_parts, or_right, equal_itself, equal_numbers}
 
--- what the law of finding says of a number
+-- the law of finding, for one number
 abbrev pub Finds : Strategy → Opening → List Entry → ℕ → Type 0
 Finds s o past r = numbered r (revisions_of s o past) ≡ cond (exists_in r past) (Some (revision_of s o past r)) None
 
@@ -27,13 +27,13 @@ pub sized-desired : (r n m : ℕ) (t : Option Template) → (sized r n m t).desi
 sized-desired r n m None = refl
 sized-desired r n m (Some t) = refl
 
--- what an existing revision wants is kept
+-- the facts have the number of endpoints that an existing revision wants
 pub desired-listed : (s : Strategy) (o : Opening) (past : List Entry) (r : ℕ) → Finds s o past r → exists_in r past ≡ true
     → desired_in r (revisions_of s o past) ≡ desired s r past
 desired-listed s o past r finds is =
     ap wanted (finds ∙ ap (λ b. cond b (Some (revision_of s o past r)) None) is) ∙ sized-desired r (desired s r past) _ (template o r past)
 
--- a revision that is raised
+-- a revision whose wanted number of endpoints is raised
 pub raised-listed : (s : Strategy) (o : Opening) (past : List Entry) (e : Entry) (q n : ℕ) (old new : List Revision)
     → revisions_of s o (e ∷ past) ≡ map (resized q (max n (desired s q past))) (revisions_of s o past)
     → Finds s o past q → exists_in q past ≡ true → old ≡ revisions_of s o past
@@ -46,13 +46,13 @@ some-if : {X : Type 0} (b : Bool) (x : X) → is_some (cond b (Some x) None) ≡
 some-if true x = refl
 some-if false x = refl
 
--- a revision is kept where it exists
+-- the facts have a revision if it exists
 pub number-listed : (s : Strategy) (o : Opening) (past : List Entry) (r : ℕ) (xs : List Revision) → Finds s o past r → xs ≡ revisions_of s o past
     → is_some (numbered r xs) ≡ exists_in r past
 number-listed s o past r xs finds is =
     ap (λ ys. is_some (numbered r ys)) is ∙ ap is_some finds ∙ some-if (exists_in r past) (revision_of s o past r)
 
--- what is found is a member
+-- a number that is found is a member of the list
 pub found-member : (p : ℕ → Bool) (q : ℕ) (xs : List ℕ) → find p xs ≡ Some q → list_any (λ x. x == q) xs ≡ true
 found-member p q [] h = absurd (cc)
 found-member p q (x ∷ xs) h = go (p x) h (found-member p q xs) where
@@ -71,7 +71,7 @@ deployed-next s o r name ports past h fresh = go (owner o name past) refl (and_p
       let there : exists_in q past ≡ true = found-member _ q (existing past) is in
       absurd (cc)
 
--- a number that exists is none that doesn't
+-- an existing number differs from one that doesn't exist
 pub other-number : (r q : ℕ) (past : List Entry) → exists_in r past ≡ false → exists_in q past ≡ true → (r == q) ≡ false
 other-number r q past fresh there = go (r == q) refl where
   go : (b : Bool) → (r == q) ≡ b → b ≡ false
@@ -82,14 +82,14 @@ other-number r q past fresh there = go (r == q) refl where
 pub stable-there : (s : Strategy) (o : Opening) (past : List Entry) → Reachable s o past → exists_in (stable_of past) past ≡ true
 stable-there s o past reach = (and_parts (exists_in (stable_of past) past) _ reach.stable).0
 
--- only the newest revision is resumed
+-- only the newest revision can be resumed
 pub resumed-there : (s : Strategy) (o : Opening) (q : ℕ) (past : List Entry) → Reachable s o past → is_allowed s o (Outcome (Resumed q)) past ≡ true → exists_in q past ≡ true
 resumed-there s o q past reach allowed =
     let tried : attempts q past ≡ true = (and_parts (attempts q past) _ (and_parts _ _ (and_parts _ _ allowed).0).0).0 in
     let e : q ≡ newest_of past = equal_numbers q (newest_of past) (and_parts (is_running past) (q == newest_of past) tried).1 in
     rw e reach.newest
 
--- a fresh revision is kept at the end
+-- a new revision is at the end of the list
 pub deployed-listed : (s : Strategy) (o : Opening) (past : List Entry) (r : ℕ) (name ports : List ℕ) (old new : List Revision)
     → (last_number past < r → (r == stable_of past) ≡ false → desired s r past ≡ 0 → available r past ≡ 0
     → revisions_of s o (Deploy r name ports ∷ past) ≡ revisions_of s o past ++ record { number = r; name = name; ports = ports; desired = s.preview_replicas; available = 0 } ∷ [])
@@ -101,4 +101,4 @@ deployed-listed s o past r name ports old new law finds reach allowed old_is non
     let next : r ≡ last_number past + 1 = deployed-next s o r name ports past allowed fresh in
     let above : last_number past < r = omega arith in
     new_is ∙ ap (λ xs. xs ++ record { number = r; name = name; ports = ports; desired = s.preview_replicas; available = 0 } ∷ []) old_is
-    ∙ sym (law above (other-number r (stable_of past) past fresh (stable-there s o past reach)) (reach.unborn_size r above) (reach.unborn_available r above))
+    ∙ sym (law above (other-number r (stable_of past) past fresh (stable-there s o past reach)) (reach.undeployed_size r above) (reach.undeployed_available r above))

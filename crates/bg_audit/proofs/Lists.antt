@@ -3,7 +3,7 @@ use Rattle.std.proofs.Common.{◌≡◌, ◌≤◌, ◌<◌, ℕ, List, ◌++◌
 use Rattle.std.proofs.lemmas.Option.{slice_get-get_or}
 use Rattle.std.proofs.lemmas.List.{take_all, drop_all, append-nil}
 
--- after a loop over a whole list, each element is changed
+-- after a loop over a whole list, each element has been changed
 pub map-whole : {X : Type 0} (f : X → X) (xs items : List X) (n : ℕ) → items ≡ map f (take n xs) ++ drop n xs → length xs ≤ n → items ≡ map f xs
 map-whole f xs items n done all = done ∙ ap (λ ys. map f ys ++ drop n xs) (take_all n xs all) ∙ ap (λ ys. map f xs ++ ys) (drop_all n xs all) ∙ append-nil (map f xs)
 
@@ -12,7 +12,7 @@ pub take-written : {X : Type 0} (xs items : List X) (len : ℕ) → length items
 take-written xs items len same is =
     ap (λ ys. take len (items ++ ys)) (drop_all (length items) xs (omega arith)) ∙ ap (take len) (append-nil items) ∙ take_all len items (omega arith)
 
--- an element that is there is read alike whatever stands for one that isn't
+-- an element in the list doesn't depend on the default
 pub get_or-any : {X : Type 0} (xs : List X) (i : ℕ) (d e : X) → i < length xs → get_or xs i d ≡ get_or xs i e
 get_or-any xs i d e within =
     let one = slice_get-get_or xs i d within in

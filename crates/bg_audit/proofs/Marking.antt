@@ -1,4 +1,4 @@
--- What an entry makes of the marks that are kept.
+-- The effect of an entry on the marks in the facts.
 use Rattle.std.proofs.Common.{◌≡◌, ℕ, Bool, true, false, not, cond, ◌==◌, ◌||◌, List, [], ◌∷◌, ◌++◌, map, filter, find, length, Option, Some, None, refl, ap, sym, ◌∙◌, arith, subst}
 use Rattle.std.specs.List.{list_any}
 use Rattle.std.specs.Option.{option_or, option_map}
@@ -17,38 +17,38 @@ use Rattle.bg_history.specs.Marks as past
 use Rattle.bg_history_laws.specs.Reachable.{Reachable}
 use Rattle.bg_audit.specs.declared.marks.Mark.{Mark}
 use Rattle.bg_audit.specs.declared.marks.MarkKind.{MarkKind}
-use Rattle.bg_audit.specs.declared.marks.RevisionMark.{RevisionMark}
+use Rattle.bg_audit.specs.declared.marks.NewestMark.{NewestMark}
 use Rattle.bg_audit.specs.Marked.{kind_told, mark_told, remarked, with_revision, prepared, marked, HasMarks}
 use Rattle.bg_audit.proofs.Tests.{and_parts, or_right, equal_itself, equal_numbers}
 use Rattle.bg_audit.proofs.Listed.{other-number, stable-there}
 
--- a revision's mark by its parts
-abbrev mark_of_parts : ℕ → Option Mark → RevisionMark
+-- a revision's mark with these parts
+abbrev mark_of_parts : ℕ → Option Mark → NewestMark
 mark_of_parts r m = record { revision = r; mark = m }
 
--- a revision's mark after an entry, by the kind that is told of it
-pub remarked-Some : (s : Strategy) (e : Entry) (before : List Entry) (m : RevisionMark) (k : MarkKind) (at n : ℕ) (told : Option MarkKind)
+-- a revision's mark after an entry, by the kind of mark in the type of the code
+pub remarked-Some : (s : Strategy) (e : Entry) (before : List Entry) (m : NewestMark) (k : MarkKind) (at n : ℕ) (told : Option MarkKind)
     → told ≡ option_map kind_told (past.kind_of s m.revision e before) → told ≡ Some k → at ≡ moment (e ∷ before) → n ≡ length before
-    → mark_of_parts m.revision (Some (record { kind = k; moment = at; stood = n })) ≡ remarked s e before m
-remarked-Some s e before m k at n told is some now stood = go (past.kind_of s m.revision e before) is where
+    → mark_of_parts m.revision (Some (record { kind = k; moment = at; position = n })) ≡ remarked s e before m
+remarked-Some s e before m k at n told is some now position = go (past.kind_of s m.revision e before) is where
   go : (o : Option past.MarkKind) → told ≡ option_map kind_told o
-      → mark_of_parts m.revision (Some (record { kind = k; moment = at; stood = n }))
-      ≡ mark_of_parts m.revision (option_or (option_map (λ kind. record { kind = kind_told kind; moment = moment (e ∷ before); stood = length before }) o) m.mark)
+      → mark_of_parts m.revision (Some (record { kind = k; moment = at; position = n }))
+      ≡ mark_of_parts m.revision (option_or (option_map (λ kind. record { kind = kind_told kind; moment = moment (e ∷ before); position = length before }) o) m.mark)
   go None h = absurd (cc)
   go (Some kind) h =
       let same : k ≡ kind_told kind = same_Some _ _ (sym some ∙ h) in
-      rw (same, now, stood) refl
+      rw (same, now, position) refl
 
-pub remarked-None : (s : Strategy) (e : Entry) (before : List Entry) (m : RevisionMark) (told : Option MarkKind)
+pub remarked-None : (s : Strategy) (e : Entry) (before : List Entry) (m : NewestMark) (told : Option MarkKind)
     → told ≡ option_map kind_told (past.kind_of s m.revision e before) → told ≡ None → m ≡ remarked s e before m
 remarked-None s e before m told is none = go (past.kind_of s m.revision e before) is where
   go : (o : Option past.MarkKind) → told ≡ option_map kind_told o
-      → m ≡ mark_of_parts m.revision (option_or (option_map (λ kind. record { kind = kind_told kind; moment = moment (e ∷ before); stood = length before }) o) m.mark)
+      → m ≡ mark_of_parts m.revision (option_or (option_map (λ kind. record { kind = kind_told kind; moment = moment (e ∷ before); position = length before }) o) m.mark)
   go None h = refl
   go (Some kind) h = absurd (cc)
 
--- marking finds the same revisions
-find-remarked : (s : Strategy) (e : Entry) (before : List Entry) (r : ℕ) (ms : List RevisionMark)
+-- the list has the same revisions after marking
+find-remarked : (s : Strategy) (e : Entry) (before : List Entry) (r : ℕ) (ms : List NewestMark)
     → find (λ m. m.revision == r) (map (remarked s e before) ms) ≡ option_map (remarked s e before) (find (λ m. m.revision == r) ms)
 find-remarked s e before r [] = refl
 find-remarked s e before r (m ∷ ms) = go (m.revision == r) (find-remarked s e before r ms) where
@@ -58,25 +58,25 @@ find-remarked s e before r (m ∷ ms) = go (m.revision == r) (find-remarked s e 
   go true rest = refl
   go false rest = rest
 
--- the mark after an entry, by whether the entry is one
+-- the mark after an entry, by whether the entry makes one
 told-or : (k : Option past.MarkKind) (m : Option past.Mark) (at n : ℕ)
-    → option_or (option_map (λ kind. record { kind = kind_told kind; moment = at; stood = n }) k) (option_map mark_told m)
-    ≡ option_map mark_told (option_or (option_map (λ kind. record { kind = kind; moment = at; stood = n }) k) m)
+    → option_or (option_map (λ kind. record { kind = kind_told kind; moment = at; position = n }) k) (option_map mark_told m)
+    ≡ option_map mark_told (option_or (option_map (λ kind. record { kind = kind; moment = at; position = n }) k) m)
 told-or None m at n = refl
 told-or (Some k) m at n = refl
 
--- what is kept of a revision is marked again
+-- the element of a revision gets its new mark
 remarked-marked : (s : Strategy) (e : Entry) (before : List Entry) (r : ℕ) → remarked s e before (marked s before r) ≡ marked s (e ∷ before) r
 remarked-marked s e before r =
     ap (λ (m : Option Mark). record { revision = r; mark = m }) (told-or (past.kind_of s r e before) (past.mark s r before) (moment (e ∷ before)) (length before))
 
--- so a revision that was found is found with its new mark
-found-again : (s : Strategy) (e : Entry) (before : List Entry) (r : ℕ) (ms : List RevisionMark) → find (λ m. m.revision == r) ms ≡ Some (marked s before r)
+-- a revision that was found is found with its new mark
+found-again : (s : Strategy) (e : Entry) (before : List Entry) (r : ℕ) (ms : List NewestMark) → find (λ m. m.revision == r) ms ≡ Some (marked s before r)
     → find (λ m. m.revision == r) (map (remarked s e before) ms) ≡ Some (marked s (e ∷ before) r)
 found-again s e before r ms found = find-remarked s e before r ms ∙ ap (option_map (remarked s e before)) found ∙ ap (λ m. Some m) (remarked-marked s e before r)
 
--- dropping another revision loses none
-find-without : (q r : ℕ) (ms : List RevisionMark) → (r == q) ≡ false → find (λ m. m.revision == r) (filter (λ m. not (m.revision == q)) ms) ≡ find (λ m. m.revision == r) ms
+-- dropping another revision keeps the element of this one
+find-without : (q r : ℕ) (ms : List NewestMark) → (r == q) ≡ false → find (λ m. m.revision == r) (filter (λ m. not (m.revision == q)) ms) ≡ find (λ m. m.revision == r) ms
 find-without q r [] other = refl
 find-without q r (m ∷ ms) other = go (m.revision == q) (m.revision == r) refl refl (find-without q r ms other) where
   go : (b c : Bool) → (m.revision == q) ≡ b → (m.revision == r) ≡ c → find (λ x. x.revision == r) (filter (λ x. not (x.revision == q)) ms) ≡ find (λ x. x.revision == r) ms
@@ -90,69 +90,69 @@ find-without q r (m ∷ ms) other = go (m.revision == q) (m.revision == r) refl 
     both true rest = refl
     both false rest = rest
 
--- adding one loses none
-found-more : (p : RevisionMark → Bool) (ms more : List RevisionMark) (m : RevisionMark) → find p ms ≡ Some m → find p (ms ++ more) ≡ Some m
+-- adding a revision keeps the elements of the others
+found-more : (p : NewestMark → Bool) (ms more : List NewestMark) (m : NewestMark) → find p ms ≡ Some m → find p (ms ++ more) ≡ Some m
 found-more p [] more m found = absurd (cc)
 found-more p (x ∷ xs) more m found = go (p x) found (found-more p xs more m) where
   go : (b : Bool) → cond b (Some x) (find p xs) ≡ Some m → (find p xs ≡ Some m → find p (xs ++ more) ≡ Some m) → cond b (Some x) (find p (xs ++ more)) ≡ Some m
   go true h rest = h
   go false h rest = rest h
 
-found-added : (q r : ℕ) (ms : List RevisionMark) (m : RevisionMark) → find (λ x. x.revision == r) ms ≡ Some m → find (λ x. x.revision == r) (with_revision q ms) ≡ Some m
+found-added : (q r : ℕ) (ms : List NewestMark) (m : NewestMark) → find (λ x. x.revision == r) ms ≡ Some m → find (λ x. x.revision == r) (with_revision q ms) ≡ Some m
 found-added q r ms m found = go (list_any (λ x. x.revision == q) ms) where
   go : (b : Bool) → find (λ x. x.revision == r) (cond b ms (ms ++ record { revision = q; mark = None } ∷ [])) ≡ Some m
   go true = found
   go false = found-more (λ x. x.revision == r) ms (record { revision = q; mark = None } ∷ []) m found
 
--- the added one is there, with some mark
-pub record There (q : ℕ) (ms : List RevisionMark) : Type 0 where
+-- the added revision has an element, with some mark
+pub record There (q : ℕ) (ms : List NewestMark) : Type 0 where
   pub kept : Option Mark
   pub found : find (λ x. x.revision == q) ms ≡ Some (record { revision = q; mark = kept })
 
-there-first : (q : ℕ) (m : RevisionMark) (ms : List RevisionMark) → m.revision ≡ q → There q (m ∷ ms)
+there-first : (q : ℕ) (m : NewestMark) (ms : List NewestMark) → m.revision ≡ q → There q (m ∷ ms)
 there-first q m ms is = record {
   kept = m.mark;
   found = rw (is, equal_itself q) refl;
 }
 
-there-rest : (q : ℕ) (m : RevisionMark) (ms : List RevisionMark) → (m.revision == q) ≡ false → There q ms → There q (m ∷ ms)
+there-rest : (q : ℕ) (m : NewestMark) (ms : List NewestMark) → (m.revision == q) ≡ false → There q ms → There q (m ∷ ms)
 there-rest q m ms other t = record { kept = t.kept; found = rw other t.found }
 
-there-any : (q : ℕ) (ms : List RevisionMark) → list_any (λ x. x.revision == q) ms ≡ true → There q ms
+there-any : (q : ℕ) (ms : List NewestMark) → list_any (λ x. x.revision == q) ms ≡ true → There q ms
 there-any q [] h = absurd (cc)
 there-any q (m ∷ ms) h = go (m.revision == q) refl h (there-any q ms) where
   go : (b : Bool) → (m.revision == q) ≡ b → b || list_any (λ x. x.revision == q) ms ≡ true → (list_any (λ x. x.revision == q) ms ≡ true → There q ms) → There q (m ∷ ms)
   go true is h rest = there-first q m ms (equal_numbers m.revision q is)
   go false is h rest = there-rest q m ms is (rest h)
 
-there-end : (q : ℕ) (ms : List RevisionMark) → There q (ms ++ record { revision = q; mark = None } ∷ [])
+there-end : (q : ℕ) (ms : List NewestMark) → There q (ms ++ record { revision = q; mark = None } ∷ [])
 there-end q [] = there-first q (record { revision = q; mark = None }) [] refl
 there-end q (m ∷ ms) = go (m.revision == q) refl (there-end q ms) where
   go : (b : Bool) → (m.revision == q) ≡ b → There q (ms ++ record { revision = q; mark = None } ∷ []) → There q (m ∷ (ms ++ record { revision = q; mark = None } ∷ []))
   go true is rest = there-first q m (ms ++ record { revision = q; mark = None } ∷ []) (equal_numbers m.revision q is)
   go false is rest = there-rest q m (ms ++ record { revision = q; mark = None } ∷ []) is rest
 
-there-added : (q : ℕ) (ms : List RevisionMark) → There q (with_revision q ms)
+there-added : (q : ℕ) (ms : List NewestMark) → There q (with_revision q ms)
 there-added q ms = go (list_any (λ x. x.revision == q) ms) refl where
   go : (b : Bool) → list_any (λ x. x.revision == q) ms ≡ b → There q (cond b ms (ms ++ record { revision = q; mark = None } ∷ []))
   go true is = there-any q ms is
   go false is = there-end q ms
 
--- the deploy of a revision that doesn't exist clears it, whatever mark was kept
+-- the deploy of a revision that doesn't exist clears its mark
 deployed-kind : (s : Strategy) (q : ℕ) (name ports : List ℕ) (before : List Entry) → (active_of before == q) ≡ false → (newest_of before == q) ≡ false → (q == stable_of before) ≡ false
     → past.kind_of s q (Deploy q name ports) before ≡ Some past.Cleared
 deployed-kind s q name ports before active newest stable = rw (active, newest, equal_itself q, stable) refl
 
-cleared-or : (k : Option past.MarkKind) (m n : Option Mark) (at stood : ℕ) → k ≡ Some past.Cleared
-    → option_or (option_map (λ kind. record { kind = kind_told kind; moment = at; stood = stood }) k) m
-    ≡ option_or (option_map (λ kind. record { kind = kind_told kind; moment = at; stood = stood }) k) n
-cleared-or None m n at stood is = absurd (cc)
-cleared-or (Some k) m n at stood is = refl
+cleared-or : (k : Option past.MarkKind) (m n : Option Mark) (at position : ℕ) → k ≡ Some past.Cleared
+    → option_or (option_map (λ kind. record { kind = kind_told kind; moment = at; position = position }) k) m
+    ≡ option_or (option_map (λ kind. record { kind = kind_told kind; moment = at; position = position }) k) n
+cleared-or None m n at position is = absurd (cc)
+cleared-or (Some k) m n at position is = refl
 
 swap-equal : (m n : ℕ) → (m == n) ≡ false → (n == m) ≡ false
 swap-equal m n h = grind (arith, nat_tests)
 
-fresh-found : (s : Strategy) (o : Opening) (q : ℕ) (name ports : List ℕ) (before : List Entry) (ms : List RevisionMark) → Reachable s o before → exists_in q before ≡ false
+fresh-found : (s : Strategy) (o : Opening) (q : ℕ) (name ports : List ℕ) (before : List Entry) (ms : List NewestMark) → Reachable s o before → exists_in q before ≡ false
     → find (λ m. m.revision == q) (map (remarked s (Deploy q name ports) before) (with_revision q ms)) ≡ Some (marked s (Deploy q name ports ∷ before) q)
 fresh-found s o q name ports before ms reach fresh =
     let t = there-added q ms in
@@ -165,12 +165,12 @@ fresh-found s o q name ports before ms reach fresh =
     (cleared-or (past.kind_of s q e before) t.kept (option_map mark_told (past.mark s q before)) (moment (e ∷ before)) (length before) (deployed-kind s q name ports before active newest stable))
     ∙ ap (λ m. Some m) (remarked-marked s e before q)
 
--- a list has a number that was put into it, and those that it had
+-- a list has a number that was put into it, and the numbers that it had
 member-put : (q r : ℕ) (xs : List ℕ) → list_any (λ x. x == q) (put r xs) ≡ ((r == q) || list_any (λ x. x == q) xs)
 member-put q r [] = refl
 member-put q r (x ∷ xs) = grind (arith, nat_tests, member-put q r xs)
 
--- what is there after one was left out was there before, and is another
+-- a number of the list without another one was in the list, and differs from that one
 member-without : (q r : ℕ) (xs : List ℕ) → list_any (λ x. x == r) (filter (λ x. not (x == q)) xs) ≡ true → ((r == q) ≡ false) × (list_any (λ x. x == r) xs ≡ true)
 member-without q r [] h = absurd (cc)
 member-without q r (x ∷ xs) h = go (x == q) (x == r) refl refl h (member-without q r xs) where
@@ -182,7 +182,7 @@ member-without q r (x ∷ xs) h = go (x == q) (x == r) refl refl h (member-witho
   go false false isb isc h rest = rest (rw isc at h)
 
 -- the marks after an entry
-pub marks-taken : (s : Strategy) (o : Opening) (e : Entry) (before : List Entry) (ms new : List RevisionMark) → Reachable s o before
+pub marks-taken : (s : Strategy) (o : Opening) (e : Entry) (before : List Entry) (ms new : List NewestMark) → Reachable s o before
     → new ≡ map (remarked s e before) (prepared e ms) → HasMarks s before ms → HasMarks s (e ∷ before) new
 marks-taken s o (Deploy q name ports) before ms new reach is has = λ r there. rw is (go r (exists_in r before) refl (sym (member-put r q (existing before)) ∙ there)) where
   go : (r : ℕ) (b : Bool) → exists_in r before ≡ b → (q == r) || b ≡ true

@@ -23,16 +23,16 @@ oldest-next n past e is =
     ∙ ap (λ y. reverse (take n (reverse past) ++ y ∷ [])) (get_or_from_slice_get (reverse past) n e e is)
     ∙ reverse-append (take n (reverse past)) (e ∷ [])
 
--- all of them
+-- the oldest entries are all entries
 pub oldest-all : (n : ℕ) (past : List Entry) → length past ≤ n → oldest n past ≡ past
 oldest-all n past all =
     ap (λ ys. reverse ys) (take_all n (reverse past) (omega (arith, length-reverse past))) ∙ reverse-reverse past
 
--- how many they are
+-- the number of oldest entries
 pub oldest-length : (n : ℕ) (past : List Entry) → n ≤ length past → length (oldest n past) ≡ n
 oldest-length n past le = length-reverse (take n (reverse past)) ∙ length-take-le n (reverse past) (omega (arith, length-reverse past))
 
--- the others stand in front of them
+-- the past is the newer entries, followed by the oldest ones
 oldest-part : (n : ℕ) (past : List Entry) → past ≡ reverse (drop n (reverse past)) ++ oldest n past
 oldest-part n past =
     sym (reverse-reverse past) ∙ ap (λ ys. reverse ys) (sym (take-append-drop n (reverse past))) ∙ reverse-append (take n (reverse past)) (drop n (reverse past))
@@ -45,7 +45,7 @@ no-test : (b : Bool) → (b ≡ true → true ≡ false) → b ≡ false
 no-test true h = h refl
 no-test false h = refl
 
--- where an entry isn't allowed, not all are
+-- if one entry isn't allowed, not all are
 pub not-allowed : (s : Strategy) (o : Opening) (n : ℕ) (past : List Entry) (e : Entry) → slice_get (reverse past) n ≡ Some e → is_allowed s o e (oldest n past) ≡ false
     → all_allowed s o past ≡ false
 not-allowed s o n past e is refused = no-test (all_allowed s o past) (λ h.
@@ -69,7 +69,7 @@ given-cons g (Enter seat service number r port) p = and-true (nat_le 1 number &&
 given-cons g (Leave seat number r) p = and-true (nat_le 1 number && nat_le number g) _
 given-cons g _ p = refl
 
--- where a number isn't given, not all are
+-- if one number isn't given, not all are
 pub not-given : (g n : ℕ) (past : List Entry) (e : Entry) → slice_get (reverse past) n ≡ Some e → all_given g (request_numbers (e ∷ [])) ≡ false
     → all_given g (request_numbers past) ≡ false
 not-given g n past e is refused = no-test (all_given g (request_numbers past)) (λ h.
@@ -78,7 +78,7 @@ not-given g n past e is refused = no-test (all_given g (request_numbers past)) (
     sym (and_parts (all_given g (request_numbers (e ∷ []))) _
     (sym (ap (λ p. all_given g (request_numbers p)) (oldest-next n past e is) ∙ given-cons g e (oldest n past)) ∙ part)).0 ∙ refused)
 
--- the requests that entered, with one more entry
+-- the number of Enters, with one more entry
 pub entered-cons : (e : Entry) (p : List Entry) → entered (e ∷ p) ≡ entered (e ∷ []) + entered p
 entered-cons (Enter seat service number r port) p = omega arith
 entered-cons _ p = omega arith

@@ -1,4 +1,4 @@
-pub mod Standing
+pub mod Course
 pub mod Sizes
 pub mod Marked
 pub mod Requests

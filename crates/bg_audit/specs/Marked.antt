@@ -1,4 +1,4 @@
--- The marks that are kept of a past.
+-- The marks that the audit keeps of a past.
 use Rattle.std.specs.Prelude.{◌≡◌, ℕ, true, if◌then◌else◌, ◌==◌, List, [], ◌∷◌, ◌++◌, not, filter, find, length, Option, Some, None}
 use Rattle.std.specs.List.{list_any}
 use Rattle.std.specs.Option.{option_or, option_map}
@@ -13,69 +13,69 @@ use Rattle.bg_history.specs.Marks as past
 use Rattle.bg_audit.specs.declared.marks.Mark.{Mark}
 use Rattle.bg_audit.specs.declared.marks.MarkKind.{MarkKind}
 use Rattle.bg_audit.specs.declared.marks.MarkKind.TheVariants.{Left, Superseded, Aborted, Cleared}
-use Rattle.bg_audit.specs.declared.marks.RevisionMark.{RevisionMark}
+use Rattle.bg_audit.specs.declared.marks.NewestMark.{NewestMark}
 use Rattle.bg_audit.specs.declared.marks.Around.{Around}
-use Rattle.bg_audit.specs.Standing.{IsCourse}
+use Rattle.bg_audit.specs.Course.{IsCourse}
 
--- what stands around an entry is what the past says before and after it
+-- the facts around an entry are what the past says before and after it
 pub record IsAround (s : Strategy) (e : Entry) (before : List Entry) (a : Around) : Type 0 where
   pub before_is : IsCourse s before a.before
   pub after_is : IsCourse s (e ∷ before) a.after
   pub scaled_is : a.newest_is_scaled ≡ is_scaled s (newest_of before) before
   pub delay_is : a.has_abort_delay ≡ past.has_abort_delay s
-  pub stood_is : a.stood ≡ length before
+  pub position_is : a.position ≡ length before
 
--- a kind of mark, as the code has it
+-- a kind of mark, in the type of the code
 abbrev pub kind_told : past.MarkKind → MarkKind
 kind_told past.Left = Left
 kind_told past.Superseded = Superseded
 kind_told past.Aborted = Aborted
 kind_told past.Cleared = Cleared
 
--- a mark, as the code has it
+-- a mark, in the type of the code
 abbrev pub mark_told : past.Mark → Mark
-mark_told m = record { kind = kind_told m.kind; moment = m.moment; stood = m.stood }
+mark_told m = record { kind = kind_told m.kind; moment = m.moment; position = m.position }
 
--- the mark that an entry is for r, if it is one
+-- the mark that an entry makes for r, if it makes one
 abbrev pub mark_at : Strategy → ℕ → Entry → List Entry → Option Mark
 mark_at s r e before =
     option_map (λ kind. record {
       kind = kind_told kind;
       moment = moment (e ∷ before);
-      stood = length before;
+      position = length before;
     }) (past.kind_of s r e before)
 
 -- a revision's mark after an entry
-abbrev pub remarked : Strategy → Entry → List Entry → RevisionMark → RevisionMark
+abbrev pub remarked : Strategy → Entry → List Entry → NewestMark → NewestMark
 remarked s e before m = record m { mark = option_or (mark_at s m.revision e before) m.mark }
 
--- the marks with one more revision, which has none yet, where it isn't there
-abbrev pub with_revision : ℕ → List RevisionMark → List RevisionMark
+-- the marks with one more revision, which has no mark yet, unless the list has it already
+abbrev pub with_revision : ℕ → List NewestMark → List NewestMark
 with_revision r marks =
     if list_any (λ m. m.revision == r) marks then marks
     else marks ++ record { revision = r; mark = None } ∷ []
 
--- the marks with the revision that is deployed, and without one that is removed
-abbrev pub prepared : Entry → List RevisionMark → List RevisionMark
+-- the marks with the revision that the entry deploys, and without the one that it removes
+abbrev pub prepared : Entry → List NewestMark → List NewestMark
 prepared (Deploy r name ports) marks = with_revision r marks
 prepared (Outcome (Removed r)) marks = filter (λ m. not (m.revision == r)) marks
 prepared _ marks = marks
 
--- the mark of a revision that may be there
-abbrev pub mark_there : Option RevisionMark → Option Mark
+-- the mark of an element, if there is an element and it has a mark
+abbrev pub mark_there : Option NewestMark → Option Mark
 mark_there None = None
 mark_there (Some m) = m.mark
 
--- the mark that is kept of r
-abbrev pub mark_in : ℕ → List RevisionMark → Option Mark
+-- the mark of r in the list, if it has one
+abbrev pub mark_in : ℕ → List NewestMark → Option Mark
 mark_in r marks = mark_there (find (λ m. m.revision == r) marks)
 
--- what is kept of r after a past
-abbrev pub marked : Strategy → List Entry → ℕ → RevisionMark
+-- the element of r after a past
+abbrev pub marked : Strategy → List Entry → ℕ → NewestMark
 marked s entries r = record { revision = r; mark = option_map mark_told (past.mark s r entries) }
 
--- each revision that exists is kept with its mark
-abbrev pub HasMarks : Strategy → List Entry → List RevisionMark → Type 0
+-- the list has each existing revision with its mark
+abbrev pub HasMarks : Strategy → List Entry → List NewestMark → Type 0
 HasMarks s entries marks =
     (r : ℕ) → exists_in r entries ≡ true
     → find (λ m. m.revision == r) marks ≡ Some (marked s entries r)

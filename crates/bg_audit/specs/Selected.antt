@@ -1,4 +1,4 @@
--- Which revisions a course selects.
+-- The revisions that a course selects.
 use Rattle.std.specs.Prelude.{ℕ, Bool, if◌then◌else◌, ◌==◌, ◌||◌}
 use Rattle.bg_audit.specs.declared.course.Course.{Course}
 

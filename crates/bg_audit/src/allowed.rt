@@ -1,4 +1,4 @@
-//! Which entry the facts of a past allow.
+//! The entries that the facts of a past allow.
 ghost use Rattle.std.specs.Prelude.{◌≡◌, ◌&&◌, List, length, slice_index, nat_le};
 ghost use Rattle.std.specs.Option.{option_copied};
 ghost use Rattle.bg_strategy.specs.declared.strategy.Strategy.{Strategy};
@@ -16,29 +16,29 @@ ghost use Rattle.bg_audit.specs.Scans.{fits_named, wants_in, has_port_in, is_hel
 
 use crate::facts::Facts;
 use crate::requests;
-use crate::requests::OpenRequest;
+use crate::requests::AuditedRequest;
 use crate::revisions::{with_name, with_number};
 use bg_history::{Entry, Outcome};
-use bg_history_laws::listing;
+use bg_history_laws as laws;
 use bg_revisions::{Name, Ports, Revision, has_ports_form};
 use bg_strategy::{Strategy, is_dns_label};
 
 /// The greatest moment of a tick.
 const LATEST_MOMENT: u64 = 1 << 53;
 
-/// The most revisions that exist at one time.
+/// The greatest number of revisions that exist at one time.
 const MOST_REVISIONS: usize = 64;
 
 impl Facts {
     ghost use Rattle.bg_audit.specs.Known.{Knows};
 
-    /// Whether the entry is allowed, where there are so many seats.
+    /// Whether the entry is allowed, for a book with `seats` seats.
     pub fn allows(&self, strategy: &Strategy, seats: u64, entry: &Entry) -> bool
         ensures { (o : Opening) (past : List Entry) → Knows strategy.now o past self.now
             → Reachable strategy.now o past → seats ≡ o.seats
             → result ≡ is_allowed strategy.now o entry.now past }
     {
-        listing::finds();
+        laws::finds();
         match entry {
             Entry::Tick(moment) => self.course.moment <= *moment && *moment <= LATEST_MOMENT,
             Entry::Deploy {
@@ -89,7 +89,7 @@ impl Facts {
             → Reachable s o past
             → result ≡ is_template name.now ports.now (template o (newest_of past) past) }
     {
-        listing::finds();
+        laws::finds();
         has_template(
             with_number(&self.revisions, self.course.newest),
             name,
@@ -97,24 +97,24 @@ impl Facts {
         )
     }
 
-    /// Whether the owner of the name is this number with these ports, or there is none, the number is the next
-    /// one and there is room.
+    /// Whether the revision of this name has this number and these ports; or no revision has the name, the number is
+    /// the next one, and there is room.
     fn fits_owner(&self, number: u64, name: &Name, ports: &Ports) -> bool
         ensures { (s : Strategy) (o : Opening) (past : List Entry) → Knows s o past self.now
             → Reachable s o past
             → result ≡ fits_owner o (owner o name.now past) number ports.now past }
     {
-        listing::finds();
-        listing::names();
+        laws::finds();
+        laws::names();
         self.fits(with_name(&self.revisions, name.get()), number, ports)
     }
 
-    /// Whether the revision exists and wants so many endpoints.
+    /// Whether the revision exists and wants at least `size` endpoints.
     pub fn may_report(&self, number: u64, size: u32) -> bool
         ensures { (s : Strategy) (o : Opening) (past : List Entry) → Knows s o past self.now
             → result ≡ (exists_in number past && nat_le size (desired s number past)) }
     {
-        listing::finds();
+        laws::finds();
         wants(with_number(&self.revisions, number), size)
     }
 
@@ -126,7 +126,7 @@ impl Facts {
         is_held(requests::held_by(&self.requests, seat), number, revision)
     }
 
-    /// Whether a revision may be deployed as this number, where `named` is the one that has its name.
+    /// Whether a template with these ports may be deployed as this number; `named` is the revision of its name.
     fn fits(&self, named: Option<&Revision>, number: u64, ports: &Ports) -> bool
         ensures { result ≡ fits_named (option_copied named.entry) number ports.now
             self.now.course.last (length self.now.revisions.items) }
@@ -141,7 +141,7 @@ impl Facts {
         }
     }
 
-    /// Whether a request may enter, where the service selects `selected`.
+    /// Whether a request may enter; `selected` is the revision that the service selects.
     fn may_enter(
         &self,
         seats: u64,
@@ -160,13 +160,13 @@ impl Facts {
             && requests::is_above(number, self.greatest)
     }
 
-    /// Whether the outcome may follow.
+    /// Whether the outcome is allowed.
     fn may_follow(&self, strategy: &Strategy, outcome: Outcome) -> bool
         ensures { (o : Opening) (past : List Entry) → Knows strategy.now o past self.now
             → Reachable strategy.now o past
             → result ≡ is_allowed strategy.now o (Entry.Outcome outcome) past }
     {
-        listing::finds();
+        laws::finds();
         let newest = self.course.newest;
         match outcome {
             Outcome::Ready(number) => {
@@ -182,12 +182,12 @@ impl Facts {
         }
     }
 
-    /// How many endpoints of the newest revision are available.
+    /// The number of available endpoints of the newest revision.
     pub fn newest_available(&self) -> u32
         ensures { (s : Strategy) (o : Opening) (past : List Entry) → Knows s o past self.now
             → Reachable s o past → result ≡ available (newest_of past) past }
     {
-        listing::finds();
+        laws::finds();
         match with_number(&self.revisions, self.course.newest) {
             Some(revision) => revision.available,
             None => 0,
@@ -195,7 +195,7 @@ impl Facts {
     }
 }
 
-/// Whether the revision is there and has this name and these ports.
+/// Whether there is a revision, with this name and these ports.
 fn has_template(revision: Option<&Revision>, name: &Name, ports: &Ports) -> bool
     ensures { result ≡ has_template name.now ports.now (option_copied revision.entry) }
 {
@@ -207,7 +207,7 @@ fn has_template(revision: Option<&Revision>, name: &Name, ports: &Ports) -> bool
     }
 }
 
-/// Whether the revision is there and wants so many endpoints.
+/// Whether there is a revision, and it wants at least `size` endpoints.
 fn wants(revision: Option<&Revision>, size: u32) -> bool
     ensures { result ≡ wants_in size (option_copied revision.entry) }
 {
@@ -217,7 +217,7 @@ fn wants(revision: Option<&Revision>, size: u32) -> bool
     }
 }
 
-/// Whether the revision is there, has an endpoint available, and gives this port to the request of that
+/// Whether there is a revision, it has an endpoint available, and it gives this port to the request of that
 /// number.
 fn has_port(revision: Option<&Revision>, number: u64, port: u16) -> bool
     ensures { result ≡ has_port_in number port (option_copied revision.entry) }
@@ -231,7 +231,7 @@ fn has_port(revision: Option<&Revision>, number: u64, port: u16) -> bool
     }
 }
 
-/// The port at a place, 0 where there is none.
+/// The port at a place; 0 if there is none.
 fn port_at(ports: &[u16], place: u64) -> u16
     ensures { result ≡ slice_index ports.now place }
 {
@@ -241,8 +241,8 @@ fn port_at(ports: &[u16], place: u64) -> u16
     }
 }
 
-/// Whether the request is there and has this number and revision.
-fn is_held(request: Option<&OpenRequest>, number: u64, revision: u64) -> bool
+/// Whether there is a request, with this number and revision.
+fn is_held(request: Option<&AuditedRequest>, number: u64, revision: u64) -> bool
     ensures { result ≡ is_held_in number revision (option_copied request.entry) }
 {
     match request {

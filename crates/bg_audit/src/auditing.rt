@@ -1,22 +1,23 @@
 //! The audit.
 ghost use Rattle.std.specs.Prelude.{◌≡◌, ◌↔◌, true, false, length, IfOk, IsTrue, MatchOption};
 ghost use Rattle.bg_history.specs.Steps.{IsLegal, is_opening, is_settled, all_allowed};
-ghost use Rattle.bg_audit.specs.Openings.{opened};
-ghost use Rattle.bg_audit.specs.Known.{StandsAt};
+ghost use Rattle.bg_audit.specs.Openings.{opening_of};
+ghost use Rattle.bg_audit.specs.Known.{FactsRepresent};
 
 use crate::facts::Facts;
 use crate::fault::AuditFault;
 use crate::numbers::{are_given, entry_at};
 use bg_history::History;
-use bg_history_laws::facts;
+use bg_history_laws as laws;
 use bg_revisions::has_ports_form;
 use bg_strategy::{Strategy, is_dns_label};
 use std::alloc::{AllocError, Global};
 
-/// The most seats of a history.
+/// The greatest number of seats of a history.
 const MOST_SEATS: usize = 8;
 
-/// Whether the history is legal, and nothing is left undone at its end. `OutOfMemory` where memory is refused.
+/// Whether the history is legal, and no allowed outcome is left undone at its end. The only error is `OutOfMemory`,
+/// after an allocation failure.
 pub fn audit(alloc: Global, history: &History, strategy: &Strategy) -> Result<bool, AuditFault>
     ensures { IfOk result (λ b. IsTrue b
         ↔ (IsLegal strategy.now history.now.opening history.now.closed history.now.past
@@ -26,8 +27,8 @@ pub fn audit(alloc: Global, history: &History, strategy: &Strategy) -> Result<bo
     audit_opened(alloc, history, history.seats(), name, ports, strategy)
 }
 
-/// Whether a history that was opened with so many seats, this name and these ports is legal, and nothing is
-/// left undone at its end. `OutOfMemory` where memory is refused.
+/// Whether a history that was opened with this many seats, this name and these ports is legal, and no allowed
+/// outcome is left undone at its end. The only error is `OutOfMemory`, after an allocation failure.
 fn audit_opened(
     alloc: Global,
     history: &History,
@@ -36,13 +37,13 @@ fn audit_opened(
     ports: &[u16],
     strategy: &Strategy,
 ) -> Result<bool, AuditFault>
-    requires opening { history.now.opening ≡ opened seats name.now ports.now }
+    requires opening { history.now.opening ≡ opening_of seats name.now ports.now }
     requires closed { length history.now.closed ≡ seats }
     ensures { IfOk result (λ b. IsTrue b
         ↔ (IsLegal strategy.now history.now.opening history.now.closed history.now.past
         × IsTrue (is_settled strategy.now history.now.past))) }
 {
-    facts::reachable();
+    laws::reachable();
     if !has_opening_form(seats, name, ports, strategy) {
         return Ok(false);
     }
@@ -54,7 +55,7 @@ fn audit_opened(
 
 /// Whether the opening is well formed.
 fn has_opening_form(seats: usize, name: &str, ports: &[u16], strategy: &Strategy) -> bool
-    ensures { result ≡ is_opening strategy.now (opened seats name.now ports.now) }
+    ensures { result ≡ is_opening strategy.now (opening_of seats name.now ports.now) }
 {
     is_dns_label(name)
         && has_ports_form(strategy.replicas, ports)
@@ -62,7 +63,7 @@ fn has_opening_form(seats: usize, name: &str, ports: &[u16], strategy: &Strategy
         && seats <= MOST_SEATS
 }
 
-/// The facts at the end of the history, or none where an entry isn't allowed. Refused only where memory is.
+/// The facts at the end of the history; `None` if an entry isn't allowed. The only error is an allocation failure.
 fn facts_of(
     alloc: Global,
     history: &History,
@@ -72,10 +73,10 @@ fn facts_of(
     strategy: &Strategy,
 ) -> Result<Option<Facts>, AllocError>
     ensures { IfOk result (λ found. MatchOption found
-        (all_allowed strategy.now (opened seats name.now ports.now) history.now.past ≡ false)
-        (λ f. StandsAt strategy.now (opened seats name.now ports.now) history.now.past f)) }
+        (all_allowed strategy.now (opening_of seats name.now ports.now) history.now.past ≡ false)
+        (λ f. FactsRepresent strategy.now (opening_of seats name.now ports.now) history.now.past f)) }
 {
-    facts::reachable();
+    laws::reachable();
     let mut facts = Facts::new(alloc, strategy, name, ports)?;
     for place in 0..history.len() {
         let entry = entry_at(history, place);

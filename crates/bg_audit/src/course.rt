@@ -1,32 +1,32 @@
-//! The moment, the selections and the attempt of a past.
+//! The moment, the selectors and the attempt of a past.
 ghost use Rattle.std.specs.Prelude.{◌≡◌, ℕ, true, false, List, [], ◌∷◌};
 ghost use Rattle.bg_strategy.specs.declared.strategy.Strategy.{Strategy};
 ghost use Rattle.bg_history.specs.declared.entry.Entry.{Entry};
-ghost use Rattle.bg_audit.specs.Standing.{IsCourse, begun};
+ghost use Rattle.bg_audit.specs.Course.{IsCourse, empty_attempt};
 
 mod questions;
 
-use crate::attempt::Attempt;
+use crate::audited_attempt::AuditedAttempt;
 use bg_history::{Analysis, AnalysisResult, Entry, Outcome};
 use bg_strategy::Strategy;
 
-/// What a past says of its moment, its selections and its attempt: each from the past before and its
-/// newest entry, whatever the entries are.
+/// The moment, the selectors and the attempt of a past. Each follows from the past before and the newest entry,
+/// regardless of the entries.
 #[derive(Clone, Copy, Drop, Debug)]
 pub struct Course {
     pub moment: u64,
     pub stable: u64,
     pub newest: u64,
     pub active: u64,
-    /// The greatest number that a revision was given.
+    /// The greatest number given to a revision.
     pub last: u64,
     pub running: bool,
     pub halted: bool,
-    pub attempt: Attempt,
+    pub attempt: AuditedAttempt,
 }
 
 impl Course {
-    /// That of no entry: revision 1 is active, stable and newest.
+    /// The course of a past without entries: revision 1 is active, stable and newest.
     pub fn new() -> Course
         ensures { (s : Strategy) → IsCourse s [] result }
     {
@@ -38,11 +38,11 @@ impl Course {
             last: 1,
             running: false,
             halted: false,
-            attempt: Attempt::new(),
+            attempt: AuditedAttempt::new(),
         }
     }
 
-    /// Takes in an entry.
+    /// Updates the course with an entry.
     pub fn take(&mut self, strategy: &Strategy, entry: &Entry)
         ensures { (past : List Entry) → IsCourse strategy.now past self.old
             → IsCourse strategy.now (entry.now ∷ past) self.new }
@@ -76,7 +76,7 @@ impl Course {
         self.halted = false;
         self.newest = revision;
         self.last = revision.max(self.last);
-        self.attempt = Attempt::new();
+        self.attempt = AuditedAttempt::new();
     }
 
     fn verdict(&mut self, strategy: &Strategy, analysis: Analysis, found: AnalysisResult)
@@ -96,11 +96,11 @@ impl Course {
     }
 
     fn retry(&mut self)
-        ensures { self.new ≡ record self.old { running = true; halted = false; attempt = begun } }
+        ensures { self.new ≡ record self.old { running = true; halted = false; attempt = empty_attempt } }
     {
         self.running = true;
         self.halted = false;
-        self.attempt = Attempt::new();
+        self.attempt = AuditedAttempt::new();
     }
 
     fn halt(&mut self)
@@ -108,13 +108,13 @@ impl Course {
           active = self.old.stable;
           running = false;
           halted = true;
-          attempt = begun;
+          attempt = empty_attempt;
         } }
     {
         self.active = self.stable;
         self.running = false;
         self.halted = true;
-        self.attempt = Attempt::new();
+        self.attempt = AuditedAttempt::new();
     }
 
     fn outcome(&mut self, strategy: &Strategy, outcome: Outcome)
@@ -136,7 +136,7 @@ impl Course {
                 self.stable = revision;
                 self.running = false;
                 self.halted = false;
-                self.attempt = Attempt::new();
+                self.attempt = AuditedAttempt::new();
             }
             Outcome::ScaledDown(_) | Outcome::Removed(_) => {}
         }

@@ -1,4 +1,4 @@
-//! Which revisions may be scaled down or removed, and whether nothing is left undone.
+//! The revisions that may be scaled down or removed, and whether an allowed outcome is left undone.
 ghost use Rattle.std.specs.Prelude.{◌≡◌, ◌&&◌, ◌||◌, not, List, count_by, find, is_some};
 ghost use Rattle.std.specs.List.{list_any};
 ghost use Rattle.std.specs.Option.{option_copied};
@@ -7,29 +7,29 @@ ghost use Rattle.bg_revisions.specs.Rosters.{numbered};
 ghost use Rattle.bg_history.specs.declared.entry.Entry.{Entry};
 ghost use Rattle.bg_history.specs.Kept.{Opening};
 ghost use Rattle.bg_history.specs.Promotion.{first_promotion};
-ghost use Rattle.bg_history.specs.Deadlines.{is_over, is_reached};
+ghost use Rattle.bg_history.specs.Deadlines.{reaches_limit, is_reached};
 ghost use Rattle.bg_history.specs.Steps.{is_settled};
 ghost use Rattle.bg_history_laws.specs.Reachable.{Reachable};
 ghost use Rattle.bg_audit.specs.Marked.{mark_in};
-ghost use Rattle.bg_audit.specs.Scans.{is_spare_in, left_later_in, time_in, rank_in, marks_due_in, scales_down_in, is_old_in, is_numbered, removes_in};
+ghost use Rattle.bg_audit.specs.Scans.{is_spare_in, left_later_in, time_in, count_left_later, marks_due_in, scales_down_in, is_old_in, is_numbered, removes_in};
 
 use crate::facts::Facts;
 use crate::marks::{Mark, MarkKind};
 use crate::revisions::with_number;
 use crate::{marks, requests};
-use bg_history_laws::listing;
+use bg_history_laws as laws;
 use bg_revisions::Revision;
 use bg_strategy::Strategy;
 
 impl Facts {
     ghost use Rattle.bg_audit.specs.Known.{Knows};
 
-    /// Whether nothing is left undone.
+    /// Whether no allowed outcome is left undone.
     pub fn is_settled(&self, strategy: &Strategy) -> bool
         ensures { (o : Opening) (past : List Entry) → Knows strategy.now o past self.now
             → Reachable strategy.now o past → result ≡ is_settled strategy.now past }
     {
-        listing::finds();
+        laws::finds();
         let steps = self.has_step(strategy);
         let ends = self.has_end(strategy);
         is_neither(steps, ends)
@@ -83,7 +83,7 @@ impl Facts {
         }
     }
 
-    /// Whether the revision is scaled, and none of active, preview and stable.
+    /// Whether the revision is scaled, and neither active nor preview nor stable.
     fn is_spare(&self, revision: &Revision) -> bool
         ensures { result ≡ is_spare_in self.now.course revision.now }
     {
@@ -98,28 +98,29 @@ impl Facts {
             Some(mark) => {
                 is_reached(strategy, mark, self.course.moment)
                     || (mark.kind == MarkKind::Left
-                        && is_over(strategy.revision_limit, self.rank_after(mark.stood)))
+                        && reaches_limit(strategy.revision_limit, self.rank_after(mark.position)))
             }
             None => false,
         }
     }
 
-    /// How many spare revisions left the active service after more than `stood` entries.
-    fn rank_after(&self, stood: u64) -> usize
-        ensures { result ≡ rank_in self.now stood }
+    /// The number of spare revisions that left the active service after more than `position` entries.
+    fn rank_after(&self, position: u64) -> usize
+        ensures { result ≡ count_left_later self.now position }
     {
         self.revisions
             .iter()
-            .filter(|revision| self.is_later(revision, stood))
+            .filter(|revision| self.is_later(revision, position))
             .count()
     }
 
-    /// Whether the revision is spare and left the active service after more than `stood` entries.
-    fn is_later(&self, revision: &Revision, stood: u64) -> bool
+    /// Whether the revision is spare and left the active service after more than `position` entries.
+    fn is_later(&self, revision: &Revision, position: u64) -> bool
         ensures { result ≡ (is_spare_in self.now.course revision.now
-            && left_later_in stood (mark_in revision.now.number self.now.marks.items)) }
+            && left_later_in position (mark_in revision.now.number self.now.marks.items)) }
     {
-        self.is_spare(revision) && left_later(stood, marks::mark_of(&self.marks, revision.number))
+        self.is_spare(revision)
+            && left_later(position, marks::mark_of(&self.marks, revision.number))
     }
 
     /// Whether the revision may be removed.
@@ -145,7 +146,7 @@ impl Facts {
         self.revisions.iter().find(|revision| self.is_old(revision))
     }
 
-    /// Whether the revision isn't scaled, and is none of active, preview, stable and newest.
+    /// Whether the revision isn't scaled, and neither active nor preview nor stable nor newest.
     fn is_old(&self, revision: &Revision) -> bool
         ensures { result ≡ is_old_in self.now.course revision.now }
     {
@@ -155,14 +156,14 @@ impl Facts {
     }
 }
 
-/// Whether neither of two is so.
+/// Whether neither of the two holds.
 fn is_neither(one: bool, other: bool) -> bool
     ensures { result ≡ (not one && not other) }
 {
     !one && !other
 }
 
-/// Whether the revision is there and has this number.
+/// Whether there is a revision, with this number.
 fn is_numbered(revision: Option<&Revision>, number: u64) -> bool
     ensures { result ≡ is_numbered number (option_copied revision.entry) }
 {
@@ -172,17 +173,17 @@ fn is_numbered(revision: Option<&Revision>, number: u64) -> bool
     }
 }
 
-/// Whether the mark is of a revision that left the active service after more than `stood` entries.
-fn left_later(stood: u64, mark: Option<Mark>) -> bool
-    ensures { result ≡ left_later_in stood mark }
+/// Whether the mark says that its revision left the active service after more than `position` entries.
+fn left_later(position: u64, mark: Option<Mark>) -> bool
+    ensures { result ≡ left_later_in position mark }
 {
     match mark {
-        Some(mark) => mark.kind == MarkKind::Left && stood < mark.stood,
+        Some(mark) => mark.kind == MarkKind::Left && position < mark.position,
         None => false,
     }
 }
 
-/// Whether the time from which the mark's revision may be scaled down has come.
+/// Whether the deadline that the mark gives has come.
 fn is_reached(strategy: &Strategy, mark: Mark, now: u64) -> bool
     ensures { result ≡ is_reached (time_in strategy.now mark.kind mark.moment) now }
 {
@@ -196,9 +197,9 @@ fn is_reached(strategy: &Strategy, mark: Mark, now: u64) -> bool
     }
 }
 
-/// Whether so many are at least the limit, if there is one.
-fn is_over(limit: Option<u32>, count: usize) -> bool
-    ensures { result ≡ is_over limit count }
+/// Whether there is a limit, and the count is at least that limit.
+fn reaches_limit(limit: Option<u32>, count: usize) -> bool
+    ensures { result ≡ reaches_limit limit count }
 {
     match limit {
         Some(limit) => count >= limit as usize,

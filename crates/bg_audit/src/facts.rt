@@ -1,4 +1,4 @@
-//! What is kept of a past, each fact from the past before and its newest entry.
+//! The facts of a past. Each follows from the past before and the newest entry.
 ghost use Rattle.std.specs.Prelude.{◌≡◌, ◌∷◌, ℕ, [], true, List, length, IfOk, OnOk};
 ghost use Rattle.bg_history.specs.declared.entry.Entry.{Entry};
 ghost use Rattle.bg_strategy.specs.declared.strategy.Strategy.{Strategy};
@@ -9,24 +9,24 @@ ghost use Rattle.bg_history.specs.Allowed.{is_allowed};
 ghost use Rattle.bg_history_laws.specs.Reachable.{Reachable};
 
 use crate::course::Course;
-use crate::marks::{Around, RevisionMark};
-use crate::requests::OpenRequest;
+use crate::marks::{Around, NewestMark};
+use crate::requests::AuditedRequest;
 use crate::{marks, requests, revisions};
 use bg_history::Entry;
 use bg_revisions::Revision;
 use bg_strategy::Strategy;
 use std::alloc::{AllocError, Global};
 
-/// What is kept of a past.
+/// The facts that the audit keeps of a past.
 #[derive(Drop)]
 pub struct Facts {
     pub course: Course,
-    /// The revisions that exist, by ascending number.
+    /// The revisions that exist, in ascending order of their numbers.
     pub revisions: Vec<Revision>,
-    pub marks: Vec<RevisionMark>,
-    /// The open requests, in the order of entering.
-    pub requests: Vec<OpenRequest>,
-    /// The greatest number that a request had.
+    pub marks: Vec<NewestMark>,
+    /// The open requests, in the order in which they entered.
+    pub requests: Vec<AuditedRequest>,
+    /// The greatest request number.
     pub greatest: Option<u64>,
     alloc: Global,
 }
@@ -34,7 +34,8 @@ pub struct Facts {
 impl Facts {
     ghost use Rattle.bg_audit.specs.Known.{Knows};
 
-    /// Those of no entry, where revision 1 has this name and these ports. Refused only where memory is.
+    /// The facts of a past without entries, whose revision 1 has this name and these ports. The only error is an
+    /// allocation failure.
     pub fn new(
         alloc: Global,
         strategy: &Strategy,
@@ -60,7 +61,7 @@ impl Facts {
         })
     }
 
-    /// Takes in an entry that is allowed, which stands after so many others. Refused only where memory is.
+    /// Updates the facts with an allowed entry that follows `place` others. The only error is an allocation failure.
     pub fn take(&mut self, strategy: &Strategy, entry: &Entry, place: u64) -> Result<(), AllocError>
         ensures { (o : Opening) (past : List Entry) → Knows strategy.now o past self.old
             → Reachable strategy.now o past → is_allowed strategy.now o entry.now past ≡ true
@@ -74,7 +75,7 @@ impl Facts {
             after: self.course,
             newest_is_scaled,
             has_abort_delay: strategy.abort_delay > 0,
-            stood: place,
+            position: place,
         };
         revisions::take(self.alloc, &mut self.revisions, strategy, &before, entry)?;
         marks::take(&mut self.marks, entry, &around)?;

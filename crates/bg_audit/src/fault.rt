@@ -1,11 +1,11 @@
-//! Why a history isn't audited.
+//! The error of an audit.
 ghost use Rattle.std.specs.Prelude.{◌≡◌};
 ghost use Rattle.bg_audit.specs.declared.fault.AuditFault.TheVariants.{OutOfMemory};
 
 use std::alloc::{AllocError, AllocFailed};
 use thiserror::Error;
 
-/// Why a history isn't audited.
+/// The reason why an audit gives no answer.
 #[derive(Clone, Copy, PartialEq, Eq, Debug, Drop, Error)]
 pub enum AuditFault {
     #[error("out of memory")]

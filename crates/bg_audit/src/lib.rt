@@ -1,10 +1,10 @@
-//! The audit of a history: whether all that it tells was allowed and nothing is left undone.
+//! The audit of a history: whether each of its entries was allowed and no allowed outcome is left undone.
 //!
-//! It goes by the definitions alone: none of the code that makes histories stands below it.
+//! The audit uses only the definitions. It doesn't depend on the crates that make histories.
 #![tactic(auto)]
 
 mod allowed;
-mod attempt;
+mod audited_attempt;
 mod auditing;
 mod course;
 mod due;

@@ -1,4 +1,4 @@
-//! What became of each revision, for its deadline.
+//! The marks of the revisions, which give their deadlines.
 ghost use Rattle.std.specs.Prelude.{◌≡◌, ◌∷◌, ◌==◌, not, List, map, filter, find, OnOk};
 ghost use Rattle.std.specs.List.{list_any};
 ghost use Rattle.std.specs.Option.{option_map, option_copied};
@@ -9,58 +9,58 @@ ghost use Rattle.bg_history.specs.Turns.{newest_of};
 ghost use Rattle.bg_history.specs.Sizes.{begins, is_scaled};
 ghost use Rattle.bg_history.specs.Marks.{kind_of, halts, supersedes, scales_down};
 ghost use Rattle.bg_history_laws.specs.Reachable.{Reachable};
-ghost use Rattle.bg_audit.specs.Standing.{IsCourse};
+ghost use Rattle.bg_audit.specs.Course.{IsCourse};
 ghost use Rattle.bg_audit.specs.Marked.{IsAround, kind_told, remarked, mark_in, with_revision, prepared, HasMarks};
 
 use crate::course::Course;
 use bg_history::{AnalysisResult, Entry, Outcome};
 use std::alloc::AllocError;
 
-/// What became of a revision.
+/// What an entry did to a revision.
 #[derive(Clone, Copy, PartialEq, Eq, Drop, Debug)]
 pub enum MarkKind {
     /// It left the active service.
     Left,
     /// A deploy took its place before it was active.
     Superseded,
-    /// Its attempt was stopped, and it is to be scaled down after the delay.
+    /// Its attempt was halted, and it will be scaled down after the delay.
     Aborted,
     /// Its deadline was cleared.
     Cleared,
 }
 
-/// The newest entry that became of a revision.
+/// The mark that an entry made for a revision.
 #[derive(Clone, Copy, Drop, Debug)]
 pub struct Mark {
     pub kind: MarkKind,
     /// The moment after the entry.
     pub moment: u64,
-    /// How many entries stood before it.
-    pub stood: u64,
+    /// The number of entries before it.
+    pub position: u64,
 }
 
 /// A revision's newest mark, if there is one.
 #[derive(Drop, Debug)]
-pub struct RevisionMark {
+pub struct NewestMark {
     pub revision: u64,
     pub mark: Option<Mark>,
 }
 
-/// What stands around an entry, by which its marks are told.
+/// The facts before and after an entry that decide which marks it makes.
 #[derive(Clone, Copy, Drop, Debug)]
 pub struct Around {
     pub before: Course,
     pub after: Course,
     /// Whether the newest revision was scaled before the entry.
     pub newest_is_scaled: bool,
-    /// Whether aborted revisions are scaled down after a delay.
+    /// Whether the strategy scales aborted revisions down after a delay.
     pub has_abort_delay: bool,
-    /// How many entries stood before it.
-    pub stood: u64,
+    /// The number of entries before it.
+    pub position: u64,
 }
 
 /// The newest mark of the revision.
-pub fn mark_of(marks: &[RevisionMark], revision: u64) -> Option<Mark>
+pub fn mark_of(marks: &[NewestMark], revision: u64) -> Option<Mark>
     ensures { result ≡ mark_in revision marks.now }
 {
     match marked_of(marks, revision) {
@@ -69,22 +69,22 @@ pub fn mark_of(marks: &[RevisionMark], revision: u64) -> Option<Mark>
     }
 }
 
-/// What is kept of the revision.
-fn marked_of(marks: &[RevisionMark], revision: u64) -> Option<&RevisionMark>
+/// The list's element for the revision, if there is one.
+fn marked_of(marks: &[NewestMark], revision: u64) -> Option<&NewestMark>
     ensures { option_copied result ≡ find (λ m. m.revision == revision) marks.now }
 {
     marks.iter().find(|marked| marked.revision == revision)
 }
 
-/// Whether the revision is there.
-fn has_mark(marks: &[RevisionMark], revision: u64) -> bool
+/// Whether the list has an element for the revision.
+fn has_mark(marks: &[NewestMark], revision: u64) -> bool
     ensures { result ≡ list_any (λ m. m.revision == revision) marks.now }
 {
     marks.iter().any(|marked| marked.revision == revision)
 }
 
-/// Takes in an entry that is allowed. Refused only where memory is.
-pub fn take(marks: &mut Vec<RevisionMark>, entry: &Entry, around: &Around) -> Result<(), AllocError>
+/// Updates the marks with an allowed entry. The only error is an allocation failure.
+pub fn take(marks: &mut Vec<NewestMark>, entry: &Entry, around: &Around) -> Result<(), AllocError>
     ensures { (s : Strategy) (o : Opening) (past : List Entry)
         → IsAround s entry.now past around.now → Reachable s o past
         → HasMarks s past marks.old.items
@@ -95,8 +95,8 @@ pub fn take(marks: &mut Vec<RevisionMark>, entry: &Entry, around: &Around) -> Re
     Ok(())
 }
 
-/// Adds the revision that is deployed, and drops one that is removed.
-fn prepare(marks: &mut Vec<RevisionMark>, entry: &Entry) -> Result<(), AllocError>
+/// Adds the revision that the entry deploys, and drops the one that it removes.
+fn prepare(marks: &mut Vec<NewestMark>, entry: &Entry) -> Result<(), AllocError>
     ensures { OnOk result (marks.new.items ≡ prepared entry.now marks.old.items) }
 {
     match entry {
@@ -107,12 +107,12 @@ fn prepare(marks: &mut Vec<RevisionMark>, entry: &Entry) -> Result<(), AllocErro
     Ok(())
 }
 
-/// Adds a revision that has no mark yet, where it isn't there. Refused only where memory is.
-pub fn add(marks: &mut Vec<RevisionMark>, revision: u64) -> Result<(), AllocError>
+/// Adds a revision without a mark, unless the list has it already. The only error is an allocation failure.
+pub fn add(marks: &mut Vec<NewestMark>, revision: u64) -> Result<(), AllocError>
     ensures { OnOk result (marks.new.items ≡ with_revision revision marks.old.items) }
 {
     if !has_mark(marks, revision) {
-        marks.push(RevisionMark {
+        marks.push(NewestMark {
             revision,
             mark: None,
         })?;
@@ -120,15 +120,15 @@ pub fn add(marks: &mut Vec<RevisionMark>, revision: u64) -> Result<(), AllocErro
     Ok(())
 }
 
-/// Drops the mark of the revision.
-fn drop_mark(marks: &mut Vec<RevisionMark>, revision: u64)
+/// Drops the revision from the list.
+fn drop_mark(marks: &mut Vec<NewestMark>, revision: u64)
     ensures { marks.new.items ≡ filter (λ m. not (m.revision == revision)) marks.old.items }
 {
     marks.retain(|marked| marked.revision != revision);
 }
 
-/// Marks each revision for which the entry is a mark.
-fn mark_all(marks: &mut Vec<RevisionMark>, entry: &Entry, around: &Around)
+/// Sets the mark of each revision for which the entry makes one.
+fn mark_all(marks: &mut Vec<NewestMark>, entry: &Entry, around: &Around)
     ensures { (s : Strategy) (past : List Entry) → IsAround s entry.now past around.now
         → marks.new.items ≡ map (remarked s entry.now past) marks.old.items }
 {
@@ -137,7 +137,7 @@ fn mark_all(marks: &mut Vec<RevisionMark>, entry: &Entry, around: &Around)
     }
 }
 
-fn mark_one(marked: &mut RevisionMark, entry: &Entry, around: &Around)
+fn mark_one(marked: &mut NewestMark, entry: &Entry, around: &Around)
     ensures { (s : Strategy) (past : List Entry) → IsAround s entry.now past around.now
         → marked.new ≡ remarked s entry.now past marked.old }
 {
@@ -145,12 +145,12 @@ fn mark_one(marked: &mut RevisionMark, entry: &Entry, around: &Around)
         marked.mark = Some(Mark {
             kind,
             moment: around.after.moment,
-            stood: around.stood,
+            position: around.position,
         });
     }
 }
 
-/// The kind of mark that the entry is for the revision, if it is one.
+/// The kind of mark that the entry makes for the revision, if it makes one.
 fn kind_of(revision: u64, entry: &Entry, around: &Around) -> Option<MarkKind>
     ensures { (s : Strategy) (past : List Entry) → IsAround s entry.now past around.now
         → result ≡ option_map kind_told (kind_of s revision entry.now past) }
@@ -175,7 +175,7 @@ fn kind_of(revision: u64, entry: &Entry, around: &Around) -> Option<MarkKind>
     }
 }
 
-/// Whether the entry stops the attempt of the revision.
+/// Whether the entry halts the attempt of the revision.
 fn halts(revision: u64, entry: &Entry, before: &Course) -> bool
     ensures { (s : Strategy) (past : List Entry) → IsCourse s past before.now
         → result ≡ halts revision entry.now past }
@@ -194,7 +194,7 @@ fn halts(revision: u64, entry: &Entry, before: &Course) -> bool
     is_halt && before.newest == revision
 }
 
-/// Whether the entry deploys another revision in the place of this one, which is scaled, and isn't active or
+/// Whether the entry deploys another revision in the place of this one, which is scaled and neither active nor
 /// stable.
 fn supersedes(revision: u64, entry: &Entry, before: &Course, newest_is_scaled: bool) -> bool
     ensures { (s : Strategy) (past : List Entry) → IsCourse s past before.now

@@ -1,11 +1,11 @@
-//! The numbers of the requests of a history.
+//! The request numbers of a history.
 ghost use Rattle.std.specs.Prelude.{◌≡◌, ◌≤◌, ◌<◌, ◌*◌, ◌^◌, [], ◌∷◌, Some, length, reverse, slice_get, sum};
 ghost use Rattle.bg_history.specs.Requests.{entered, given, request_numbers};
 ghost use Rattle.bg_history.specs.Steps.{all_given};
 
 use bg_history::{Entry, History};
 
-/// Whether each request number lies from 1 to the greatest one that was given, where there are so many seats.
+/// Whether each request number lies from 1 to the number of given ones, for a history with `seats` seats.
 pub fn are_given(history: &History, seats: u32) -> bool
     requires few { seats ≤ 8 }
     requires seats { seats ≡ history.now.opening.seats }
@@ -17,7 +17,7 @@ pub fn are_given(history: &History, seats: u32) -> bool
     lie_within(history, given)
 }
 
-/// How many requests entered.
+/// The number of Enters in the history.
 fn entered(history: &History) -> u64
     ensures { result ≡ entered history.now.past }
 {
@@ -28,7 +28,7 @@ fn entered(history: &History) -> u64
     count
 }
 
-/// 1 where the entry is a request that enters, else 0.
+/// 1 if the entry is an Enter, else 0.
 fn enters(entry: &Entry) -> u64
     ensures count { result ≡ entered (entry.now ∷ []) }
     ensures most { result ≤ 1 }
@@ -39,7 +39,7 @@ fn enters(entry: &Entry) -> u64
     }
 }
 
-/// How many closed requests there are whose entries were dropped.
+/// The number of closed requests whose entries were dropped.
 fn closed(history: &History, seats: u32) -> u128
     requires few { seats ≤ 8 }
     requires seats { seats ≡ history.now.opening.seats }
@@ -54,7 +54,7 @@ fn closed(history: &History, seats: u32) -> u128
     count
 }
 
-/// Whether each request number lies from 1 to the given one.
+/// Whether each request number lies from 1 to `given`.
 fn lie_within(history: &History, given: u128) -> bool
     ensures { result ≡ all_given given (request_numbers history.now.past) }
 {
@@ -66,7 +66,7 @@ fn lie_within(history: &History, given: u128) -> bool
     true
 }
 
-/// Whether the request number of the entry, if it has one, lies from 1 to the given one.
+/// Whether the request number of the entry, if it has one, lies from 1 to `given`.
 fn lies_within(entry: &Entry, given: u128) -> bool
     ensures { result ≡ all_given given (request_numbers (entry.now ∷ [])) }
 {
@@ -78,7 +78,7 @@ fn lies_within(entry: &Entry, given: u128) -> bool
     }
 }
 
-/// The entry at a place, counted from the oldest one, which is 0.
+/// The entry at a place; the oldest entry is at place 0.
 pub fn entry_at(history: &History, place: u64) -> &Entry
     requires { place < length history.now.past }
     ensures { slice_get (reverse history.now.past) place ≡ Some result.now }

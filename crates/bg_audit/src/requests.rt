@@ -1,4 +1,4 @@
-//! The open requests, and the greatest number that one had.
+//! The open requests, and the greatest request number.
 ghost use Rattle.std.specs.Prelude.{◌≡◌, ◌∷◌, ◌==◌, not, List, map, filter, find, OnOk, Some};
 ghost use Rattle.std.specs.List.{list_any};
 ghost use Rattle.std.specs.Option.{option_copied};
@@ -9,30 +9,30 @@ ghost use Rattle.bg_audit.specs.Requests.{request_told, greatest_of, greater_of,
 use bg_history::Entry;
 use std::alloc::AllocError;
 
-/// A request that entered and hasn't left.
+/// An open request: it entered and hasn't left.
 #[derive(Clone, Copy, Drop, Debug)]
-pub struct OpenRequest {
+pub struct AuditedRequest {
     pub seat: u32,
     pub number: u64,
     pub revision: u64,
 }
 
 /// The request that a seat holds.
-pub fn held_by(requests: &[OpenRequest], seat: u32) -> Option<&OpenRequest>
+pub fn held_by(requests: &[AuditedRequest], seat: u32) -> Option<&AuditedRequest>
     ensures { option_copied result ≡ find (λ q. q.seat == seat) requests.now }
 {
     requests.iter().find(|request| request.seat == seat)
 }
 
 /// Whether a request is open at the revision.
-pub fn has_open_at(requests: &[OpenRequest], revision: u64) -> bool
+pub fn has_open_at(requests: &[AuditedRequest], revision: u64) -> bool
     ensures { result ≡ list_any (λ q. q.revision == revision) requests.now }
 {
     requests.iter().any(|request| request.revision == revision)
 }
 
-/// Takes in an entry. Refused only where memory is.
-pub fn take(requests: &mut Vec<OpenRequest>, entry: &Entry) -> Result<(), AllocError>
+/// Updates the open requests with an entry. The only error is an allocation failure.
+pub fn take(requests: &mut Vec<AuditedRequest>, entry: &Entry) -> Result<(), AllocError>
     ensures { (past : List Entry) → requests.old.items ≡ map request_told (open_requests past)
         → OnOk result (requests.new.items ≡ map request_told (open_requests (entry.now ∷ past))) }
 {
@@ -43,7 +43,7 @@ pub fn take(requests: &mut Vec<OpenRequest>, entry: &Entry) -> Result<(), AllocE
             number,
             revision,
             port: _,
-        } => requests.push(OpenRequest {
+        } => requests.push(AuditedRequest {
             seat: *seat,
             number: *number,
             revision: *revision,
@@ -55,13 +55,13 @@ pub fn take(requests: &mut Vec<OpenRequest>, entry: &Entry) -> Result<(), AllocE
 }
 
 /// Drops the request of that number.
-fn drop_request(requests: &mut Vec<OpenRequest>, number: u64)
+fn drop_request(requests: &mut Vec<AuditedRequest>, number: u64)
     ensures { requests.new.items ≡ filter (λ q. not (q.number == number)) requests.old.items }
 {
     requests.retain(|request| request.number != number);
 }
 
-/// The greatest number of a request, where that of the entries before is `greatest`.
+/// The greatest request number after the entry; `greatest` is the greatest one before it.
 pub fn greatest_number(greatest: Option<u64>, entry: &Entry) -> Option<u64>
     ensures { (past : List Entry) → greatest ≡ greatest_of (request_numbers past)
         → result ≡ greatest_of (request_numbers (entry.now ∷ past)) }
@@ -81,7 +81,7 @@ fn greater_of(greatest: Option<u64>, number: u64) -> Option<u64>
     }
 }
 
-/// Whether the number is above the greatest one, if there is one.
+/// Whether the number is above the greatest one, or there is none.
 pub fn is_above(number: u64, greatest: Option<u64>) -> bool
     ensures { result ≡ is_above number greatest }
 {

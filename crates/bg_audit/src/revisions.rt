@@ -8,12 +8,12 @@ ghost use Rattle.bg_history.specs.Kept.{Opening};
 ghost use Rattle.bg_history.specs.Allowed.{is_allowed, may_deploy};
 ghost use Rattle.bg_history_laws.specs.Reachable.{Reachable};
 ghost use Rattle.bg_history_laws.specs.Listed.{revisions_of};
-ghost use Rattle.bg_audit.specs.Standing.{IsCourse};
+ghost use Rattle.bg_audit.specs.Course.{IsCourse};
 ghost use Rattle.bg_audit.specs.Sizes.{desired_in};
 
 use crate::course::Course;
 use bg_history::{Entry, Outcome};
-use bg_history_laws::listing;
+use bg_history_laws as laws;
 use bg_revisions::{Name, Ports, Revision};
 use bg_strategy::Strategy;
 use std::alloc::{AllocError, Global};
@@ -41,7 +41,8 @@ fn has_number(revisions: &[Revision], number: u64) -> bool
     with_number(revisions, number).is_some()
 }
 
-/// Takes in an entry that was allowed, after a past of which `course` tells. Refused only where memory is.
+/// Updates the revisions with an allowed entry; `course` is the course of the past before it. The only error is an
+/// allocation failure.
 pub fn take(
     alloc: Global,
     revisions: &mut Vec<Revision>,
@@ -54,10 +55,10 @@ pub fn take(
         → revisions.old.items ≡ revisions_of strategy.now o past
         → OnOk result (revisions.new.items ≡ revisions_of strategy.now o (entry.now ∷ past)) }
 {
-    listing::reports();
-    listing::resizes();
-    listing::keeps();
-    listing::finds();
+    laws::reports();
+    laws::resizes();
+    laws::keeps();
+    laws::finds();
     match entry {
         Entry::Deploy {
             revision,
@@ -72,7 +73,7 @@ pub fn take(
     Ok(())
 }
 
-/// Takes in a deploy.
+/// Updates the revisions with a deploy.
 fn deploy(
     alloc: Global,
     revisions: &mut Vec<Revision>,
@@ -89,9 +90,9 @@ fn deploy(
         → OnOk result (revisions.new.items
         ≡ revisions_of strategy.now o (Entry.Deploy number name.now ports.now ∷ past)) }
 {
-    listing::resizes();
-    listing::appends();
-    listing::finds();
+    laws::resizes();
+    laws::appends();
+    laws::finds();
     if !has_number(revisions, number) {
         let desired = strategy.preview_replicas;
         add(alloc, revisions, number, name.get(), ports.get(), desired)?;
@@ -101,7 +102,7 @@ fn deploy(
     Ok(())
 }
 
-/// Adds a revision that wants so many endpoints and has none available. Refused only where memory is.
+/// Adds a revision that wants this many endpoints and has none available. The only error is an allocation failure.
 pub fn add(
     alloc: Global,
     revisions: &mut Vec<Revision>,
@@ -130,17 +131,17 @@ pub fn add(
     Ok(())
 }
 
-/// Takes in an outcome.
+/// Updates the revisions with an outcome.
 fn settle(revisions: &mut Vec<Revision>, strategy: &Strategy, outcome: Outcome)
     ensures { (o : Opening) (past : List Entry) → Reachable strategy.now o past
         → is_allowed strategy.now o (Entry.Outcome outcome) past ≡ true
         → revisions.old.items ≡ revisions_of strategy.now o past
         → revisions.new.items ≡ revisions_of strategy.now o (Entry.Outcome outcome ∷ past) }
 {
-    listing::resizes();
-    listing::removes();
-    listing::keeps();
-    listing::finds();
+    laws::resizes();
+    laws::removes();
+    laws::keeps();
+    laws::finds();
     match outcome {
         Outcome::Resumed(number) => raise(revisions, number, strategy.replicas),
         Outcome::ScaledDown(number) => resize(revisions, number, 0),
@@ -157,7 +158,7 @@ fn remove(revisions: &mut Vec<Revision>, number: u64)
     revisions.retain(|revision| revision.number != number);
 }
 
-/// Makes the revision want at least so many endpoints.
+/// Makes the revision want at least this many endpoints.
 fn raise(revisions: &mut Vec<Revision>, number: u64, least: u32)
     ensures { revisions.new.items ≡ map (resized number
         (max least (desired_in number revisions.old.items))) revisions.old.items }
@@ -169,7 +170,7 @@ fn raise(revisions: &mut Vec<Revision>, number: u64, least: u32)
     resize(revisions, number, least.max(wanted));
 }
 
-/// Makes the revision want so many endpoints; where it wants none, none is available.
+/// Makes the revision want this many endpoints. If `desired` is 0, it has none available.
 fn resize(revisions: &mut Vec<Revision>, number: u64, desired: u32)
     ensures { revisions.new.items ≡ map (resized number desired) revisions.old.items }
 {
@@ -189,7 +190,7 @@ fn resize_one(revision: &mut Revision, number: u64, desired: u32)
     }
 }
 
-/// So many endpoints of the revision are available.
+/// Sets how many endpoints of the revision are available.
 fn report(revisions: &mut Vec<Revision>, number: u64, available: u32)
     ensures { revisions.new.items ≡ map (reported number available) revisions.old.items }
 {

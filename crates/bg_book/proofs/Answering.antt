@@ -1,4 +1,4 @@
--- Calls that aren't refused for room are answered the same.
+-- Calls that aren't refused for lack of room get the same reply.
 use Rattle.std.proofs.Common.{◌≡◌, ◌≢◌, ◌≤◌, ◌+◌, ℕ, Bool, true, false, cond, nat_le, ◌==◌, List, length, Option, Some, None, refl, arith, ap, sym, ◌∙◌}
 use Rattle.std.specs.Option.{option_or}
 use Rattle.std.proofs.lemmas.Bool.Decides.{nat_tests}
@@ -26,7 +26,7 @@ use Rattle.bg_history.specs.Compacted.{compacted}
 use Rattle.bg_history_laws.specs.Compaction.{Compacts}
 use Rattle.bg_rollout.specs.Compaction.{with_compacted}
 
--- a test that holds of less
+-- a fault whose test implies another test
 less-full : (a b : Bool) → (a ≡ true → b ≡ true) → {F : Type 0} → (e : F) → cond b (Some e) None ≢ Some e → cond a (Some e) None ≡ cond b (Some e) None
 less-full true true h e room = refl
 less-full true false h e room = let x : false ≡ true = h refl in absurd (cc)
@@ -81,7 +81,7 @@ control-same shorter b c x room =
     ∙ refusal-by (event_fault b x) (is_full_for_control b.limits (compacted b.past)) (is_full_for_control b.limits b.past)
     (less-control b.limits (compacted b.past) b.past (shorter b.past) (sym c.same.held)) room
 
--- the refusals of a request before that for room
+-- the faults of a request before the lack of room
 enter-by : (none spent x y : Bool) → (x ≡ true → y ≡ true)
     → cond none (Some enter_fault.NoEndpoints) (cond spent (Some enter_fault.NumbersSpent) (cond y (Some enter_fault.HistoryFull) None)) ≢ Some enter_fault.HistoryFull
     → cond none (Some enter_fault.NoEndpoints) (cond spent (Some enter_fault.NumbersSpent) (cond x (Some enter_fault.HistoryFull) None))

@@ -1,4 +1,4 @@
--- Of every legal history: the active service was moved by the documented rule alone.
+-- In every legal history, only the documented rule moves the active service.
 use Rattle.std.proofs.Common.{◌≡◌, ℕ, Bool, true, false, cond, ◌==◌, ◌&&◌, ◌||◌, List, [], ◌∷◌, refl, ap, ◌∙◌}
 use Rattle.bg_strategy.specs.declared.strategy.Strategy.{Strategy}
 use Rattle.bg_history.specs.declared.entry.Entry.{Entry}
@@ -23,14 +23,14 @@ stays s e before same =
     ap (λ (n : ℕ). (n == active_of before) || switches_by_rule s e before || (may_go_back e before && (active_of (e ∷ before) == stable_of before))) same
     ∙ ap (λ b. b || switches_by_rule s e before || (may_go_back e before && (active_of (e ∷ before) == stable_of before))) (eq_refl (active_of before))
 
--- it goes back to the stable revision
+-- the active service goes back to the stable revision
 returns_to_stable : (s : Strategy) (e : Entry) (before : List Entry) → may_go_back e before ≡ true → active_of (e ∷ before) ≡ stable_of before → moves_by_rule s e before ≡ true
 returns_to_stable s e before back same =
     ap (λ b. (active_of (e ∷ before) == active_of before) || switches_by_rule s e before || b)
     (and_both (may_go_back e before) (active_of (e ∷ before) == stable_of before) back (ap (λ (n : ℕ). n == stable_of before) same ∙ eq_refl (stable_of before)))
     ∙ or_true ((active_of (e ∷ before) == active_of before) || switches_by_rule s e before)
 
--- it is switched by the rule
+-- the active service switches by the rule
 switches : (s : Strategy) (e : Entry) (before : List Entry) → switches_by_rule s e before ≡ true → moves_by_rule s e before ≡ true
 switches s e before allowed =
     ap (λ b. (active_of (e ∷ before) == active_of before) || b || (may_go_back e before && (active_of (e ∷ before) == stable_of before))) allowed
@@ -61,7 +61,7 @@ moves s o (Outcome (Promoted r)) before h = stays s (Outcome (Promoted r)) befor
 moves s o (Outcome (ScaledDown r)) before h = stays s (Outcome (ScaledDown r)) before refl
 moves s o (Outcome (Removed r)) before h = stays s (Outcome (Removed r)) before refl
 
--- each entry of a legal history moves the active service by the rule, or not at all
+-- each entry of a legal history moves the active service by the rule or doesn't move it
 pub reached_by_rule : (s : Strategy) (o : Opening) (past : List Entry) → all_allowed s o past ≡ true → is_reached_by_rule s past ≡ true
 reached_by_rule s o [] h = refl
 reached_by_rule s o (e ∷ before) h =

@@ -1,4 +1,4 @@
--- What holds of a book that was just opened.
+-- The invariant of a book that was just opened.
 use Rattle.std.proofs.Common.{◌≡◌, ℕ, Bool, true, false, not, cond, is_none, ◌==◌, ◌&&◌, nat_lt, List, [], ◌∷◌, length, Some, None, refl, sym, ap, ◌∙◌, arith}
 use Rattle.std.specs.Option.{option_or, option_map}
 use Rattle.bg_strategy.specs.declared.strategy.Strategy.{Strategy}
@@ -16,7 +16,7 @@ never : (b : Bool) → (b && false) ≡ false
 never true = refl
 never false = refl
 
--- at the opening nothing is allowed
+-- at the opening no outcome is allowed
 pub settled-opened : (s : Strategy) → is_settled s [] ≡ true
 settled-opened s =
     let due : may_scale_down s 1 [] ≡ false = ap (λ b. b && true) (never (exists_in 1 [] && is_spare s 1 [])) in

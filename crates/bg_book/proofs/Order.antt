@@ -4,7 +4,7 @@ use Rattle.std.proofs.lemmas.List.{length-map}
 use Rattle.bg_ledger.specs.declared.holding.Holding.{Holding}
 use Rattle.bg_rollout.specs.Gathering.{indices}
 
--- a vector that was lent as a slice, as it was left
+-- a vector that was lent as a slice has the seats that the slice had at its end
 same_length : (xs ys : List Holding) → indices xs ≡ indices ys → length xs ≡ length ys
 same_length xs ys e = sym (length-map xs (λ (s : Holding). s.index)) ∙ ap length e ∙ length-map ys (λ (s : Holding). s.index)
 
@@ -13,7 +13,7 @@ pub as_left : (len : ℕ) (items now new : List Holding) → now ≡ items → i
 as_left len items now new is order count =
     take_at new (drop (length new) items) len (same_length new now order ∙ ap length is ∙ count)
 
--- where each seat has the index that it had, the indices stay
+-- if each seat keeps its index, the indices stay the same
 pub same_indices : (old new : List Holding) → length new ≡ length old
     → ((i : ℕ) (before after : Holding) → slice_get old i ≡ Some before → slice_get new i ≡ Some after → after.index ≡ before.index)
     → indices new ≡ indices old

@@ -36,7 +36,7 @@ use Rattle.bg_rollout.specs.Routing.{Routing}
 use Rattle.bg_book.specs.Promises.{IsTaken, CallRollsBack, CallsRollBack, next_promotion_control, CallsPromote, EntersTested}
 use Rattle.bg_book.proofs.Tests.{and_parts, eq_from}
 
--- an attempt that runs isn't stopped
+-- a running attempt isn't halted
 running-unhalted : (past : List Entry) → is_running past ≡ true → is_halted past ≡ false
 running-unhalted [] runs = refl
 running-unhalted (entry.Deploy r name ports ∷ before) runs = refl
@@ -47,14 +47,14 @@ running-unhalted (entry.Verdict analysis Failed ∷ before) runs = absurd (cc)
 running-unhalted (entry.Verdict analysis Error ∷ before) runs = absurd (cc)
 running-unhalted (e ∷ before) runs = running-unhalted before runs
 
--- a call whose event has no fault is refused for want of room alone
+-- a call whose event has no fault can be refused only for lack of room
 is-taken : (b : Routing) (c : Control) → event_fault b c ≡ None → IsTaken b c
 is-taken b c none = rw none (go (is_full_for_control b.limits b.past)) where
   go : (full : Bool) → (fault_if full HistoryFull None ≡ None) ⊎ (fault_if full HistoryFull None ≡ Some HistoryFull)
   go true = inr refl
   go false = inl refl
 
--- so it is where its event rolls back, and then it does
+-- a call whose event rolls back isn't refused otherwise, and it rolls back
 call-back : (b : Routing) (c : Control) (e : Entry) → event_fault b c ≡ None → event_of b c ≡ e → RollsBack b.strategy b.opening e b.past → CallRollsBack b c
 call-back b c e none is back = record {
   taken = is-taken b c none;
@@ -62,22 +62,22 @@ call-back b c e none is back = record {
       (subst (λ (e : Entry). Step b.strategy e b.past step.4.outcomes new.past) is step.4.step);
 }
 
--- neither its form nor its template nor the count of revisions is a fault
+-- the form, the template and the number of revisions have no fault
 no-fault : (r : ℕ) (form : Result (Unit {0}) RevisionFault) (owner : Result (Option ℕ) RevisionFault) (full : Bool) → form ≡ Ok tt → owner ≡ Ok (Some r) → full ≡ false
     → option_or (fault_in of_revision form) (option_or (fault_in of_revision owner) (fault_if full TooManyRevisions None)) ≡ None
 no-fault r form owner full is there room = rw (is, there, room) refl
 
--- a label and a revision's ports have the form
+-- a label and a revision's ports have the right form
 good-form : (label ports : Bool) → label ≡ true → ports ≡ true → ◌≡◌ {A = Result (Unit {0}) RevisionFault} (cond label (cond ports (Ok tt) (Err BadPorts)) (Err BadName)) (Ok tt)
 good-form label ports is are = rw (is, are) refl
 
--- the deploy of an existing revision's template, where the newest one has another, is answered its number
+-- if the newest revision has another template, the deploy of an existing revision's template gives its number
 owned-answer : (r : ℕ) (newest same : Bool) → not newest ≡ true → same ≡ true
     → ◌≡◌ {A = Result (Option ℕ) RevisionFault} (cond newest (Err SameTemplate) (cond same (Ok (Some r)) (Err PortsDiffer))) (Ok (Some r))
 owned-answer r true same other is = absurd (cc)
 owned-answer r false same other is = rw is refl
 
--- what may be deployed and exists has the number of its name's owner, and no fault
+-- a template that may be deployed and whose revision exists has the number of its name's owner, and no fault
 record Deploys (b : Routing) (r : ℕ) (name ports : List ℕ) : Type 0 where
   faultless : deploy_fault b name ports ≡ None
   numbered : deployed_number b name ≡ r
@@ -116,7 +116,7 @@ calls-roll_back b way reach = record {
       call-back b (Deploy t.name t.ports) (entry.Deploy (stable_of b.past) t.name t.ports) made.faultless (ap (λ r. entry.Deploy r t.name t.ports) made.numbered) back;
 }
 
--- the event of a call that promotes is the next one of the past
+-- the event of the next promotion call is the next promotion event of the past
 next-event : (b : Routing) → event_of b (next_promotion_control b) ≡ next_promotion_call b.strategy b.past
 next-event b = go (has_promote_full b.past) where
   go : (full : Bool) → event_of b (cond full (Available (newest_of b.past) (desired b.strategy (newest_of b.past) b.past)) PromoteFull)
@@ -124,7 +124,7 @@ next-event b = go (has_promote_full b.past) where
   go true = refl
   go false = refl
 
--- which has no fault where it is allowed
+-- an allowed promotion event has no fault
 next-faultless : (b : Routing) → is_allowed b.strategy b.opening (next_promotion_call b.strategy b.past) b.past ≡ true → event_fault b (next_promotion_control b) ≡ None
 next-faultless b may = go (has_promote_full b.past) refl may where
   r : ℕ
@@ -141,7 +141,7 @@ next-faultless b may = go (has_promote_full b.past) refl may where
       let both = and_parts (is_running b.past) (not (has_promote_full b.past)) h in
       rw (running-unhalted b.past both.0, both.0, is) refl
 
--- so at most as many calls promote as events do
+-- so at most as many calls as events promote r
 pub calls-promote : (calls : ℕ) (b : Routing) (r : ℕ) → CanPromote calls b.strategy b.opening r b.past → CallsPromote calls b r
 calls-promote zero b r way = way
 calls-promote (suc calls) b r (inl there) = inl there
@@ -154,7 +154,7 @@ calls-promote (suc calls) b r (inr (may, on)) = inr (
       calls-promote calls new r (subst (λ (m : Routing). CanPromote calls m.strategy m.opening r new.past) (sym step.2) next),
 )
 
--- a request that enters by the active service meets a tested revision, where the active one is
+-- if the active revision is tested, a request that enters at the active service gets a tested revision
 pub enters-tested : (b : Routing) → is_tested b.strategy (active_of b.past) b.past ≡ true → EntersTested b
 enters-tested b tested seats place seat t new new_seats step =
     subst (λ (r : ℕ). is_tested b.strategy r b.past ≡ true) (same_Some (active_of b.past) t.revision step.1.revision_is) tested

@@ -1,10 +1,10 @@
--- What a call is answered at a book whose history is compacted.
+-- The replies of a book whose history is compacted.
 use Rattle.std.proofs.Common.{◌≡◌, ◌≢◌, ◌≤◌, ◌+◌, ℕ, true, false, not, ◌==◌, ◌&&◌, nat_le, List, [], ◌∷◌, length, slice_get, slice_set, Option, Some, None, inl, inr, refl, arith, ap, sym, ◌∙◌}
 use Rattle.std.proofs.lemmas.Bool.Decides.{nat_tests}
 use Rattle.std.proofs.lemmas.Option.{same_Some}
 use Rattle.bg_revisions.specs.declared.revision.Service.{Service}
 use Rattle.bg_ledger.specs.declared.holding.Holding.{Holding}
-use Rattle.bg_ledger.specs.Holdings.{vacated}
+use Rattle.bg_ledger.specs.Holdings.{after_leave}
 use Rattle.bg_history.specs.declared.entry.Entry.{Entry}
 use Rattle.bg_history.specs.declared.entry.Entry.TheVariants as entry
 use Rattle.bg_history.specs.declared.entry.Outcome as outcome
@@ -25,7 +25,7 @@ use Rattle.bg_rollout.specs.declared.control_fault.ControlFault.TheVariants as c
 use Rattle.bg_rollout.specs.Changes.{Stepped, with_past, enter_entry, seat_in}
 use Rattle.bg_rollout.specs.Compaction.{with_compacted}
 use Rattle.bg_book.specs.Compaction.{is_history_full}
-use Rattle.bg_rollout.specs.Invariant.{RoutingStands}
+use Rattle.bg_rollout.specs.Invariant.{RoutingInvariant}
 use Rattle.bg_rollout.specs.PastState.{lists_of}
 use Rattle.bg_rollout.specs.State.{state_of}
 use Rattle.bg_scaledown.specs.Past.{table_of}
@@ -35,9 +35,9 @@ use Rattle.bg_book.specs.Runs.{Unchanged, SeatRefused, EnterStep, LeaveStep, Con
 use Rattle.bg_book.proofs.Answering.{event-same, control-same, enter-same, ticket-same}
 use Rattle.bg_book.proofs.Tests.{and_parts}
 
--- what is known of a book whose history is compacted
+-- the facts of a book whose history is compacted
 pub record Compaction (b : Routing) : Type 0 where
-  pub stand : RoutingStands b
+  pub represents : RoutingInvariant b
   pub compacts : Compacts b.strategy b.opening b.closed b.past
   pub shorter : (past : List Entry) → length (compacted past) ≤ length past
   pub lists : (past new : List Entry) → Same b.strategy b.opening past new → lists_of past ≡ lists_of new
@@ -50,11 +50,11 @@ pub record Compaction (b : Routing) : Type 0 where
       → enters_anew e b.past ≡ true → Step b.strategy e b.past outcomes new
       → Commutes b.strategy b.opening b.closed e b.past outcomes new
 
--- the reply is that of the compacted book, by this relation, and what follows compacts to the same
+-- the compacted book gives the reply, by this relation, and the books after it compact to the same book
 abbrev pub Kept : Routing → Routing → (Routing → Type 0) → Type 0
 Kept b new P = (other : Routing) × P other × (with_compacted other ≡ with_compacted new)
 
--- where nothing changed
+-- the case in which nothing changed
 kept-unchanged : (b new : Routing) (seats new_seats : List Holding) → Compaction b → Unchanged b seats new new_seats
     → Kept b new (λ other. Unchanged (with_compacted b) seats other new_seats)
 kept-unchanged b new seats new_seats k h = (with_compacted b, (refl, h.1), k.once ∙ ap with_compacted (sym h.0))
@@ -65,19 +65,19 @@ kept-refused b new seats new_seats why reply k h =
     let u = kept-unchanged b new seats new_seats k h.1 in
     (u.0, (h.0, u.1), u.2)
 
--- an entry more is one call more for its seat, in both pasts
+-- one more entry is one more call of its seat, in both pasts
 calls-entry : (closed new : List ℕ) (i : ℕ) (e : Entry) (a b : List Entry) → calls_of closed i a ≡ calls_of new i b → calls_of closed i (e ∷ a) ≡ calls_of new i (e ∷ b)
 calls-entry closed new i (entry.Enter seat service number r port) a b h = omega (arith, h)
 calls-entry closed new i (entry.Leave seat number r) a b h = omega (arith, h)
 calls-entry closed new i e a b h = h
 
--- outcomes are no calls
+-- outcomes don't change the number of calls
 calls-outcomes : (closed new : List ℕ) (i : ℕ) (outcomes : List outcome.Outcome) (a b : List Entry) → calls_of closed i a ≡ calls_of new i b
     → calls_of closed i (with_outcomes outcomes a) ≡ calls_of new i (with_outcomes outcomes b)
 calls-outcomes closed new i [] a b h = h
 calls-outcomes closed new i (o ∷ outcomes) a b h = calls-outcomes closed new i outcomes a b h
 
--- where an event was recorded
+-- the case in which an event was recorded
 kept-stepped : (b : Routing) (e : Entry) (past : List Entry) (n : ℕ) (seats : List Holding) → Compaction b → enters_anew e b.past ≡ true → Stepped b.strategy e b.past past n
     → (other : List Entry) × Stepped b.strategy e (compacted b.past) other n
     × (with_compacted (with_past (with_compacted b) other seats) ≡ with_compacted (with_past b past seats))
@@ -101,7 +101,7 @@ kept-stepped b e past n seats k anew h =
           (sym (k.lists past other c.same)),
     )
 
--- a number above those that were given is of no request that left
+-- a number above all given ones is not the number of a request that left
 above-left : (n : ℕ) (past : List Entry) → all_given n (request_numbers past) ≡ true → is_among (left_numbers past) (n + 1) ≡ false
 above-left n [] h = refl
 above-left n (entry.Enter seat service number r port ∷ before) h =
@@ -113,7 +113,7 @@ above-left n (entry.Leave seat number r ∷ before) h =
     rw other (above-left n before two.1)
 above-left n (e ∷ before) h = above-left n before h
 
--- a refusal that isn't for room stays
+-- a fault other than lack of room is the same
 refused-same : {F : Type 0} (a b : Option F) (none full e : F) → (b ≢ Some full → a ≡ b) → e ≢ full → IsRefusedBy b none e → IsRefusedBy a none e
 refused-same a b none full e same other (inl is) =
     inl (same (λ h. other (same_Some e full (sym is ∙ h))) ∙ is)
@@ -138,7 +138,7 @@ kept-enter b new seats new_seats place seat service (Entered t) k h room =
     let same = enter-same k.shorter b k.compacts service in
     let records : List Holding = slice_set b.seats seat.index (seat_in seat t) in
     let anew : enters_anew (enter_entry seat.index service t) b.past ≡ true
-    = ap (λ n. not (is_among (left_numbers b.past) n)) h.1.number_is ∙ ap not (above-left (given b.closed b.past) b.past k.stand.legal.numbers) in
+    = ap (λ n. not (is_among (left_numbers b.past) n)) h.1.number_is ∙ ap not (above-left (given b.closed b.past) b.past k.represents.legal.numbers) in
     let s = kept-stepped b (enter_entry seat.index service t) new.past 0 records k anew h.3 in (
       with_past (with_compacted b) s.0 records,
       (
@@ -164,12 +164,12 @@ kept-enter b new seats new_seats place seat service reply k h room = absurd h
 kept-leave : (b new : Routing) (seats new_seats : List Holding) (place : ℕ) (seat : Holding) (reply : Reply) → Compaction b
     → LeaveStep b seats place seat reply new new_seats → Kept b new (λ other. LeaveStep (with_compacted b) seats place seat reply other new_seats)
 kept-leave b new seats new_seats place seat (Left l) k h =
-    let records : List Holding = slice_set b.seats seat.index (vacated seat) in
+    let records : List Holding = slice_set b.seats seat.index (after_leave seat) in
     let s = kept-stepped b (entry.Leave seat.index seat.number seat.revision) new.past h.2.0 records k refl h.2.1 in
     (with_past (with_compacted b) s.0 records, (h.0, (refl, h.1.1), (h.2.0, s.1, h.2.2)), s.2 ∙ ap with_compacted (sym h.1.0))
 kept-leave b new seats new_seats place seat reply k h = absurd h
 
--- no event enters a request
+-- no event is an Enter
 event-anew : (b : Routing) (past : List Entry) (c : Control) → enters_anew (event_of b c) past ≡ true
 event-anew b past (Tick m) = refl
 event-anew b past (Deploy name ports) = refl

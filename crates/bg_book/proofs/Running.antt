@@ -8,21 +8,21 @@ use Rattle.bg_rollout.specs.Gathering.{indices}
 use Rattle.bg_rollout.specs.Routing.{Routing}
 use Rattle.bg_book.specs.Runs.{CallStep, Runs}
 
--- what a seat's number says of it
+-- a seat holds a request if its number isn't 0
 pub holds_one : (n : ℕ) (t : Bool) → t ≡ nat_lt 0 n → t ≡ true → n ≢ 0
 holds_one n t e h = grind (arith, nat_tests)
 
 pub holds_none : (n : ℕ) (t : Bool) → t ≡ nat_lt 0 n → t ≡ false → n ≡ 0
 holds_none n t e h = grind (arith, nat_tests)
 
--- where one seat is another of its index, the indices stay
+-- if a seat is replaced by one of the same index, the indices stay the same
 pub same_order : (seats : List Holding) (place : ℕ) (d new : Holding) → place < length seats → new.index ≡ (get_or seats place d).index
     → indices (slice_set seats place new) ≡ indices seats
 same_order [] place d new h e = absurd (omega (arith, h))
 same_order (s ∷ rest) zero d new h e = ap (λ (n : ℕ). n ∷ indices rest) e
 same_order (s ∷ rest) (suc place) d new h e = ap (λ (ns : List ℕ). s.index ∷ ns) (same_order rest place d new (omega (arith, h)) e)
 
--- one more call at the end of a run
+-- a run with one more call at its end
 pub run_more : (b : Routing) (seats : List Holding) (calls : List Call) (replies : List Reply) (now : Routing) (now_seats : List Holding) (c : Call) (reply : Reply) (new : Routing) (new_seats : List Holding)
     → Runs b seats calls replies now now_seats → CallStep now now_seats c reply new new_seats → Runs b seats (calls ++ c ∷ []) (replies ++ reply ∷ []) new new_seats
 run_more b seats [] [] now now_seats c reply new new_seats run step =

@@ -1,4 +1,4 @@
--- The readers of a book whose history is compacted answer the same.
+-- The readers of a book whose history is compacted give the same answers.
 use Rattle.std.proofs.Common.{◌≡◌, ◌==◌, find, refl, ap, sym, ◌∙◌}
 use Rattle.bg_history.specs.Requests.{held_by, calls_of}
 use Rattle.bg_history.specs.Compacted.{compacted}

@@ -1,11 +1,11 @@
--- The seats of a book, where one after the other is left.
+-- The seats of a book whose requests leave one after the other.
 use Rattle.std.proofs.Common.{◌≡◌, ◌≢◌, ℕ, ◌+◌, ◌<◌, Bool, true, false, ◌==◌, List, slice_get, slice_set, Option, Some, None, inl, inr, refl, sym, ap, ◌∙◌, arith}
 use Rattle.std.proofs.lemmas.Bool.Decides.{nat_tests}
 use Rattle.std.proofs.lemmas.Option.{slice_get_within, same_Some}
 use Rattle.bg_book.specs.declared.calls.Reply.{Reply}
 use Rattle.bg_book.specs.declared.calls.Reply.TheVariants.{Entered, EnterRefused, Left, Done, ControlRefused, NoSuchSeat, SeatBusy, SeatIdle}
 use Rattle.bg_ledger.specs.declared.holding.Holding.{Holding}
-use Rattle.bg_ledger.specs.Holdings.{vacated}
+use Rattle.bg_ledger.specs.Holdings.{after_leave}
 use Rattle.bg_rollout.specs.Routing.{Routing}
 use Rattle.bg_book.specs.Runs.{LeaveAt, LeaveStep}
 use Rattle.bg_book.proofs.Tests.{eq_from, get-set_same, get-set_other}
@@ -14,7 +14,7 @@ use Rattle.bg_book.proofs.Tests.{eq_from, get-set_same, get-set_other}
 abbrev pub OutBefore : ℕ → List Holding → Type 0
 OutBefore place seats = (i : ℕ) (seat : Holding) → slice_get seats i ≡ Some seat → i < place → seat.number ≡ 0
 
--- the seat at this place is out, and the others stay as they were
+-- the seat at this place holds no request, and the other seats are unchanged
 one_more : (seats new : List Holding) (place : ℕ) → OutBefore place seats → ((seat : Holding) → slice_get new place ≡ Some seat → seat.number ≡ 0)
     → ((i : ℕ) → i ≢ place → slice_get new i ≡ slice_get seats i) → OutBefore (place + 1) new
 one_more seats new place before here others i seat get within = go (i == place) refl where
@@ -25,7 +25,7 @@ one_more seats new place before here others i seat get within = go (i == place) 
       before i seat (sym (others i other) ∙ get) (omega (arith, within, other))
 
 seat_left : (b : Routing) (seats : List Holding) (place : ℕ) (seat : Holding) (reply : Reply) (new : Routing) (new_seats : List Holding)
-    → LeaveStep b seats place seat reply new new_seats → new_seats ≡ slice_set seats place (vacated seat)
+    → LeaveStep b seats place seat reply new new_seats → new_seats ≡ slice_set seats place (after_leave seat)
 seat_left b seats place seat (Left l) new new_seats step = step.1.1
 seat_left b seats place seat (Entered t) new new_seats step = absurd step
 seat_left b seats place seat (EnterRefused e) new new_seats step = absurd step
@@ -49,13 +49,13 @@ out_at b seats place (Some old) reply new new_seats is (inl step) before =
     (λ seat get. ap (λ (s : Holding). s.number) (same_Some seat old (sym get ∙ ap (λ (l : List Holding). slice_get l place) same ∙ is)) ∙ step.0)
     (λ i other. ap (λ (l : List Holding). slice_get l i) same)
 out_at b seats place (Some old) reply new new_seats is (inr step) before =
-    let changed : new_seats ≡ slice_set seats place (vacated old) = seat_left b seats place old reply new new_seats step.1 in
+    let changed : new_seats ≡ slice_set seats place (after_leave old) = seat_left b seats place old reply new new_seats step.1 in
     one_more seats new_seats place before
-    (λ seat get. ap (λ (s : Holding). s.number) (same_Some seat (vacated old)
-    (sym get ∙ ap (λ (l : List Holding). slice_get l place) changed ∙ get-set_same seats place (vacated old) (slice_get_within seats place old is))))
-    (λ i other. ap (λ (l : List Holding). slice_get l i) changed ∙ get-set_other seats place i (vacated old) other)
+    (λ seat get. ap (λ (s : Holding). s.number) (same_Some seat (after_leave old)
+    (sym get ∙ ap (λ (l : List Holding). slice_get l place) changed ∙ get-set_same seats place (after_leave old) (slice_get_within seats place old is))))
+    (λ i other. ap (λ (l : List Holding). slice_get l i) changed ∙ get-set_other seats place i (after_leave old) other)
 
--- the seats after the one at this place was left
+-- the seats after the request of the seat at this place left
 pub out_after : (b : Routing) (seats : List Holding) (place : ℕ) (reply : Reply) (new : Routing) (new_seats : List Holding)
     → LeaveAt b seats place (slice_get seats place) reply new new_seats → OutBefore place seats → OutBefore (place + 1) new_seats
 out_after b seats place reply new new_seats step before = out_at b seats place (slice_get seats place) reply new new_seats refl step before

@@ -1,4 +1,4 @@
--- A request that is open stays so, whatever calls are made but its leaving.
+-- An open request stays open, regardless of all calls but its own leaving.
 use Rattle.std.proofs.Common.{◌≡◌, ℕ, true, false, not, ◌==◌, List, [], ◌∷◌, Option, Some, None, refl, ap, sym, subst, ◌∙◌, inl, inr}
 use Rattle.std.specs.List.{list_all}
 use Rattle.bg_strategy.specs.declared.strategy.Strategy.{Strategy}
@@ -26,12 +26,12 @@ use Rattle.bg_book.specs.Promises.{IsServedAt, tells_left, none_left, CompactedR
 use Rattle.bg_book.specs.Runs.{Unchanged, EnterStep, LeaveStep, ControlStep, EnterAt, LeaveAt, CallStep, Runs}
 use Rattle.bg_book.proofs.Tests.{and_parts, not_true}
 
--- a step of another event keeps what is served
+-- a step of another event keeps the request open at its revision and port
 abbrev pub StepsKeep : Type 0
 StepsKeep = (s : Strategy) (o : Opening) (e : Entry) (past : List Entry) (outcomes : List Outcome) (new : List Entry) (q : Request) (t : Template)
     → IsServed s o q t past → is_outcome e ≡ false → is_leaving q.number e ≡ false → Step s e past outcomes new → IsServed s o q t new
 
--- so does compacting a legal past
+-- compacting a legal past keeps the request open at its revision and port
 abbrev pub CompactingKeeps : Type 0
 CompactingKeeps = (s : Strategy) (o : Opening) (closed : List ℕ) (past : List Entry) (q : Request) (t : Template)
     → IsLegal s o closed past → IsServed s o q t past → IsServed s o q t (compacted past)
@@ -102,7 +102,7 @@ served-call keep b new seats new_seats (call.Enter place service) reply q t step
 served-call keep b new seats new_seats (call.Leave place) reply q t step other h = served-leave_at keep b new seats new_seats place _ reply q t step other h
 served-call keep b new seats new_seats (call.Control c) reply q t step other h = served-control keep b new seats new_seats c reply q t step h
 
--- so it is over a list of calls
+-- a list of calls keeps the request open at its revision and port
 pub served-run : StepsKeep → (q : Request) (t : Template) (b new : Routing) (seats new_seats : List Holding) (calls : List Call) (replies : List Reply)
     → IsServedAt b q t → none_left q.number replies ≡ true → Runs b seats calls replies new new_seats → IsServedAt new q t
 served-run keep q t b new seats new_seats [] [] h none run = served-same b new seats new_seats q t run h
@@ -112,7 +112,7 @@ served-run keep q t b new seats new_seats (c ∷ calls) (reply ∷ replies) h no
     let both = and_parts (not (tells_left q.number reply)) (none_left q.number replies) none in
     served-run keep q t next new next_seats new_seats calls replies (served-call keep b next seats next_seats c reply q t step (not_true (tells_left q.number reply) both.0) h) both.1 run
 
--- and over lists of calls with the history compacted after each
+-- lists of calls, with the history compacted after each, keep the request open at its revision and port
 pub served-compacted_runs : StepsKeep → CompactingKeeps → (q : Request) (t : Template) (b new : Routing) (seats new_seats : List Holding) (calls : List (List Call)) (replies : List (List Reply))
     → IsServedAt b q t → list_all (none_left q.number) replies ≡ true → CompactedRuns b seats calls replies new new_seats → IsServedAt new q t
 served-compacted_runs keep compacts q t b new seats new_seats [] [] h none run = served-same b new seats new_seats q t run h

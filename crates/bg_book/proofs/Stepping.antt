@@ -1,4 +1,4 @@
--- What an event and the outcomes after it make of a book.
+-- The book after an event and its outcomes.
 use Rattle.std.proofs.Common.{◌≡◌, ◌≤◌, ◌+◌, ℕ, List, [], ◌∷◌, length, true, refl, ap, ◌∙◌, subst, arith}
 use Rattle.bg_strategy.specs.declared.strategy.Strategy.{Strategy}
 use Rattle.bg_history.specs.declared.entry.Entry.{Entry}
@@ -29,7 +29,7 @@ stepped_by b made new e seats n event reached settled =
       count_is = from.count_is;
     }
 
--- outcomes are of no request
+-- outcomes don't change the open requests
 open_same : (outcomes : List Outcome) (past : List Entry) → open_requests (with_outcomes outcomes past) ≡ open_requests past
 open_same [] past = refl
 open_same (x ∷ earlier) past = open_same earlier past
@@ -38,7 +38,7 @@ length_more : (outcomes : List Outcome) (past : List Entry) → length (with_out
 length_more [] past = omega arith
 length_more (x ∷ earlier) past = omega (arith, length_more earlier past)
 
--- so there are as many requests open as before, and as many entries more as outcomes
+-- so the number of open requests is the same, and the past has one more entry for each outcome
 pub open_after : (from new : Routing) (n : ℕ) → Reached from new n → all_open new.past ≡ all_open from.past
 open_after from new n reached = ap (λ (b : Routing). all_open b.past) reached.now_is ∙ ap length (open_same reached.outcomes from.past)
 
@@ -48,12 +48,12 @@ length_after from new n reached = ap (λ (b : Routing). length b.past) reached.n
 pub limits_after : (from new : Routing) (n : ℕ) → Reached from new n → new.limits ≡ from.limits
 limits_after from new n reached = ap (λ (b : Routing). b.limits) reached.now_is
 
--- no more outcomes follow than the work says
+-- the number of outcomes that follow is at most the work
 pub reached_few : (few : (s : Strategy) (past : List Entry) (outcomes : List Outcome) → Follows s outcomes past → length outcomes ≤ work s past)
     → (from new : Routing) (n most : ℕ) → Reached from new n → work from.strategy from.past ≤ most → n ≤ most
 reached_few few from new n most reached bound = omega (arith, few from.strategy from.past reached.outcomes reached.follow, bound, reached.count_is)
 
--- a control is no event of a request
+-- a control doesn't change the open requests
 pub control_opens_none : (b : Routing) (c : Control) (past : List Entry) → all_open (event_of b c ∷ past) ≡ all_open past
 control_opens_none b (Tick m) past = refl
 control_opens_none b (Deploy name ports) past = refl

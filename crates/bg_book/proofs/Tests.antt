@@ -12,7 +12,7 @@ and_parts false b h = absurd (cc)
 pub and_both : (a b : Bool) → a ≡ true → b ≡ true → (a && b) ≡ true
 and_both a b h k = rw (h, k) refl
 
--- what isn't so is false
+-- a test whose negation holds is false
 pub not_true : (b : Bool) → not b ≡ true → b ≡ false
 not_true true h = absurd (cc)
 not_true false h = refl

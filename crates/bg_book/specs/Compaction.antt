@@ -17,22 +17,21 @@ use Rattle.bg_rollout.specs.Routing.{Routing}
 use Rattle.bg_rollout.specs.Compaction.{with_compacted}
 use Rattle.bg_book.specs.Runs.{CallStep}
 
--- the call is refused since the history has no room
+-- the call is refused because the history has no room
 abbrev pub is_history_full : Reply → Bool
 is_history_full (EnterRefused enter_fault.HistoryFull) = true
 is_history_full (ControlRefused control_fault.HistoryFull) = true
 is_history_full _ = false
 
--- Each reply to the call but that the history is full is its reply at the compacted book, too, and
--- the books that it makes of the two compact to the same one.
+-- The compacted book gives the same reply to the call, unless the reply is that the history is full. The two books
+-- after the call compact to the same book.
 abbrev pub KeepsReply : Routing → List Holding → Call → Type 0
 KeepsReply b seats c = (reply : Reply) (new : Routing) (new_seats : List Holding)
     → CallStep b seats c reply new new_seats → is_history_full reply ≡ false
     → (other : Routing) × CallStep (with_compacted b) seats c reply other new_seats
     × (with_compacted other ≡ with_compacted new)
 
--- the readers of the two books answer the same, but of the entries and the closed counts
--- themselves
+-- the readers of the two books give the same answers, except those of the entries and of the closed counts
 pub record SameState (a b : Routing) : Type 0 where
   pub moment_is : moment a.past ≡ moment b.past
   pub phase_is : phase_of a.strategy a.past ≡ phase_of b.strategy b.past

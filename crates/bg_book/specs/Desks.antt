@@ -1,4 +1,4 @@
--- What a shared book is told of an event.
+-- What an event does to a shared book.
 use Rattle.std.specs.Prelude.{◌≡◌, ℕ, List}
 use Rattle.bg_history.specs.declared.entry.Entry.{Entry}
 use Rattle.bg_ledger.specs.declared.holding.Holding.{Holding}
@@ -6,7 +6,7 @@ use Rattle.bg_rollout.specs.Changes.{Stepped, with_past}
 use Rattle.bg_rollout.specs.Routing.{Routing}
 use Rattle.bg_book.specs.Headline.{Headline}
 
--- by the event and so many outcomes after it a book becomes another that has the headline and these
+-- the event and n outcomes after it make of the book another one, for which the headline holds and which has these
 -- records of its seats
 pub record StepsTo (b : Routing) (e : Entry) (seats : List Holding) (new : Routing) (n : ℕ) : Type 0 where
   pub headline : Headline new

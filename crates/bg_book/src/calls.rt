@@ -1,9 +1,9 @@
-//! The calls of a book, and what they answer.
+//! The calls of a book, and their replies.
 
 use bg_revisions::Service;
 use bg_rollout::{Control, ControlFault, EnterFault, Left, Ticket};
 
-/// A call of a book. A seat is named by its place in the slice of seats that is lent with the call.
+/// A call of a book. It names a seat by its place in the slice of seats that comes with the call.
 #[derive(Debug, Drop)]
 pub enum Call {
     Enter { seat: u32, service: Service },
@@ -11,13 +11,13 @@ pub enum Call {
     Control(Control),
 }
 
-/// What a call is answered.
+/// The reply to a call.
 #[derive(Clone, Copy, PartialEq, Eq, Debug, Drop)]
 pub enum Reply {
     Entered(Ticket),
     EnterRefused(EnterFault),
     Left(Left),
-    /// The event was recorded, and so many outcomes after it.
+    /// The event was recorded, and then this many outcomes.
     Done(u64),
     ControlRefused(ControlFault),
     /// No seat has this place.

@@ -1,7 +1,7 @@
-//! A book that threads share.
+//! A book shared by threads.
 ghost use Rattle.std.specs.Prelude.{◌≡◌, ◌+◌, ◌<◌, ◌≤◌, ℕ, length, slice_set, IfOk, OnErr};
 ghost use Rattle.bg_history.specs.declared.entry.Entry.TheVariants as entry;
-ghost use Rattle.bg_ledger.specs.Holdings.{vacated};
+ghost use Rattle.bg_ledger.specs.Holdings.{after_leave};
 ghost use Rattle.bg_rollout.specs.Compaction.{with_compacted};
 ghost use Rattle.bg_rollout.specs.Changes.{enter_entry, seat_in};
 ghost use Rattle.bg_book.specs.Desks.{StepsTo};
@@ -15,27 +15,27 @@ ghost use Rattle.bg_rollout.specs.declared.control_fault.ControlFault.TheVariant
 ghost use Rattle.bg_rollout.specs.declared.fault.EnterFault.TheVariants as enter_fault;
 
 use crate::book::Book;
-use crate::laws::headline;
+use crate::laws as book_laws;
 use bg_ledger::{Names, Seat};
 use bg_revisions::Service;
 use bg_rollout::{Control, ControlFault, EnterFault, GoOn, Left, Ticket};
 use std::sync::{Mutex, Wait};
 
-/// What is asked of a book under its desk's lock.
+/// A question about a book, asked under the lock of its desk.
 pub trait Question<A> {
-    /// What an answer says of the question and the book.
+    /// The relation between the question, the book and the answer.
     ghost gives: { Self → Routing → A → Type 0 };
 
-    /// Answers what it gives for the book.
+    /// Answers the question for the book.
     fn ask<N: Names>(self, book: &Book<N>) -> A
         ensures { gives self book.now result };
 }
 
 /// A book behind a lock, which threads share.
 ///
-/// Each call takes the lock once, makes one call of the book and lets go. `told` says of each that the answer is one
-/// of a book that has what [`headline`] says, and of each event that this book stepped by it to another that has; that
-/// it is the book under the lock is not said.
+/// Each call takes the lock once, makes one call of the book and releases the lock. `told` says that the answer is
+/// the answer of some book for which [`headline`] holds. For an event it also says that this book stepped to
+/// another one for which [`headline`] holds. It doesn't say that this book is the one under the lock.
 #[derive(Drop)]
 pub struct Desk<N: Names> {
     book: Mutex<Book<N>>,
@@ -69,9 +69,9 @@ impl<N: Names> Desk<N> {
     {
         let mut locked = self.book.lock(rt);
         let book = &mut *locked;
-        headline(book);
+        book_laws::headline(book);
         let answer = book.enter(seat, service);
-        headline(book);
+        book_laws::headline(book);
         answer
     }
 
@@ -79,7 +79,7 @@ impl<N: Names> Desk<N> {
     pub fn leave<R: Wait>(&self, rt: &R, seat: &mut Seat<N>) -> Left
         requires within { 0 < seat.old.number }
         ensures left { result ≡ record { number = seat.old.number; revision = seat.old.revision } }
-        ensures seat { seat.new ≡ vacated seat.old }
+        ensures seat { seat.new ≡ after_leave seat.old }
         ensures told { (b : Routing) × Headline b × Meets b seat.old
             × ((n : ℕ) × (new : Routing) × StepsTo b
             (entry.Leave seat.old.index seat.old.number seat.old.revision)
@@ -87,9 +87,9 @@ impl<N: Names> Desk<N> {
     {
         let mut locked = self.book.lock(rt);
         let book = &mut *locked;
-        headline(book);
+        book_laws::headline(book);
         let left = book.leave(seat);
-        headline(book);
+        book_laws::headline(book);
         left
     }
 
@@ -101,7 +101,7 @@ impl<N: Names> Desk<N> {
     {
         let mut locked = self.book.lock(rt);
         let book = &mut *locked;
-        headline(book);
+        book_laws::headline(book);
         book.may_go_on(seat)
     }
 
@@ -114,9 +114,9 @@ impl<N: Names> Desk<N> {
     {
         let mut locked = self.book.lock(rt);
         let book = &mut *locked;
-        headline(book);
+        book_laws::headline(book);
         let answer = book.control(control);
-        headline(book);
+        book_laws::headline(book);
         answer
     }
 
@@ -127,7 +127,7 @@ impl<N: Names> Desk<N> {
     {
         let mut locked = self.book.lock(rt);
         let book = &mut *locked;
-        headline(book);
+        book_laws::headline(book);
         book.compact()
     }
 
@@ -138,11 +138,11 @@ impl<N: Names> Desk<N> {
     {
         let locked = self.book.lock(rt);
         let book = &*locked;
-        headline(book);
+        book_laws::headline(book);
         book.entries_used()
     }
 
-    /// Answers what the question gives for the book as it is.
+    /// Answers the question for the book in its current state.
     pub fn look<A, Q: Question<A>, R: Wait>(&self, rt: &R, question: Q) -> A
         ensures told { (b : Routing) × Headline b × Q.gives question b result }
     {
@@ -150,21 +150,21 @@ impl<N: Names> Desk<N> {
         ask(&*book, question)
     }
 
-    /// The book, out of the lock.
+    /// Takes the book out of the lock.
     pub fn into_book(self) -> Book<N>
         ensures { Headline result }
     {
         let book = self.book.into_inner();
-        headline(&book);
+        book_laws::headline(&book);
         book
     }
 }
 
-/// What the question gives, and what holds of the book.
+/// Answers the question, and proves what holds of the book.
 fn ask<N: Names, A, Q: Question<A>>(book: &Book<N>, question: Q) -> A
     ensures headline { Headline book.now }
     ensures answer { Q.gives question book.now result }
 {
-    headline(book);
+    book_laws::headline(book);
     question.ask(book)
 }

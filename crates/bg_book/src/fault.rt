@@ -1,9 +1,9 @@
-//! Why a list of calls of a book is refused.
+//! The error of a list of calls of a book.
 
 use std::alloc::{AllocError, AllocFailed};
 use thiserror::Error;
 
-/// Why a list of calls wasn't begun.
+/// The reason why no call of a list was made.
 #[derive(Clone, Copy, PartialEq, Eq, Debug, Drop, Error)]
 pub enum RunFault {
     #[error("out of memory")]

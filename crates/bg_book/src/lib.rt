@@ -1,9 +1,8 @@
-//! The routing book: which revision each service selects, and which requests are open.
+//! The routing book: the revision that each service selects, and the open requests.
 //!
-//! One event is one call of [`Book::enter`], [`Book::leave`] or [`Book::control`]; nothing else changes the
-//! book. What it keeps running is what its history says (`specs/`), after every call. Ledgers tie the book's record
-//! of each seat to the seat (bg_ledger), so that what a worker was told stays true of the book; threads share a book
-//! by a [`Desk`].
+//! Each event is one call of [`Book::enter`], [`Book::leave`] or [`Book::control`]. After every call, the running
+//! state of the book is what its history says (`specs/`). Ledgers tie the book's record of each seat to the seat
+//! (bg_ledger), so what a worker was told stays true of the book. Threads share a book through a [`Desk`].
 #![tactic(auto)]
 
 mod book;

@@ -1,4 +1,4 @@
-//! A book together with its seats, for who shares neither.
+//! A book together with its seats, for a caller that shares neither.
 ghost use Rattle.std.specs.Prelude.{◌≡◌, ◌≤◌, ◌+◌, [], List, IfOk, OnErr, length, true};
 ghost use Rattle.bg_history.specs.Requests.{open_requests};
 ghost use Rattle.bg_ledger.specs.Blanks.{AreAllFor};
@@ -14,7 +14,7 @@ ghost use Rattle.bg_book.specs.Runs.{AreOut, CallStep, LeavesAll, Runs, Unchange
 use crate::book::Book;
 use crate::calls::{Call, Reply};
 use crate::fault::RunFault;
-use crate::laws::lent;
+use crate::laws as book_laws;
 use bg_history::History;
 use bg_ledger::{Blanks, Names, Seat};
 use bg_rollout::{Limits, OpenFault};
@@ -22,8 +22,8 @@ use bg_strategy::Strategy;
 use std::alloc::Global;
 use std::marker::Model;
 
-/// An open book and all its seats. It can't be dropped: it ends in [`OpenBook::close`], or is taken apart by
-/// [`OpenBook::into_parts`].
+/// An open book and all its seats. It can't be dropped: a caller ends it with [`OpenBook::close`], or takes it apart
+/// with [`OpenBook::into_parts`].
 pub struct OpenBook<N: Names> {
     book: Book<N>,
     seats: Vec<Seat<N>>,
@@ -42,7 +42,7 @@ impl<N: Names> Model for OpenBook<N> {
 }
 
 impl<N: Names> OpenBook<N> {
-    /// Opens a book as [`Book::open`] does, and is refused as it is.
+    /// Opens a book as [`Book::open`] does, with the same errors.
     pub fn open(
         alloc: Global,
         strategy: &Strategy,
@@ -64,7 +64,7 @@ impl<N: Names> OpenBook<N> {
         Ok(OpenBook { book, seats })
     }
 
-    /// The book, for who reads it.
+    /// The book, for its readers.
     pub fn book(&self) -> &Book<N>
         ensures { result.now ≡ self.now.book }
     {
@@ -78,27 +78,27 @@ impl<N: Names> OpenBook<N> {
         self.seats.as_slice()
     }
 
-    /// Makes one call, and answers as [`Book::call`] does.
+    /// Makes one call, and replies as [`Book::call`] does.
     pub fn call(&mut self, call: &Call) -> Reply
         ensures { CallStep self.old.book self.old.seats call.now result
             self.new.book self.new.seats }
     {
-        lent();
+        book_laws::lent();
         self.book.call(self.seats.as_mut_slice(), call)
     }
 
-    /// Makes the calls one after the other, and answers and is refused as [`Book::run`] is.
+    /// Makes the calls one after the other as [`Book::run`] does, with the same replies and errors.
     pub fn run(&mut self, calls: &[Call]) -> Result<Vec<Reply>, RunFault>
         ensures replies { IfOk result (λ replies. Runs self.old.book self.old.seats calls.now
             replies.items self.new.book self.new.seats) }
         ensures unchanged { OnErr result
             (Unchanged self.old.book self.old.seats self.new.book self.new.seats) }
     {
-        lent();
+        book_laws::lent();
         self.book.run(self.seats.as_mut_slice(), calls)
     }
 
-    /// Compacts the history, as [`Book::compact`] does. Gives the number of entries that were dropped.
+    /// Compacts the history as [`Book::compact`] does. Gives the number of dropped entries.
     pub fn compact(&mut self) -> u64
         ensures book { self.new.book ≡ with_compacted self.old.book }
         ensures seats { self.new.seats ≡ self.old.seats }
@@ -107,7 +107,7 @@ impl<N: Names> OpenBook<N> {
         self.book.compact()
     }
 
-    /// The book and its seats, each by itself.
+    /// Takes the book and its seats apart.
     pub fn into_parts(self) -> (Book<N>, Vec<Seat<N>>)
         ensures book { result.0 ≡ self.book }
         ensures seats { result.1.items ≡ self.seats }
@@ -117,8 +117,8 @@ impl<N: Names> OpenBook<N> {
         (book, seats)
     }
 
-    /// Lets each request that is in leave, in the order of the seats, without a reply, and gathers the book. Gives
-    /// its history. It takes no memory.
+    /// Records that each open request leaves, in the order of the seats, ends the book, and gives its history. The call
+    /// allocates nothing.
     pub fn close(self) -> History
         ensures left { (new : Routing) × (seats : List Holding)
             × LeavesAll self.book self.seats (length self.seats) new seats

@@ -1,4 +1,4 @@
-//! Requests that are seen to be over without being parsed.
+//! Requests whose end is found without parsing them.
 
 use memchr::memchr;
 
@@ -6,16 +6,16 @@ use memchr::memchr;
 /// RFC 9110 section 10.1.1).
 const FIELDS_OF_BODIES: [&[u8]; 3] = [b"content-length", b"transfer-encoding", b"expect"];
 
-/// Whether nothing can follow that belongs to the request: the bytes begin with a line, end with an
-/// empty one, and no line of them begins as a field does that may announce a body. Such a request is
-/// whole, or has a fault already.
+/// Whether no further bytes can belong to the request: the bytes begin with a line, end with an
+/// empty line, and no line begins with the name of a field that may announce a body. Such a request
+/// is complete or faulty.
 pub(crate) fn is_bodiless(bytes: &[u8]) -> bool {
     !matches!(bytes.first(), Some(b'\r' | b'\n'))
         && bytes.ends_with(b"\r\n\r\n")
         && !announces_body(bytes)
 }
 
-/// Whether a line but the first begins with the name of a field that may announce a body.
+/// Whether a line other than the first begins with the name of a field that may announce a body.
 fn announces_body(bytes: &[u8]) -> bool {
     let mut rest = bytes;
     for _ in 0..bytes.len() {
@@ -30,7 +30,7 @@ fn announces_body(bytes: &[u8]) -> bool {
     false
 }
 
-/// The first line without its LF, and the bytes behind it.
+/// The first line without its LF, and the bytes after it.
 pub(crate) fn split_line(bytes: &[u8]) -> Option<(&[u8], &[u8])> {
     let place = memchr(b'\n', bytes)?;
     let line = bytes.get(..place)?;
@@ -38,7 +38,7 @@ pub(crate) fn split_line(bytes: &[u8]) -> Option<(&[u8], &[u8])> {
     Some((line, next))
 }
 
-/// Whether bytes begin with a name, in whatever case.
+/// Whether bytes begin with a name, in any case.
 pub(crate) fn begins_with(bytes: &[u8], name: &[u8]) -> bool {
     match bytes.get(..name.len()) {
         Some(front) => front.eq_ignore_ascii_case(name),

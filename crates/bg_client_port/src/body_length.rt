@@ -1,4 +1,4 @@
-//! Requests whose length is told by their head.
+//! Requests whose head gives their length.
 
 use crate::bodiless::{begins_with, split_line};
 
@@ -6,17 +6,17 @@ const CONTENT_LENGTH: &[u8] = b"content-length";
 
 const TRANSFER_ENCODING: &[u8] = b"transfer-encoding";
 
-/// A length of more digits is left to the parser.
+/// The parser handles a length of more digits.
 const MOST_DIGITS: usize = 7;
 
-/// What a line of a head says of the body.
+/// What a line of a head says about the body.
 #[derive(Drop)]
 enum HeadLine {
     /// The head ends here.
     End,
-    /// The body has so many bytes (RFC 9112 section 6.2).
+    /// The body has this many bytes (RFC 9112 section 6.2).
     Length(usize),
-    /// The body's length isn't told by a number alone.
+    /// The body's length is not given by a number alone.
     Otherwise,
     Nothing,
 }
@@ -40,7 +40,7 @@ fn head_line(line: &[u8]) -> HeadLine {
     }
 }
 
-/// The number that a few digits are.
+/// The number that a few digits stand for.
 fn decimal(text: &[u8]) -> Option<usize> {
     if text.is_empty() || text.len() > MOST_DIGITS {
         return None;
@@ -56,8 +56,8 @@ fn decimal(text: &[u8]) -> Option<usize> {
     Some(number)
 }
 
-/// How many bytes a request takes in all, of which the head came whole and has no fault. None where the
-/// head doesn't tell it by one `Content-Length` alone.
+/// The length in bytes of a whole request whose head is complete and has no fault. `None` unless one
+/// `Content-Length` alone gives the length of the body.
 pub(crate) fn request_length(bytes: &[u8]) -> Option<usize> {
     let mut length = None;
     let mut rest = bytes;

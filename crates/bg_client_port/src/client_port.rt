@@ -1,4 +1,4 @@
-//! A port of clients.
+//! A client port.
 
 use crate::bounds::Bounds;
 use crate::clock::PortClock;
@@ -16,41 +16,47 @@ use std::sync::atomic::{AtomicBool, AtomicU64, AtomicUsize, Ordering};
 use std::sync::{Mutex, Wait};
 use std::time::Clock;
 
-/// How long a shutdown takes at most, in milliseconds.
+/// The timeout of a graceful shutdown, in milliseconds.
 const CLOSING_MILLIS: u64 = 60_000;
 
-/// A port of clients. Workers take connections from it by [`ClientPort::next`], and end them by
-/// `Connection::end`; beside them [`ClientPort::run_event_loop`] runs in a thread of its own. All of
-/// them share the port.
+/// A client port. Workers take connections from it by [`ClientPort::next`], and end them by
+/// `Connection::end`. [`ClientPort::run_event_loop`] runs in its own thread in parallel. All of them
+/// share the port.
 ///
-/// A worker is given a connection only once its request is over: whole, faulty, ended by the client,
-/// or late. Until then, and from the moment that a connection is ended, the event loop reads, writes
-/// and times it. Each connection that was accepted is given to a worker exactly once.
+/// A worker is given a connection only after its request is over: the request is complete or faulty,
+/// the client has ended it, or its timeout has passed. Before that, and after the worker has ended
+/// the connection, the event loop reads and writes it and checks its timeouts. Each accepted
+/// connection is given to a worker exactly once.
 #[derive(Drop)]
 pub struct ClientPort {
     pub(crate) alloc: Global,
     pub(crate) listener: CountedListener,
     pub(crate) watch: Watch,
     pub(crate) clock: PortClock,
-    /// How long a request may take, in milliseconds.
+    /// The timeout of a request, in milliseconds.
     pub(crate) request_millis: u64,
     pub(crate) pending: Mutex<Pending>,
-    /// How many connections are pending, and whether the port takes no further one for now.
+    /// The number of pending connections, and whether the port accepts no further connection for
+    /// now.
     pub(crate) pending_count: AtomicUsize,
     pub(crate) is_full: AtomicBool,
     wait_sets: Mutex<WaitSets>,
-    /// When the shutdown is over; the greatest number before it begins.
+    /// The maximum number of workers that were at work at once.
+    workers_begun: AtomicUsize,
+    pub(crate) event_loop_begun: AtomicBool,
+    /// When the timeout of the shutdown ends; the greatest number before the shutdown begins.
     closing_until: AtomicU64,
-    /// Whether an accept failed, and whether that was told.
+    /// Whether an accept failed, and whether that was reported.
     accept_failed: AtomicBool,
     told_failure: AtomicBool,
 }
 
 impl ClientPort {
-    /// A port that has so many workers, and takes so many connections in all (None: no limit). A request
-    /// may take so many seconds from its accept. The listener's modes are changed.
+    /// A port that has this many workers and accepts this many connections in all (`None`: no limit). A
+    /// request may take this many seconds from the accept of its connection. The call changes the
+    /// listener's modes.
     ///
-    /// Refused where the system or memory refuses what is needed.
+    /// An error where the system or an allocation fails.
     pub fn new<R: Clock>(
         rt: &R,
         alloc: Global,
@@ -76,15 +82,17 @@ impl ClientPort {
             pending_count: AtomicUsize::new(0),
             is_full: AtomicBool::new(false),
             wait_sets: Mutex::new(wait_sets),
+            workers_begun: AtomicUsize::new(0),
+            event_loop_begun: AtomicBool::new(false),
             closing_until: AtomicU64::new(u64::MAX),
             accept_failed: AtomicBool::new(false),
             told_failure: AtomicBool::new(false),
         })
     }
 
-    /// Shuts down: clients are refused from now on, connections that sent nothing are closed, requests
-    /// that are arriving or served come to their end, and so do responses, for at most 60 seconds in
-    /// all.
+    /// Begins a graceful shutdown. The port refuses new clients from now on and closes connections
+    /// that sent nothing. Requests that are arriving or being served, and their responses, are
+    /// completed within 60 seconds in all.
     pub fn close<R: Clock + Wait>(&self, rt: &R) {
         let until = self.clock.now(rt).saturating_add(CLOSING_MILLIS);
         self.closing_until.fetch_min(until, Ordering::SeqCst);
@@ -98,17 +106,25 @@ impl ClientPort {
         self.watch.set.wake_up();
     }
 
-    /// How many workers were at work at once, at most: each is at work from its first call of `next` on.
-    pub fn workers_begun<R: Wait>(&self, rt: &R) -> usize {
-        self.wait_sets.lock(rt).most_taken()
+    /// The maximum number of workers that were at work at once. A worker is at work from its first call
+    /// of `next` on.
+    pub fn workers_begun(&self) -> usize {
+        self.workers_begun.load(Ordering::SeqCst)
     }
 
-    /// Whether no further connection is taken: the port was closed, or its connections are used up.
+    /// Whether [`ClientPort::run_event_loop`] was called.
+    pub fn has_event_loop(&self) -> bool {
+        self.event_loop_begun.load(Ordering::SeqCst)
+    }
+
+    /// Whether the port accepts no further connection, because it was closed or has accepted its
+    /// number of connections.
     pub fn is_closed(&self) -> bool {
         self.listener.is_closed()
     }
 
-    /// Whether accepts failed, as where no descriptor is free. That is told once.
+    /// Whether accepts failed, for example because no descriptor is free. Each failure is reported
+    /// once.
     pub fn take_accept_failure(&self) -> bool {
         self.accept_failed.load(Ordering::SeqCst) && !self.told_failure.swap(true, Ordering::SeqCst)
     }
@@ -117,27 +133,30 @@ impl ClientPort {
         self.accept_failed.store(true, Ordering::SeqCst);
     }
 
-    /// Whether the time of a shutdown is over.
+    /// Whether the timeout of a shutdown has passed.
     pub(crate) fn is_closing_over(&self, now: u64) -> bool {
         self.closing_until.load(Ordering::SeqCst) <= now
     }
 
     pub(crate) fn take_wait_set<R: Wait>(&self, rt: &R) -> Option<WaitSet> {
-        self.wait_sets.lock(rt).take()
+        let mut sets = self.wait_sets.lock(rt);
+        let set = sets.take();
+        self.workers_begun.fetch_max(sets.taken(), Ordering::SeqCst);
+        set
     }
 
     pub(crate) fn give_back<R: Wait>(&self, rt: &R, set: WaitSet) {
         self.wait_sets.lock(rt).give_back(set);
     }
 
-    /// Tells workers how much is pending, so that they needn't ask under the lock.
+    /// Publishes how much is pending, so that workers need not take the lock to ask.
     pub(crate) fn publish(&self, pending: &Pending) {
         self.pending_count.store(pending.count(), Ordering::SeqCst);
         let is_full = pending.is_full() || pending.is_held_up();
         self.is_full.store(is_full, Ordering::SeqCst);
     }
 
-    /// Leaves a connection to the event loop. Where that can't be had, it is given back.
+    /// Leaves a connection to the event loop, or gives it back if that is not possible.
     pub(crate) fn leave<R: Wait>(
         &self,
         rt: &R,
@@ -151,8 +170,8 @@ impl ClientPort {
         left
     }
 
-    /// Ends a connection for its worker. What is left of the response is written, and the connection is
-    /// closed without a reset where it can be, by the event loop.
+    /// Ends a connection for its worker. The event loop writes the rest of the response, and closes the
+    /// connection without a reset if possible.
     pub(crate) fn end<R: Clock + Wait>(
         &self,
         rt: &R,
@@ -166,7 +185,7 @@ impl ClientPort {
             if let Turn::Waits(interest) = response.go_on(&stream) {
                 let now = self.clock.now(rt);
                 let connection = PendingConnection::answered(stream, response, interest, now);
-                // where it can't be left to the event loop it ends here
+                // if it can't be left to the event loop, it ends here
                 let _ = self.leave(rt, connection, now);
             }
         }

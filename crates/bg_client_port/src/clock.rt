@@ -3,7 +3,7 @@
 use std::io;
 use std::time::{Clock, Duration, Instant};
 
-/// Tells moments as milliseconds since it was started.
+/// Gives moments as milliseconds since it was started.
 #[derive(Drop)]
 pub(crate) struct PortClock {
     start: Instant,
@@ -16,7 +16,7 @@ impl PortClock {
         })
     }
 
-    /// How many milliseconds passed since the start. A clock that fails shows none.
+    /// The number of milliseconds since the start; 0 if the clock fails.
     pub(crate) fn now<R: Clock>(&self, rt: &R) -> u64 {
         match self.start.elapsed(rt) {
             Ok(passed) => millis(passed),

@@ -7,6 +7,7 @@ use crate::peer_socket::is_peer_closed;
 use crate::pending_connection::OverRequest;
 use crate::request_buffer::Ending;
 use crate::sockets::{OtherEnd, other_end};
+use crate::sound_head::has_sound_head;
 use crate::wait_sets::WaitSet;
 use bg_http::Duplex;
 use std::io;
@@ -14,23 +15,30 @@ use std::io::{ErrorKind, Read, Write};
 use std::sync::Wait;
 use std::time::{Clock, Duration};
 
-/// How many milliseconds pass at least before the system is asked again whether a client has gone.
+/// The minimum number of milliseconds before the system is asked again whether a client has gone.
 const ASK_MILLIS: u64 = 900;
 
-/// The connection of a client whose request is over, and is read from memory. Of its response, what the
-/// system doesn't take in a moment is kept, and is written once the connection has ended for its
-/// worker.
+/// The connection of a client whose request is over. The request is read from memory. The part of the
+/// response that the system does not take at once is buffered; the event loop writes it after the
+/// worker has ended the connection.
 #[derive(Drop)]
 pub struct Connection<'a, R: Clock> {
     port: &'a ClientPort,
     rt: &'a R,
     wait_set: WaitSet,
     request: OverRequest,
-    /// How many bytes of the request were read.
+    /// The number of bytes of the request that were read.
     read: usize,
-    /// What is still to be written.
+    /// The number of bytes that were read and had not been buffered.
+    read_unbuffered: u64,
+    /// The bytes that are still to be written.
     response: Vec<u8>,
-    /// When it was last asked whether the client has gone.
+    /// The number of bytes of the response that came, and when the first of them came.
+    response_bytes: u64,
+    answered: Option<u64>,
+    /// When it was given to a worker.
+    begun: u64,
+    /// When the system was last asked whether the client has gone.
     asked: Option<u64>,
 }
 
@@ -47,16 +55,20 @@ impl<'a, R: Clock> Connection<'a, R> {
             wait_set,
             request,
             read: 0,
+            read_unbuffered: 0,
             response: Vec::new(port.alloc),
+            response_bytes: 0,
+            answered: None,
+            begun: port.clock.now(rt),
             asked: None,
         }
     }
 
-    /// Whether the client has closed or reset its connection. One that has only shut its writing side
-    /// hasn't gone, and is answered (RFC 9112 section 9.6).
+    /// Whether the client has closed or reset its connection. A client that has only shut its writing
+    /// side has not gone, and is answered (RFC 9112 section 9.6).
     ///
-    /// The system is asked once a second at most, and for the first time about a second after the first
-    /// question; until then the client hasn't gone.
+    /// Asks the system at most once a second, and for the first time about a second after the first
+    /// call. Until then it gives false.
     pub fn has_gone(&mut self) -> bool {
         let now = self.port.clock.now(self.rt);
         let Some(last) = self.asked else {
@@ -74,7 +86,45 @@ impl<'a, R: Clock> Connection<'a, R> {
         }
     }
 
-    /// What came of the request and wasn't read.
+    /// The bytes of the request that were buffered.
+    pub fn first_bytes(&self) -> &[u8] {
+        self.request.request.bytes.as_slice()
+    }
+
+    /// Whether the head of the request came whole and has no fault, as far as it was buffered.
+    pub fn has_sound_head(&self) -> bool {
+        has_sound_head(self.port.alloc, self.first_bytes())
+    }
+
+    /// The number of bytes of the request that were read.
+    pub fn request_bytes(&self) -> u64 {
+        self.read_unbuffered.saturating_add(self.read as u64)
+    }
+
+    /// The number of bytes of the response that came. They may not be written yet.
+    pub fn response_bytes(&self) -> u64 {
+        self.response_bytes
+    }
+
+    /// The number of milliseconds since the connection was accepted.
+    pub fn duration_millis(&self) -> u64 {
+        let accepted = match self.request.until {
+            Some(until) => self
+                .begun
+                .min(until.saturating_sub(self.port.request_millis)),
+            None => self.begun,
+        };
+        self.port.clock.now(self.rt).saturating_sub(accepted)
+    }
+
+    /// The number of milliseconds from when the connection was given to a worker to the first bytes of
+    /// the response; `None` if no response came.
+    pub fn millis_to_response(&self) -> Option<u64> {
+        let answered = self.answered?;
+        Some(answered.saturating_sub(self.begun))
+    }
+
+    /// The bytes of the request that came and were not read.
     fn unread(&self) -> &[u8] {
         match self.request.request.bytes.as_slice().get(self.read..) {
             Some(bytes) => bytes,
@@ -82,7 +132,7 @@ impl<'a, R: Clock> Connection<'a, R> {
         }
     }
 
-    /// Reads what came; at its end comes what ended the request.
+    /// Reads the buffered bytes; at their end it gives what ended the request.
     fn read_buffered(&mut self, buf: &mut [u8]) -> io::Result<usize>
         ensures { ReadsAtMost result buf.new }
     {
@@ -99,7 +149,7 @@ impl<'a, R: Clock> Connection<'a, R> {
         }
     }
 
-    /// Reads what isn't buffered, for no longer than the request may still take.
+    /// Reads bytes that are not buffered, up to the timeout of the request.
     fn read_in_time(&mut self, buf: &mut [u8]) -> io::Result<usize>
         ensures { ReadsAtMost result buf.new }
     {
@@ -115,13 +165,24 @@ impl<'a, R: Clock> Connection<'a, R> {
         }
         let stream = &mut self.request.stream;
         stream.set_read_timeout(Some(Duration::from_millis(left)))?;
-        stream.read(buf)
+        let count = stream.read(buf)?;
+        self.read_unbuffered = self.read_unbuffered.saturating_add(count as u64);
+        Ok(count)
     }
 
-    /// Writes what the system takes in a moment, and keeps the rest.
+    /// Notes that this many bytes of the response came.
+    fn note_response(&mut self, count: usize) {
+        if self.answered.is_none() {
+            self.answered = Some(self.port.clock.now(self.rt));
+        }
+        self.response_bytes = self.response_bytes.saturating_add(count as u64);
+    }
+
+    /// Writes what the system takes at once, and buffers the rest.
     fn write_or_keep(&mut self, bytes: &[u8]) -> io::Result<usize>
         ensures { WritesAtMost result bytes.now }
     {
+        self.note_response(bytes.len());
         let mut written = 0;
         if self.response.is_empty() {
             written = match self.request.stream.write(bytes) {
@@ -140,10 +201,11 @@ impl<'a, R: Clock> Connection<'a, R> {
 }
 
 impl<R: Clock + Wait> Connection<'_, R> {
-    /// Ends the connection for its worker. `whole` is true only where the request was read whole; else
-    /// the client may still be sending it. What is left of the response is written by the event loop,
-    /// for as long as the client takes some of it within 30 seconds each, and 600 seconds in all; where
-    /// bytes of the client are unread, or may come, they are passed over for 10 seconds, up to 16 MiB.
+    /// Ends the connection for its worker. `whole` is true only if the whole request was read;
+    /// otherwise the client may still be sending it. The event loop writes the rest of the response. It
+    /// stops if the client takes nothing for 30 seconds, and after 600 seconds in all. If bytes of the
+    /// client are unread or may still come, a lingering close discards them for 10 seconds, up to 16
+    /// MiB.
     pub fn end(self, whole: bool) {
         let Connection {
             port,
@@ -158,7 +220,7 @@ impl<R: Clock + Wait> Connection<'_, R> {
     }
 }
 
-/// Copies what fits of bytes into the front of others, and says how many.
+/// Copies as many bytes as fit into the front of a buffer, and gives their number.
 fn copy_front(bytes: &[u8], buf: &mut [u8]) -> usize
     ensures count { result ≤ length buf.new }
 {
@@ -188,13 +250,14 @@ impl<R: Clock> Duplex for Connection<'_, R> {
         self.read_buffered(buf)
     }
 
-    /// What is sent before the request is read is `100 Continue`, and the client that it is owed was
-    /// written it as its head came.
+    /// The only bytes that are sent before the request is read are `100 Continue`. A client to which
+    /// it is owed got it when its head had come.
     fn send(&mut self, bytes: &[u8]) -> io::Result<()> {
         if self.request.request.was_continued {
             return Ok(());
         }
         self.write_or_keep(bytes)?;
+        self.answered = None;
         Ok(())
     }
 }

@@ -1,28 +1,29 @@
-//! How many descriptors there are for connections.
+//! The number of descriptors for connections.
 
 use libc::types::rlimit;
 
 /// The number of the limit on open descriptors (`RLIMIT_NOFILE` of getrlimit(2)).
 const DESCRIPTORS: i32 = 7;
 
-/// How many descriptors are assumed where the limit can't be read: what Linux gives a process usually.
+/// The number of descriptors that is assumed if the limit cannot be read: the usual limit of a process
+/// on Linux.
 const USUAL_DESCRIPTORS: u64 = 1024;
 
-/// How many descriptors a process has from the start, and how many more may be needed by what isn't
-/// counted.
+/// The number of descriptors that a process has from the start, and the number of those that may be
+/// needed for things that are not counted.
 const STANDARD_STREAMS: usize = 3;
 
 const SPARE: usize = 8;
 
-/// How many descriptors a port has beside its connections: its listener, the set of its event loop,
-/// and two signals.
+/// The number of descriptors of a port without its connections: its listener, the set of its event
+/// loop, and two signals.
 const OF_A_PORT: usize = 4;
 
-/// How many descriptors a worker needs: its wait set, the connection that it serves, and that to an
-/// endpoint.
+/// The number of descriptors that a worker needs: its wait set, the connection that it serves, and
+/// the connection to an endpoint.
 const OF_A_WORKER: usize = 3;
 
-/// How many descriptors this process may have open.
+/// The number of descriptors that this process may have open.
 pub fn most_descriptors() -> usize {
     let mut limit = rlimit {
         rlim_cur: 0,
@@ -34,8 +35,8 @@ pub fn most_descriptors() -> usize {
     limit.rlim_cur.min(1 << 20) as usize
 }
 
-/// How many descriptors are needed by so many ports of clients, by all of their workers, and by
-/// others, as the control port and its operators.
+/// The number of descriptors that `ports` client ports, all of their workers, and others such as
+/// the control port and its operators need.
 pub fn reserved_descriptors(ports: usize, workers: usize, others: usize) -> usize {
     STANDARD_STREAMS
         .saturating_add(SPARE)

@@ -3,19 +3,22 @@
 use crate::client_port::ClientPort;
 use crate::wait_sets::MOST_EVENTS;
 use std::sync::Wait;
+use std::sync::atomic::Ordering;
 use std::time::Clock;
 
-/// How often, in milliseconds, it is looked for connections whose time is up.
+/// The interval, in milliseconds, at which the event loop looks for connections whose timeout has
+/// passed.
 const SWEEP_MILLIS: u64 = 500;
 
-/// How long one wait lasts at most, in milliseconds.
+/// The longest wait, in milliseconds.
 const LONGEST_WAIT_MILLIS: i32 = 500;
 
 impl ClientPort {
-    /// Deals with the connections that no worker has: requests are read, responses are written, and each
-    /// is closed once its time is up. It returns once the port is closed and no connection is left, at
-    /// most 60 seconds after [`ClientPort::close`]; what is left then is closed.
+    /// Handles the pending connections: reads requests, writes responses, and closes each connection
+    /// whose timeout has passed. It returns when the port is closed and no connection is left, at most
+    /// 60 seconds after [`ClientPort::close`]. It closes the connections that are left then.
     pub fn run_event_loop<R: Clock + Wait>(&self, rt: &R) {
+        self.event_loop_begun.store(true, Ordering::SeqCst);
         let mut keys = [0; MOST_EVENTS];
         let mut swept = 0;
         for _ in rt.forever() {
@@ -46,7 +49,7 @@ impl ClientPort {
         self.publish(&pending);
     }
 
-    /// Whether the event loop has nothing to do any more, or its time is over.
+    /// Whether the event loop has nothing left to do, or the timeout of the shutdown has passed.
     fn is_over<R: Wait>(&self, rt: &R, now: u64) -> bool {
         if !self.listener.is_closed() {
             return false;

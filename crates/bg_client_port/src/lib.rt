@@ -1,9 +1,9 @@
-//! A port of clients: a listener, an event loop, and connections that are given to workers.
+//! A client port: a listener, an event loop, and connections that are given to workers.
 //!
-//! Requests are buffered: a worker is given a connection only once its request is over, so that no
-//! worker waits for a client that sends slowly. Responses are buffered: what a client doesn't take
-//! at once is written by the event loop, and so are the last bytes of a connection passed over. What
-//! waits at a port is bounded ([`Bounds`]).
+//! Request buffering: a worker is given a connection only after its request is over, so that no
+//! worker waits for a client that sends slowly. Response buffering: the event loop writes what a
+//! client does not take at once, and does the lingering close. What may be pending at a port is
+//! bounded ([`Bounds`]).
 #![tactic(auto)]
 
 mod bodiless;
@@ -24,6 +24,7 @@ mod request_buffer;
 mod response_buffer;
 mod signal;
 mod sockets;
+mod sound_head;
 mod wait_sets;
 
 pub use bounds::Bounds;

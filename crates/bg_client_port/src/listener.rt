@@ -1,6 +1,6 @@
 //! The listener of a port, and how many connections it takes.
 
-use libc::net::{SHUT_RDWR, shutdown};
+use libc::net::{SHUT_RDWR, listen, shutdown};
 use std::io;
 use std::io::ErrorKind;
 use std::net::{TcpListener, TcpStream};
@@ -8,32 +8,37 @@ use std::os::fd::{AsRawFd, OwnedFd};
 use std::sync::atomic::{AtomicBool, AtomicU64, Ordering};
 use std::time::Duration;
 
-/// How long, in milliseconds, the first read of a connection waits, and how long a write that its client
-/// doesn't take at once; the system rounds up to its own step.
+/// The time, in milliseconds, that the first read of a connection waits, and that a write waits if its
+/// client does not take it at once. The system rounds it up to its own step.
 const READ_MILLIS: u64 = 1;
 
 const WRITE_MILLIS: u64 = 10;
 
-/// What came of an accept.
+/// The backlog: the number of clients that may wait in the system for an accept. If the backlog is full,
+/// Linux resets clients that continue to send (SYN cookies), so it has room for all clients that upload at
+/// once. With a longer backlog, the clients of a flood would wait for more seconds.
+const BACKLOG: i32 = 512;
+
+/// The result of an accept.
 #[derive(Drop)]
 pub(crate) enum Accepted {
     Stream(TcpStream),
-    /// No connection waits, or none is taken any more.
+    /// No connection waits, or no further connection is accepted.
     Nothing,
     Failed(io::Error),
 }
 
-/// How many connections are still to be taken.
+/// The number of connections that are still to be accepted.
 #[derive(Drop)]
 struct Left {
-    /// Those of which no accept was begun.
+    /// Connections for which no accept has begun.
     free: AtomicU64,
-    /// Those that weren't taken.
+    /// Connections that were not accepted.
     untaken: AtomicU64,
 }
 
 impl Left {
-    /// Whether an accept may be begun; it is counted then.
+    /// Whether an accept may begin. If so, it is counted.
     fn begin(&self) -> bool {
         self.free
             .fetch_update(
@@ -45,25 +50,28 @@ impl Left {
     }
 }
 
-/// A listener that counts the connections that it takes. It is closed with the last one.
+/// A listener that counts the connections that it accepts. It is closed after the last one.
 #[derive(Drop)]
 pub(crate) struct CountedListener {
     listener: TcpListener,
-    /// None where there is no limit.
+    /// `None` if there is no limit.
     left: Option<Left>,
     is_closed: AtomicBool,
-    /// How many accepts are under way, and how many connections haven't ended for their workers.
+    /// The number of accepts in progress plus the number of connections that have not ended for
+    /// their workers.
     open: AtomicU64,
 }
 
 impl CountedListener {
-    /// A listener that takes so many connections. It doesn't wait for them.
+    /// A listener that accepts this many connections. Its accepts do not wait.
     pub(crate) fn new(
         listener: TcpListener,
         connections: Option<u64>,
     ) -> io::Result<CountedListener> {
         let listener = with_short_waits(listener)?;
         listener.set_nonblocking(true)?;
+        // if the system refuses it, the listener keeps its backlog
+        listen(listener.as_raw_fd(), BACKLOG);
         let left = match connections {
             Some(count) => Some(Left {
                 free: AtomicU64::new(count),
@@ -79,7 +87,7 @@ impl CountedListener {
         })
     }
 
-    /// The listener itself, to be watched.
+    /// The listener itself, so that it can be watched.
     pub(crate) fn get(&self) -> &TcpListener {
         &self.listener
     }
@@ -88,19 +96,19 @@ impl CountedListener {
         self.is_closed.load(Ordering::SeqCst)
     }
 
-    /// Whether no accept is under way, and each connection has ended for its worker.
+    /// Whether no accept is in progress and each connection has ended for its worker.
     pub(crate) fn is_idle(&self) -> bool {
         self.open.load(Ordering::SeqCst) == 0
     }
 
-    /// Closes it: clients are refused at once from now on. The descriptor stays, since other threads may
-    /// be using it.
+    /// Closes the listener: clients are refused at once from now on. The descriptor stays open, because
+    /// other threads may be using it.
     pub(crate) fn close(&self) {
         self.is_closed.store(true, Ordering::SeqCst);
         shutdown(self.listener.as_raw_fd(), SHUT_RDWR);
     }
 
-    /// Takes the next connection without waiting for it.
+    /// Accepts the next connection without waiting for it.
     pub(crate) fn accept(&self) -> Accepted {
         if !self.begin() {
             return Accepted::Nothing;
@@ -121,8 +129,8 @@ impl CountedListener {
         }
     }
 
-    /// Whether an accept may be begun. It is counted before it is looked whether the listener is closed,
-    /// so none is overlooked by who closes it.
+    /// Whether an accept may begin. It is counted before the check whether the listener is closed, so
+    /// the thread that closes the listener misses none.
     fn begin(&self) -> bool {
         self.open.fetch_add(1, Ordering::SeqCst);
         let is_free = match &self.left {
@@ -140,7 +148,7 @@ impl CountedListener {
         false
     }
 
-    /// An accept that was begun brought nothing.
+    /// Notes that an accept gave no connection.
     fn withdraw(&self) {
         if let Some(left) = &self.left {
             left.free.fetch_add(1, Ordering::SeqCst);
@@ -148,7 +156,7 @@ impl CountedListener {
         self.end_one();
     }
 
-    /// A connection was taken.
+    /// Notes that a connection was accepted.
     fn count_taken(&self) {
         if let Some(left) = &self.left
             && left.untaken.fetch_sub(1, Ordering::SeqCst) == 1
@@ -157,7 +165,7 @@ impl CountedListener {
         }
     }
 
-    /// Lets an accept that fails count as a connection. Whether it counts: not where there is no limit.
+    /// Counts a failed accept as a connection, if there is a limit. Returns whether it was counted.
     pub(crate) fn count_failure(&self) -> bool {
         let Some(left) = &self.left else {
             return false;
@@ -169,14 +177,14 @@ impl CountedListener {
         true
     }
 
-    /// A connection has ended for its worker. Whether none is left then.
+    /// Notes that a connection has ended for its worker. Returns whether none is left.
     pub(crate) fn end_one(&self) -> bool {
         self.open.fetch_sub(1, Ordering::SeqCst) == 1
     }
 }
 
-/// A listener whose connections inherit from it how long a read and a write wait: a moment each, so
-/// that neither costs a call for each connection.
+/// A listener with short timeouts for reads and writes. Its connections inherit them, so they cost
+/// no system call for each connection.
 fn with_short_waits(listener: TcpListener) -> io::Result<TcpListener> {
     let socket = TcpStream::from(OwnedFd::from(listener));
     socket.set_read_timeout(Some(Duration::from_millis(READ_MILLIS)))?;

@@ -1,4 +1,4 @@
-//! How a worker comes to its next connection.
+//! How a worker gets its next connection.
 
 use crate::client_port::ClientPort;
 use crate::connection::Connection;
@@ -14,19 +14,19 @@ use std::sync::Wait;
 use std::sync::atomic::Ordering;
 use std::time::Clock;
 
-/// How many accepts in a row fail before that counts as a connection, and how many milliseconds pass in
-/// between.
+/// The number of accepts in a row that fail before they count as a connection, and the number of
+/// milliseconds between them.
 const ACCEPT_TRIES: u32 = 10;
 
 const ACCEPT_PAUSE_MILLIS: i32 = 100;
 
-/// How long, in milliseconds, a worker waits at once while the port takes no further connection.
+/// The time, in milliseconds, of one wait of a worker while the port accepts no further connection.
 const FULL_PAUSE_MILLIS: i32 = 20;
 
-/// The first read of a connection waits a moment only while fewer are pending.
+/// The first read of a connection waits only while fewer connections than this are pending.
 const FEW_PENDING: usize = 32;
 
-/// What a step brought.
+/// The result of a step.
 #[derive(Drop)]
 enum Step {
     Given(OverRequest),
@@ -36,10 +36,10 @@ enum Step {
 }
 
 impl ClientPort {
-    /// Waits for a connection whose request is over. None where no further one comes: the port is
-    /// closed, and each connection that it took was given to a worker. An error counts as a connection:
-    /// accepts failed for a second where the connections are limited, memory was refused, or more
-    /// workers are at work than the port has.
+    /// Waits for a connection whose request is over. `None` if no further connection comes: the port is
+    /// closed, and each connection that it accepted was given to a worker. An error counts as a
+    /// connection. It comes if accepts failed for a second and the number of connections is limited, if
+    /// an allocation failed, or if more workers are at work than the port has.
     pub fn next<'a, R: Clock + Wait>(&'a self, rt: &'a R) -> io::Result<Option<Connection<'a, R>>> {
         let Some(set) = self.take_wait_set(rt) else {
             return Err(io::Error::from(ErrorKind::ResourceBusy));
@@ -48,7 +48,7 @@ impl ClientPort {
             Ok(Some(request)) => Ok(Some(Connection::new(self, rt, set, request))),
             Ok(None) => {
                 self.give_back(rt, set);
-                // the next worker that waits is to find out too
+                // wakes the next waiting worker, which finds the same
                 self.watch.over.post();
                 Ok(None)
             }
@@ -101,7 +101,7 @@ impl ClientPort {
         }
     }
 
-    /// Takes a connection from the listener, where one waits and the port isn't full.
+    /// Accepts a connection if one waits and the port is not full.
     fn accept_at<R: Clock + Wait>(
         &self,
         rt: &R,
@@ -132,8 +132,8 @@ impl ClientPort {
         }
     }
 
-    /// Lets go a connection that makes no progress. Where there is none, it waits a while for one whose
-    /// request is over.
+    /// Closes a connection that makes no progress. If there is none, waits a while for a connection
+    /// whose request is over.
     fn make_room<R: Clock + Wait>(&self, rt: &R, millis: i32) -> io::Result<Step> {
         let now = self.clock.now(rt);
         let has_made_room = {
@@ -148,10 +148,11 @@ impl ClientPort {
         self.take_over(rt)
     }
 
-    /// Reads what comes of a request. Where it isn't over, its connection is left to the event loop.
+    /// Reads the available bytes of a request. If the request is not over, leaves its connection to
+    /// the event loop.
     ///
-    /// A client connects a moment before it sends, so the first read waits for that moment, unless many
-    /// clients are silent already.
+    /// A client connects shortly before it sends, so the first read waits for that time, unless many
+    /// connections are pending.
     fn begin_request<R: Clock + Wait>(&self, rt: &R, stream: TcpStream) -> Step {
         let mut request = RequestBuffer::new(self.alloc);
         if self.pending_count.load(Ordering::SeqCst) < FEW_PENDING {
@@ -176,7 +177,7 @@ impl ClientPort {
     }
 }
 
-/// What comes of a connection that can't be left to the event loop.
+/// The step for a connection that cannot be left to the event loop.
 fn given_back(connection: PendingConnection) -> Step {
     match connection.into_over() {
         Some(request) => Step::Given(request),

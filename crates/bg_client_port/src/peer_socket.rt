@@ -7,34 +7,35 @@ use os::open_read;
 use std::alloc::{AllocError, Global};
 use std::net::{IpAddr, SocketAddr, TcpStream};
 
-/// Where Linux tells of the sockets of this machine (proc_pid_net(5)).
+/// The table in which Linux lists the sockets of this machine (proc_pid_net(5)).
 const SOCKETS: &[u8] = b"/proc/net/tcp";
 
-/// How many bytes of that are read at once, and how often: the system gives no more at once, and of
-/// more sockets, about 400,000, nothing is known.
+/// The number of bytes of the table that one read asks for, and the maximum number of reads. The
+/// system gives no more bytes at once. The reads cover about 400,000 sockets; further ones are not
+/// found.
 const PIECE: usize = 4096;
 
 const MOST_READS: usize = 1 << 14;
 
-/// The place of the inode behind the addresses of a socket.
+/// The position of the inode after the addresses of a socket.
 const INODE_PLACE: usize = 6;
 
-/// What is known of the client's socket.
+/// What is known about the client's socket.
 #[derive(Clone, Copy, PartialEq, Eq, Debug, Drop)]
 enum Found {
     /// A process has it.
     Held,
-    /// No process has it, or there is none.
+    /// No process has it, or it does not exist.
     Closed,
-    /// It can't be told.
+    /// This is unknown.
     Unknown,
 }
 
-/// Whether a client on this machine that ended its input has closed its connection. One that only shut
-/// its writing side still has its socket, which the system's table tells. Where that can't be read,
-/// the client hasn't closed.
+/// Whether a client on this machine that ended its input has closed its connection. A client that only
+/// shut its writing side still has its socket, and the system's table shows that. If the table cannot
+/// be read, the answer is that the client has not closed.
 ///
-/// The table is read twice, since it may change while it is read.
+/// The table is read twice, because it may change during a read.
 pub(crate) fn is_peer_closed(alloc: Global, stream: &TcpStream) -> bool {
     find(alloc, stream) == Found::Closed && find(alloc, stream) == Found::Closed
 }
@@ -52,7 +53,7 @@ fn find(alloc: Global, stream: &TcpStream) -> Found {
     }
 }
 
-/// An address as the table has it, as a number, and a port.
+/// An address, as the number that the table has, and a port.
 #[derive(Clone, Copy, Drop)]
 struct EndPoint {
     address: u32,
@@ -105,7 +106,7 @@ fn found_in_file(alloc: Global, file: i32, sought: &[u8]) -> Result<Found, Alloc
     Ok(Found::Unknown)
 }
 
-/// What stands behind some words up to the end of their line.
+/// The text after some words, up to the end of their line.
 fn line_behind<'a>(text: &'a [u8], sought: &[u8]) -> Option<&'a [u8]> {
     let place = memmem::find(text, sought)?;
     let rest = text.get(place.saturating_add(sought.len())..)?;
@@ -113,7 +114,7 @@ fn line_behind<'a>(text: &'a [u8], sought: &[u8]) -> Option<&'a [u8]> {
     Some(line)
 }
 
-/// Keeps what follows the last end of a line.
+/// Keeps only the text after the last end of a line.
 fn keep_last_line(text: &mut Vec<u8>) {
     let Some(place) = memrchr(b'\n', text) else {
         return;
@@ -124,7 +125,7 @@ fn keep_last_line(text: &mut Vec<u8>) {
     text.truncate(left);
 }
 
-/// What a line of the table says behind the addresses of a socket.
+/// What a line of the table says after the addresses of a socket.
 fn found_by(line: &[u8]) -> Found {
     match word_at(line, INODE_PLACE) {
         Some(b"0") => Found::Closed,
@@ -133,7 +134,7 @@ fn found_by(line: &[u8]) -> Found {
     }
 }
 
-/// A word of a line, of which so many stand before it.
+/// The word of a line that has `place` words before it.
 fn word_at(line: &[u8], place: usize) -> Option<&[u8]> {
     let mut before = 0usize;
     for word in line.split(|byte| *byte == b' ') {

@@ -1,4 +1,4 @@
-//! The connections of a port that no worker has.
+//! The pending connections of a port.
 
 use crate::bounds::Bounds;
 use crate::pending_connection::{OverRequest, PendingConnection};
@@ -8,22 +8,23 @@ use slab::Slab;
 use std::alloc::{AllocError, Global};
 use std::collections::VecDeque;
 
-/// So many large requests are read while the others are paused: the oldest ones.
+/// The number of large requests that are read while the others are paused. They are the oldest
+/// ones.
 const READ_UPLOADS: usize = 8;
 
-/// Who is told of pending connections.
+/// What is notified about pending connections.
 #[derive(Drop)]
 pub(crate) struct Watch {
     /// Where the event loop waits.
     pub(crate) set: LoopSet,
-    /// What is posted for each request that is over.
+    /// The signal that is posted for each request that is over.
     pub(crate) over: Signal,
 }
 
-/// What pending connections take.
+/// The totals of the pending connections.
 #[derive(Drop)]
 struct Totals {
-    /// How many await the rest of a request.
+    /// The number of connections whose request is still arriving.
     arriving: usize,
     request_bytes: usize,
     response_bytes: usize,
@@ -47,32 +48,32 @@ impl Totals {
     }
 }
 
-/// What a worker is given.
+/// What a worker gets.
 #[derive(Drop)]
 pub(crate) enum Given {
     Request(OverRequest),
-    /// A connection was lost, since memory was refused.
+    /// A connection was lost because an allocation failed.
     Lost,
-    /// None is over.
+    /// No request is over.
     Nothing,
-    /// None is over, and none is arriving.
+    /// No request is over, and none is arriving.
     NoneLeft,
 }
 
-/// The connections of a port that no worker has: those that its event loop deals with, and those that
-/// workers are to be given.
+/// The pending connections of a port: those that its event loop handles, and those that are ready for
+/// workers.
 #[derive(Drop)]
 pub(crate) struct Pending {
     connections: Slab<PendingConnection>,
     over: VecDeque<OverRequest>,
-    /// How many connections were lost, of which no worker was told.
+    /// The number of lost connections that were not reported to a worker.
     lost: usize,
     totals: Totals,
     /// The number of the youngest connection.
     last_number: u64,
     /// Whether large requests are paused.
     is_pausing: bool,
-    /// Whether the port is shut down, and what has sent nothing is let go.
+    /// Whether the port is shutting down, so that connections that sent nothing are closed.
     is_closing: bool,
     /// Whether the event loop has ended.
     has_ended: bool,
@@ -80,7 +81,7 @@ pub(crate) struct Pending {
 }
 
 impl Pending {
-    /// None yet.
+    /// No connections.
     pub(crate) fn new(alloc: Global, bounds: Bounds) -> Result<Pending, AllocError> {
         Ok(Pending {
             connections: Slab::with_capacity(alloc, bounds.connections)?,
@@ -99,7 +100,7 @@ impl Pending {
         })
     }
 
-    /// How many there are.
+    /// The number of pending connections.
     pub(crate) fn count(&self) -> usize {
         self.connections.len().saturating_add(self.over.len())
     }
@@ -109,18 +110,23 @@ impl Pending {
         self.connections.is_empty()
     }
 
-    /// Whether there are as many as the port may have.
+    /// Whether the port has its maximum number of pending connections.
     pub(crate) fn is_full(&self) -> bool {
         self.count() >= self.bounds.connections
     }
 
-    /// Whether responses take as much memory as they may.
-    pub(crate) fn is_held_up(&self) -> bool {
+    /// Whether responses take more memory than the bound, so that slow clients are closed.
+    fn is_over_bound(&self) -> bool {
         self.totals.response_bytes > self.bounds.response_bytes
     }
 
-    /// Takes a connection in, which the event loop deals with from then on. Where that can't be had, it
-    /// is given back.
+    /// Whether responses take twice the memory of the bound, so that no further request is served.
+    pub(crate) fn is_held_up(&self) -> bool {
+        self.totals.response_bytes / 2 > self.bounds.response_bytes
+    }
+
+    /// Adds a connection, which the event loop handles from then on. Gives it back if that is not
+    /// possible.
     pub(crate) fn insert(
         &mut self,
         mut connection: PendingConnection,
@@ -153,7 +159,7 @@ impl Pending {
         }
     }
 
-    /// Takes a connection out.
+    /// Removes a connection.
     fn remove(&mut self, key: usize) -> Option<PendingConnection> {
         let connection = self.connections.try_remove(key)?;
         let is_request = connection.is_arriving();
@@ -164,8 +170,7 @@ impl Pending {
         Some(connection)
     }
 
-    /// Deals with a connection that is ready. An event may come late, when the connection isn't there any
-    /// more.
+    /// Handles a connection that is ready. An event may come after the connection was removed.
     pub(crate) fn attend(&mut self, key: usize, now: u64, watch: &Watch) {
         let Some(connection) = self.connections.get_mut(key) else {
             return;
@@ -181,7 +186,7 @@ impl Pending {
         self.regulate(now, watch);
     }
 
-    /// Takes a connection out, and lets a worker have it where its request was awaited; else it is closed.
+    /// Removes a connection. If its request was arriving, a worker gets it; otherwise it is closed.
     fn finish(&mut self, key: usize, watch: &Watch) {
         let Some(connection) = self.remove(key) else {
             return;
@@ -198,7 +203,7 @@ impl Pending {
         watch.over.post();
     }
 
-    /// Gives a worker a connection whose request is over.
+    /// Gives a connection whose request is over to a worker.
     pub(crate) fn take_over(&mut self, now: u64, watch: &Watch) -> Given {
         if let Some(request) = self.over.pop_front() {
             self.totals.remove(true, request.weight());
@@ -216,7 +221,7 @@ impl Pending {
         }
     }
 
-    /// Lets go a connection.
+    /// Closes a connection.
     fn let_go(&mut self, key: usize, watch: &Watch) {
         let Some(connection) = self.connections.get_mut(key) else {
             return;
@@ -229,7 +234,8 @@ impl Pending {
         self.finish(key, watch);
     }
 
-    /// Lets go each connection whose time is up, and slow ones while responses take too much memory.
+    /// Closes each connection whose timeout has passed, and slow ones while responses take too much
+    /// memory.
     pub(crate) fn sweep(&mut self, now: u64, watch: &Watch) {
         for key in 0..self.connections.capacity() {
             let is_late = match self.connections.get(key) {
@@ -244,9 +250,10 @@ impl Pending {
         self.regulate(now, watch);
     }
 
-    /// Where responses take too much memory, closes slow connections until three quarters are enough.
+    /// If responses take too much memory, closes slow connections until they take at most three
+    /// quarters of the bound.
     pub(crate) fn free_responses(&mut self, now: u64, watch: &Watch) {
-        if !self.is_held_up() {
+        if !self.is_over_bound() {
             return;
         }
         let enough = self.bounds.response_bytes / 4 * 3;
@@ -261,8 +268,9 @@ impl Pending {
         }
     }
 
-    /// Lets go the slow connection that made no progress for the longest time, or where responses take too
-    /// much memory, the slow ones of them. Whether there is room then.
+    /// Closes the slow connection that made no progress for the longest time. If the port serves no
+    /// further request because of responses, closes slow connections with responses. Returns whether there
+    /// is room then.
     pub(crate) fn make_room(&mut self, now: u64, watch: &Watch) -> bool {
         if self.is_held_up() {
             self.free_responses(now, watch);
@@ -293,8 +301,8 @@ impl Pending {
         slowest.map(|(key, _moment)| key)
     }
 
-    /// Has large requests paused while requests take too much memory, all but the oldest ones, so that
-    /// some come to their end. They go on once three quarters of the memory are enough.
+    /// Pauses all large requests except the oldest ones while requests take too much memory, so that
+    /// some are completed. They continue when requests take at most three quarters of the bound.
     fn regulate(&mut self, now: u64, watch: &Watch) {
         let most = self.bounds.request_bytes;
         let taken = self.totals.request_bytes;
@@ -312,7 +320,7 @@ impl Pending {
         }
     }
 
-    /// The number of the last one of the oldest large requests.
+    /// The number of the youngest of the large requests that are read while the others are paused.
     fn last_read_number(&self) -> u64 {
         let mut oldest = [u64::MAX; READ_UPLOADS];
         for (_key, connection) in self.connections.iter() {
@@ -327,7 +335,7 @@ impl Pending {
         last
     }
 
-    /// Has the large requests up to a number read, and the others paused.
+    /// Reads the large requests up to a number, and pauses the others.
     fn read_up_to(&mut self, last: u64, now: u64, watch: &Watch) {
         for key in 0..self.connections.capacity() {
             if let Some(connection) = self.connections.get_mut(key)
@@ -339,7 +347,8 @@ impl Pending {
         }
     }
 
-    /// Shuts down: what has sent nothing is let go, now and from now on.
+    /// Begins the graceful shutdown: closes connections that have sent nothing, now and from now
+    /// on.
     pub(crate) fn begin_closing(&mut self, watch: &Watch) {
         self.is_closing = true;
         for key in 0..self.connections.capacity() {
@@ -353,7 +362,7 @@ impl Pending {
         }
     }
 
-    /// Ends: each connection is let go, and none is taken in any more.
+    /// Ends: closes each connection, and adds no further one.
     pub(crate) fn end(&mut self, watch: &Watch) {
         self.has_ended = true;
         for key in 0..self.connections.capacity() {
@@ -362,7 +371,7 @@ impl Pending {
     }
 }
 
-/// Of which connections one is sought.
+/// The connections among which one is searched for.
 #[derive(Clone, Copy, PartialEq, Eq, Debug, Drop)]
 enum Among {
     All,
@@ -378,7 +387,7 @@ impl Among {
     }
 }
 
-/// Puts a number among the least ones, of which the greatest is dropped.
+/// Adds a number to the least ones, and drops the greatest of them.
 fn put_in(least: &mut [u64; READ_UPLOADS], number: u64) {
     let mut next = number;
     for place in least.iter_mut() {

@@ -1,46 +1,47 @@
-//! A connection that no worker has.
+//! A pending connection: no worker has it.
 
 use crate::progress::{FIRST_BYTE_PACE, Pace, Progress, REQUEST_PACE, RESPONSE_PACE};
 use crate::request_buffer::{BufferedRequest, RequestBuffer};
 use crate::response_buffer::{ResponseBuffer, Turn};
 use crate::wait_sets::{Interest, LoopSet};
-use std::net::TcpStream;
+use std::net::{Shutdown, TcpStream};
 
-/// How long, in milliseconds, a client may take nothing of its response, and how long the whole may take.
+/// The time, in milliseconds, for which a client may take nothing of its response, and the timeout of the
+/// whole response.
 const STILL_MILLIS: u64 = 30_000;
 
 const RESPONSE_MILLIS: u64 = 600_000;
 
-/// How long, in milliseconds, a client may still send once it was answered.
-const LINGER_MILLIS: u64 = 10_000;
+/// The time, in milliseconds, for which a client may still send after it was answered.
+const LINGERING_CLOSE_MILLIS: u64 = 10_000;
 
 /// A request of fewer bytes is never paused.
 const SMALL_REQUEST: usize = 1 << 15;
 
-/// What is awaited of a connection.
+/// What a connection waits for.
 #[derive(Drop)]
 enum Stage {
     Request(RequestBuffer),
     Response(ResponseBuffer),
 }
 
-/// A connection whose request is over, and which a worker is to be given.
+/// A connection whose request is over and that is ready for a worker.
 #[derive(Drop)]
 pub(crate) struct OverRequest {
     pub(crate) stream: TcpStream,
     pub(crate) request: BufferedRequest,
-    /// By when the rest of it has to be read, where that is settled.
+    /// The moment by which the rest of it has to be read, if there is one.
     pub(crate) until: Option<u64>,
 }
 
 impl OverRequest {
-    /// How much memory it takes.
+    /// Its memory in bytes.
     pub(crate) fn weight(&self) -> usize {
         self.request.bytes.capacity()
     }
 }
 
-/// A connection that no worker has. Moments are milliseconds from the start of its port.
+/// A pending connection: no worker has it. Moments are milliseconds from the start of its port.
 #[derive(Drop)]
 pub(crate) struct PendingConnection {
     stream: TcpStream,
@@ -50,17 +51,17 @@ pub(crate) struct PendingConnection {
     interest: Interest,
     /// When it began to wait.
     begun: u64,
-    /// When it is let go.
+    /// When its timeout ends.
     until: u64,
-    /// How many bytes were written or passed over.
+    /// The number of bytes that were written or discarded.
     moved: usize,
     progress: Progress,
-    /// Since when its request isn't read, since others take much memory.
+    /// Since when its request is paused, because others take much memory.
     paused_at: u64,
 }
 
 impl PendingConnection {
-    /// A connection whose request is arriving, and has to be over by a moment.
+    /// A connection whose request is arriving and has to be over by a given moment.
     pub(crate) fn arriving(
         stream: TcpStream,
         request: RequestBuffer,
@@ -71,7 +72,7 @@ impl PendingConnection {
         PendingConnection::new(stream, stage, Interest::Input, now, until)
     }
 
-    /// A connection that takes its response, or is passed over.
+    /// A connection that takes its response, or is in its lingering close.
     pub(crate) fn answered(
         stream: TcpStream,
         response: ResponseBuffer,
@@ -79,7 +80,7 @@ impl PendingConnection {
         now: u64,
     ) -> PendingConnection {
         let wait = if response.is_shut() {
-            LINGER_MILLIS
+            LINGERING_CLOSE_MILLIS
         } else {
             STILL_MILLIS
         };
@@ -112,7 +113,7 @@ impl PendingConnection {
         matches!(self.stage, Stage::Request(_))
     }
 
-    /// How much memory it takes.
+    /// Its memory in bytes.
     pub(crate) fn weight(&self) -> usize {
         match &self.stage {
             Stage::Request(request) => request.weight(),
@@ -120,12 +121,12 @@ impl PendingConnection {
         }
     }
 
-    /// Whether its time is up. That of a request that isn't read doesn't pass.
+    /// Whether its timeout has passed. The timeout does not run while its request is paused.
     pub(crate) fn is_late(&self, now: u64) -> bool {
         self.until <= now && self.interest != Interest::Paused
     }
 
-    /// Whether nothing came of its request.
+    /// Whether no byte of its request came.
     pub(crate) fn is_silent(&self) -> bool {
         match &self.stage {
             Stage::Request(request) => request.len() == 0,
@@ -144,7 +145,7 @@ impl PendingConnection {
         self.progress.moment()
     }
 
-    /// Gives it a number; of two connections the older one has the lower one.
+    /// Sets its number. Of two connections the older one has the lower number.
     pub(crate) fn set_number(&mut self, number: u64) {
         self.number = number;
     }
@@ -162,7 +163,7 @@ impl PendingConnection {
         }
     }
 
-    /// How many bytes were moved in all.
+    /// The number of bytes that were moved in all.
     fn count_moved(&self) -> usize {
         match &self.stage {
             Stage::Request(request) => request.len(),
@@ -170,7 +171,7 @@ impl PendingConnection {
         }
     }
 
-    /// Goes on as far as it can without waiting. Whether it is over.
+    /// Continues as far as it can without waiting. Returns whether it is over.
     pub(crate) fn go_on(&mut self, key: usize, now: u64, set: &LoopSet) -> bool {
         let pace = self.pace();
         let is_over = match &mut self.stage {
@@ -194,7 +195,7 @@ impl PendingConnection {
         let is_shut = response.is_shut();
         let moved = response.moved();
         if is_shut && !was_shut {
-            self.until = now.saturating_add(LINGER_MILLIS);
+            self.until = now.saturating_add(LINGERING_CLOSE_MILLIS);
         }
         if !is_shut && moved != self.moved {
             let last = self.begun.saturating_add(RESPONSE_MILLIS);
@@ -207,7 +208,7 @@ impl PendingConnection {
         }
     }
 
-    /// Awaits something else. Whether that could be had.
+    /// Changes what it waits for. Returns whether that succeeded.
     fn awaits(&mut self, interest: Interest, key: usize, set: &LoopSet) -> bool {
         if interest == self.interest {
             return true;
@@ -216,12 +217,12 @@ impl PendingConnection {
         set.change(&self.stream, key, interest).is_ok()
     }
 
-    /// Has it watched. Whether it is.
+    /// Begins to watch it. Returns whether that succeeded.
     pub(crate) fn is_watched_by(&self, set: &LoopSet, key: usize) -> bool {
         set.watch(&self.stream, key, self.interest).is_ok()
     }
 
-    /// Has it watched no longer.
+    /// Stops watching it.
     pub(crate) fn forget(&self, set: &LoopSet) {
         set.forget(&self.stream);
     }
@@ -234,7 +235,7 @@ impl PendingConnection {
         }
     }
 
-    /// Has the request read, or reads no more of it for now; that time doesn't count.
+    /// Reads the request, or pauses it. The time of a pause does not count.
     pub(crate) fn set_read(&mut self, is_read: bool, key: usize, now: u64, set: &LoopSet) {
         let is_paused = self.interest == Interest::Paused;
         if is_read && is_paused {
@@ -248,14 +249,17 @@ impl PendingConnection {
         }
     }
 
-    /// Awaits no more of a request.
+    /// Stops waiting for the rest of a request. Its client sees the end at once, even while all
+    /// workers are busy.
     pub(crate) fn let_go(&mut self) {
         if let Stage::Request(request) = &mut self.stage {
             request.let_go();
+            // the client may have ended it already
+            let _ = self.stream.shutdown(Shutdown::Both);
         }
     }
 
-    /// What a worker is to be given, where a request was awaited. One that isn't over is let go.
+    /// What a worker gets if a request was arriving. A request that is not over is given up.
     pub(crate) fn into_over(self) -> Option<OverRequest> {
         let PendingConnection {
             stream,

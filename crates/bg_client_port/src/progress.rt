@@ -1,7 +1,7 @@
 //! Whether a connection makes progress.
 
-/// What counts as progress: so many bytes within so many milliseconds. Where none come at all, the
-/// wait is shorter.
+/// What counts as progress: this many bytes within this many milliseconds. If no bytes come at all,
+/// the time is shorter.
 #[derive(Clone, Copy, Drop)]
 pub(crate) struct Pace {
     bytes: usize,
@@ -9,7 +9,7 @@ pub(crate) struct Pace {
     silent_millis: u64,
 }
 
-/// The pace of a request of which bytes came, and of one of which none did yet.
+/// The pace of a request that has bytes already, and of one that has none yet.
 pub(crate) const REQUEST_PACE: Pace = Pace {
     bytes: 4096,
     within_millis: 4_000,
@@ -22,14 +22,17 @@ pub(crate) const FIRST_BYTE_PACE: Pace = Pace {
     silent_millis: 1_000,
 };
 
-/// The pace of a client that takes its response, or that is passed over.
+/// The pace of a client that takes its response, or that is in its lingering close. Clients are on
+/// this machine, so a client that reads takes bytes within milliseconds. With a longer time, 500
+/// clients that do not read would fill the memory faster than they are closed, and would block all
+/// other clients.
 pub(crate) const RESPONSE_PACE: Pace = Pace {
     bytes: 1 << 17,
     within_millis: 2_000,
-    silent_millis: 1_000,
+    silent_millis: 250,
 };
 
-/// How far a connection was when it last made progress. Moments are milliseconds from the start of
+/// The state of a connection when it last made progress. Moments are milliseconds from the start of
 /// its port.
 #[derive(Clone, Copy, Drop)]
 pub(crate) struct Progress {
@@ -38,7 +41,7 @@ pub(crate) struct Progress {
 }
 
 impl Progress {
-    /// Nothing was moved yet.
+    /// No byte was moved yet.
     pub(crate) fn from(now: u64) -> Progress {
         Progress {
             moment: now,
@@ -46,7 +49,7 @@ impl Progress {
         }
     }
 
-    /// So many bytes were moved in all.
+    /// Notes that this many bytes were moved in all.
     pub(crate) fn note(&mut self, bytes: usize, pace: Pace, now: u64) {
         if bytes.saturating_sub(self.bytes) >= pace.bytes {
             self.moment = now;
@@ -54,12 +57,12 @@ impl Progress {
         }
     }
 
-    /// The time up to now doesn't count.
+    /// Restarts the time at `now`.
     pub(crate) fn restart(&mut self, now: u64) {
         self.moment = now;
     }
 
-    /// Whether a connection that moved so many bytes in all is slower than its pace.
+    /// Whether a connection that moved this many bytes in all is slower than its pace.
     pub(crate) fn is_slower(&self, bytes: usize, pace: Pace, now: u64) -> bool {
         let passed = now.saturating_sub(self.moment);
         passed >= pace.within_millis || bytes == self.bytes && passed >= pace.silent_millis

@@ -4,7 +4,7 @@ ghost use Rattle.std.specs.Io.{ReadsAtMost};
 
 use crate::bodiless::is_bodiless;
 use crate::body_length::request_length;
-use crate::sockets::{receive_now, send_now};
+use crate::sockets::{PIECE, receive_now, send_now};
 use bg_http_read::{RequestParser, RequestStep};
 use memchr::memchr;
 use std::alloc::Global;
@@ -12,32 +12,29 @@ use std::io::{ErrorKind, Read};
 use std::net::TcpStream;
 use std::{io, mem};
 
-/// How many bytes the first read asks for, by how many a buffer grows at least, and how many bytes each
-/// further read asks for at most.
+/// The number of bytes that the first read asks for, and the least number by which a buffer grows.
 const FIRST_PIECE: usize = 2048;
 
-const PIECE: usize = 16_384;
-
-/// How many reads may follow one another before other connections have their turn.
+/// The number of reads in a row before other connections have their turn.
 const READS_A_TURN: u32 = 4;
 
-/// How many bytes of a request are buffered, as they came. Chunks may have lines of 1,024 bytes each, so
-/// a legal body of 1,048,576 bytes may take a thousand times as many; the worker reads what exceeds
-/// this.
+/// The maximum number of bytes of a request that are buffered, as they came. Chunks may have lines of
+/// 1,024 bytes each, so a valid body of 1,048,576 bytes may take a thousand times as many. The worker
+/// reads what exceeds this.
 const MOST_BUFFERED: usize = 1 << 23;
 
-/// How a request came to be over.
+/// Why a request is over.
 #[derive(Clone, Copy, PartialEq, Eq, Debug, Drop)]
 pub(crate) enum Ending {
-    /// It is whole, or has a fault: whatever follows changes nothing.
+    /// It is complete or faulty. Further bytes change nothing.
     Decided,
-    /// The client ended its input before.
+    /// The client ended its input before the end of the request.
     Ended,
-    /// Reading failed.
+    /// A read failed.
     Failed,
     /// The client took too long, or its connection had to make room for others.
     LetGo,
-    /// It isn't over, and no more of it is buffered: the worker reads the rest.
+    /// It is not over, but no more of it is buffered. The worker reads the rest.
     Unbuffered,
 }
 
@@ -48,7 +45,7 @@ struct OpenParser {
     ghost open: { IsTrue parser.is_open },
 }
 
-/// What comes of bytes that a parser was fed.
+/// The result of feeding bytes to a parser.
 #[derive(Drop)]
 enum Fed {
     More(OpenParser),
@@ -76,7 +73,7 @@ impl OpenParser {
 /// How the end of a request is found.
 #[derive(Drop)]
 enum Extent {
-    /// Nothing was looked at.
+    /// No bytes were examined yet.
     Unknown,
     /// By a parser.
     Parsed(OpenParser),
@@ -84,14 +81,14 @@ enum Extent {
     Length(usize),
 }
 
-/// A request that is arriving, with its bytes as they came. It is parsed only to see where it ends;
-/// the worker that serves it reads it again from these bytes.
+/// A request that is arriving, with its bytes as they came. It is parsed only to find its end. The
+/// worker that serves it parses these bytes again.
 #[derive(Drop)]
 pub(crate) struct RequestBuffer {
     alloc: Global,
     bytes: Vec<u8>,
     extent: Extent,
-    /// Whether the client was written `100 Continue`.
+    /// Whether `100 Continue` was written to the client.
     was_continued: bool,
     ending: Option<Ending>,
 }
@@ -100,13 +97,13 @@ pub(crate) struct RequestBuffer {
 #[derive(Drop)]
 pub(crate) struct BufferedRequest {
     pub(crate) bytes: Vec<u8>,
-    /// Whether the client was written `100 Continue`.
+    /// Whether `100 Continue` was written to the client.
     pub(crate) was_continued: bool,
     pub(crate) ending: Ending,
 }
 
 impl RequestBuffer {
-    /// Nothing came yet.
+    /// A buffer before the first byte.
     pub(crate) fn new(alloc: Global) -> RequestBuffer {
         RequestBuffer {
             alloc,
@@ -117,17 +114,17 @@ impl RequestBuffer {
         }
     }
 
-    /// Whether the request is over, or the rest of it is left to the worker.
+    /// Whether the request is over, or its rest is left to the worker.
     pub(crate) fn is_over(&self) -> bool {
         self.ending.is_some()
     }
 
-    /// How many bytes came.
+    /// The number of bytes that came.
     pub(crate) fn len(&self) -> usize {
         self.bytes.len()
     }
 
-    /// How much memory it takes at most, with what the parser keeps of a body, whose room doubles.
+    /// Its maximum memory in bytes, with the body that the parser keeps, whose capacity doubles.
     pub(crate) fn weight(&self) -> usize {
         let room = self.bytes.capacity();
         match self.extent {
@@ -136,7 +133,7 @@ impl RequestBuffer {
         }
     }
 
-    /// Awaits no more, and keeps nothing of what came.
+    /// Gives the request up, and drops the bytes that came.
     pub(crate) fn let_go(&mut self) {
         self.bytes.clear();
         self.bytes.shrink_to_fit();
@@ -144,7 +141,7 @@ impl RequestBuffer {
         self.ending = Some(Ending::LetGo);
     }
 
-    /// What came. What is still arriving counts as let go.
+    /// The bytes that came. A request that is still arriving counts as given up.
     pub(crate) fn into_buffered(self) -> BufferedRequest {
         let RequestBuffer {
             bytes,
@@ -159,12 +156,12 @@ impl RequestBuffer {
         }
     }
 
-    /// Makes the first read, which waits as the stream does.
+    /// Makes the first read, which waits as long as the stream's timeout says.
     pub(crate) fn read_first(&mut self, stream: &TcpStream) {
         self.read_piece(stream, FIRST_PIECE, Manner::Waits);
     }
 
-    /// Reads what is there, as much as its turn allows.
+    /// Reads the available bytes, as many as its turn allows.
     pub(crate) fn read_on(&mut self, stream: &TcpStream) {
         for _ in 0..READS_A_TURN {
             let may_bring_more = self.read_piece(stream, PIECE, Manner::AtOnce);
@@ -174,7 +171,7 @@ impl RequestBuffer {
         }
     }
 
-    /// Makes one read, behind the bytes that came. Whether another may bring more.
+    /// Makes one read, and appends its bytes. Returns whether another read may give more.
     fn read_piece(&mut self, stream: &TcpStream, most: usize, manner: Manner) -> bool {
         let start = self.bytes.len();
         let room = self.make_room(most);
@@ -200,8 +197,7 @@ impl RequestBuffer {
         true
     }
 
-    /// Makes room for some bytes, for so many at most, and says for how many. There is none where memory
-    /// is refused.
+    /// Reserves memory for at most `most` bytes, and gives the number; 0 if the allocation fails.
     fn make_room(&mut self, most: usize) -> usize {
         let count = self.bytes.len();
         if self.bytes.capacity() <= count {
@@ -223,7 +219,7 @@ impl RequestBuffer {
         self.ending = Some(Ending::Unbuffered);
     }
 
-    /// Looks at the bytes that came from a place on.
+    /// Examines the bytes from a position on.
     fn look(&mut self, start: usize, stream: &TcpStream) {
         if start == 0 && is_bodiless(&self.bytes) {
             self.ending = Some(Ending::Decided);
@@ -239,7 +235,7 @@ impl RequestBuffer {
         }
     }
 
-    /// The bytes that came from a place on.
+    /// The bytes from a position on.
     fn bytes_from(&self, start: usize) -> &[u8] {
         match self.bytes.as_slice().get(start..) {
             Some(bytes) => bytes,
@@ -247,7 +243,7 @@ impl RequestBuffer {
         }
     }
 
-    /// Goes on up to so many bytes in all.
+    /// Waits until this many bytes came in all.
     fn await_length(&mut self, length: usize) {
         if self.bytes.len() >= length {
             self.ending = Some(Ending::Decided);
@@ -256,7 +252,7 @@ impl RequestBuffer {
         }
     }
 
-    /// Feeds the parser, and writes `100 Continue` where it is owed before the body is looked at.
+    /// Feeds the parser, and writes `100 Continue` if it is owed before the body is parsed.
     fn parse(&mut self, parser: OpenParser, start: usize, stream: &TcpStream) {
         let fed = match parser.feed(self.bytes_from(start)) {
             Fed::OwesContinue(parser) => {
@@ -264,7 +260,7 @@ impl RequestBuffer {
                 if self.was_continued {
                     parser.feed(&[])
                 } else {
-                    // the worker finds that it can't be written
+                    // the worker finds that it cannot be written
                     Fed::Decided
                 }
             }
@@ -276,8 +272,8 @@ impl RequestBuffer {
         }
     }
 
-    /// Goes on with a request that isn't over. Where its head, which has no fault, has come and tells its
-    /// length, the parser isn't needed any more.
+    /// Continues with a request that is not over. If its head is complete and gives the length, the
+    /// parser is not needed any more.
     fn go_on(&mut self, parser: OpenParser, start: usize) {
         if memchr(b'\n', self.bytes_from(start)).is_some()
             && let Some(length) = request_length(&self.bytes)
@@ -289,7 +285,7 @@ impl RequestBuffer {
     }
 }
 
-/// Whether a read waits as the stream does, or not at all.
+/// Whether a read waits as long as the stream's timeout says, or not at all.
 #[derive(Clone, Copy, PartialEq, Eq, Debug, Drop)]
 enum Manner {
     Waits,
@@ -306,7 +302,7 @@ fn read_by(stream: &TcpStream, buf: &mut [u8], manner: Manner) -> io::Result<usi
     }
 }
 
-/// Writes `100 Continue` whole, without waiting. Whether it was.
+/// Writes all of `100 Continue` without waiting. Returns whether that succeeded.
 fn send_continue(stream: &TcpStream) -> bool {
     let text = b"HTTP/1.1 100 Continue\r\n\r\n";
     match send_now(stream, text) {

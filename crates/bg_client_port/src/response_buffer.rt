@@ -1,49 +1,46 @@
-//! Responses that their clients still take, and connections that are closed without a reset.
+//! Response buffering, and the lingering close of connections.
 
-use crate::sockets::{is_drained, receive_now, send_now};
+use crate::sockets::{PIECE, is_drained, receive_now, send_now};
 use crate::wait_sets::Interest;
 use std::io;
 use std::io::ErrorKind;
 use std::net::{Shutdown, TcpStream};
 
-/// How many bytes a client may still send once it was answered.
+/// The maximum number of bytes that a client may still send after it was answered.
 const MOST_PASSED_OVER: usize = 1 << 24;
 
-/// How many writes, and how many reads, may follow one another before other connections have their turn.
+/// The number of writes, and of reads, in a row before other connections have their turn.
 const CALLS_A_TURN: u32 = 16;
-
-/// How many bytes are passed over at once.
-const PIECE: usize = 16_384;
 
 /// How a turn ends.
 #[derive(Clone, Copy, PartialEq, Eq, Debug, Drop)]
 pub(crate) enum Turn {
     /// The connection waits.
     Waits(Interest),
-    /// The connection is to be closed.
+    /// The connection has to be closed.
     Over,
 }
 
-/// What is left of a response, and the closing of its connection: once the response is written, and
-/// where bytes of the client are unread or more may come of its request, the writing side is shut
-/// first, and what the client still sends is passed over for a while. A socket that is closed with
-/// bytes unread resets the connection, and the client may lose its response (RFC 9112 section 9.6;
-/// nginx calls it `lingering_close`).
+/// The rest of a response, and the lingering close of its connection. After the response is
+/// written, if bytes of the client are unread or more of its request may come, the writing side is
+/// shut first, and the bytes that the client still sends are discarded for a while. If a socket is
+/// closed with unread bytes, the system resets the connection, and the client may lose its response
+/// (RFC 9112 section 9.6; nginx calls this `lingering_close`).
 #[derive(Drop)]
 pub(crate) struct ResponseBuffer {
     response: Vec<u8>,
-    /// How many bytes of the response were written.
+    /// The number of bytes of the response that were written.
     written: usize,
-    /// Whether the request was read whole; else the client may still be sending it.
+    /// Whether the whole request was read. If not, the client may still be sending it.
     was_whole: bool,
     /// Whether the writing side is shut.
     is_shut: bool,
-    /// How many bytes were passed over.
+    /// The number of bytes that were discarded.
     passed: usize,
 }
 
 impl ResponseBuffer {
-    /// So much of a response is left.
+    /// The rest of a response.
     pub(crate) fn new(response: Vec<u8>, was_whole: bool) -> ResponseBuffer {
         ResponseBuffer {
             response,
@@ -59,7 +56,7 @@ impl ResponseBuffer {
         self.response.capacity()
     }
 
-    /// How many bytes were moved in all: written or passed over.
+    /// The number of bytes that were moved in all: written or discarded.
     pub(crate) fn moved(&self) -> usize {
         self.written.saturating_add(self.passed)
     }
@@ -69,7 +66,7 @@ impl ResponseBuffer {
         self.is_shut
     }
 
-    /// Goes on as far as it can without waiting, and as its turn allows.
+    /// Continues as far as it can without waiting, and as its turn allows.
     pub(crate) fn go_on(&mut self, stream: &TcpStream) -> Turn {
         match self.write_on(stream) {
             Ok(true) => {}
@@ -85,7 +82,7 @@ impl ResponseBuffer {
         self.pass_over(stream)
     }
 
-    /// What is still to be written.
+    /// The bytes that are still to be written.
     fn rest(&self) -> &[u8] {
         match self.response.as_slice().get(self.written..) {
             Some(rest) => rest,
@@ -93,7 +90,7 @@ impl ResponseBuffer {
         }
     }
 
-    /// Writes what the client takes. Whether the response is written.
+    /// Writes what the client takes. Returns whether the whole response is written.
     fn write_on(&mut self, stream: &TcpStream) -> io::Result<bool> {
         for _ in 0..CALLS_A_TURN {
             if self.rest().is_empty() {
@@ -111,7 +108,7 @@ impl ResponseBuffer {
         Ok(self.rest().is_empty())
     }
 
-    /// Passes over what still comes, up to the bound.
+    /// Discards the bytes that still come, up to the bound.
     fn pass_over(&mut self, stream: &TcpStream) -> Turn {
         let mut piece = [0u8; PIECE];
         for _ in 0..CALLS_A_TURN {

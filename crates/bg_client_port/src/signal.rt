@@ -7,17 +7,17 @@ use os::FromRawFd;
 use std::io;
 use std::os::fd::{AsRawFd, OwnedFd, RawFd};
 
-/// Each read takes one of what was posted (`EFD_SEMAPHORE` of eventfd(2)).
+/// Each read takes one post (`EFD_SEMAPHORE` of eventfd(2)).
 const SEMAPHORE: i32 = 1;
 
-/// A count of what was posted, which wait sets can watch: it is readable while it isn't 0.
+/// A count of posts that wait sets can watch. It is readable while it is not 0.
 #[derive(Drop)]
 pub(crate) struct Signal {
     counter: OwnedFd,
 }
 
 impl Signal {
-    /// Nothing was posted.
+    /// A signal with no posts.
     pub(crate) fn new() -> io::Result<Signal> {
         let fd = eventfd(0, EFD_CLOEXEC | EFD_NONBLOCK | SEMAPHORE);
         if fd < 0 {
@@ -28,22 +28,22 @@ impl Signal {
         })
     }
 
-    /// The descriptor to be watched.
+    /// The descriptor that is watched.
     pub(crate) fn descriptor(&self) -> RawFd {
         self.counter.as_raw_fd()
     }
 
-    /// Adds one. It ends the wait of one thread that watches, or of its next one.
+    /// Adds one post. It ends the wait of one watching thread, or the next wait.
     pub(crate) fn post(&self) {
         libc::write(self.counter.as_raw_fd(), &1u64.to_ne_bytes());
     }
 
-    /// Takes one, where there is one.
+    /// Takes one post, if there is one.
     pub(crate) fn take(&self) {
         libc::read(self.counter.as_raw_fd(), &mut [0u8; 8]);
     }
 
-    /// Waits until there is one, for so many milliseconds at most.
+    /// Waits for a post, for at most `millis` milliseconds.
     pub(crate) fn wait(&self, millis: i32) {
         let mut asked = [pollfd {
             fd: self.counter.as_raw_fd(),

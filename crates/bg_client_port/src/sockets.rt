@@ -11,12 +11,16 @@ use std::io;
 use std::net::TcpStream;
 use std::os::fd::AsRawFd;
 
+/// The maximum number of bytes that one read of a connection asks for.
+pub(crate) const PIECE: usize = 16_384;
+
 /// The error of the system call that failed just now.
 pub(crate) fn last_error() -> io::Error {
     io::Error::from_raw_os_error(errno())
 }
 
-/// How many bytes a call moved, of so many; a negative count says that it failed.
+/// The number of bytes that a call moved, at most `most`. A negative count means that the call
+/// failed.
 fn moved(count: isize, most: usize) -> io::Result<usize>
     ensures { IfOk result (λ moved. moved ≤ most) }
 {
@@ -26,7 +30,7 @@ fn moved(count: isize, most: usize) -> io::Result<usize>
     Ok((count as usize).min(most))
 }
 
-/// Reads what is there. Where nothing is, the error is WouldBlock.
+/// Reads the available bytes. If there are none, the error is WouldBlock.
 pub(crate) fn receive_now(stream: &TcpStream, buf: &mut [u8]) -> io::Result<usize>
     ensures { ReadsAtMost result buf.new }
 {
@@ -35,7 +39,7 @@ pub(crate) fn receive_now(stream: &TcpStream, buf: &mut [u8]) -> io::Result<usiz
     moved(count, most)
 }
 
-/// Writes what the system takes at once. Where it takes nothing, the error is WouldBlock.
+/// Writes what the system takes at once. If it takes nothing, the error is WouldBlock.
 pub(crate) fn send_now(stream: &TcpStream, bytes: &[u8]) -> io::Result<usize>
     ensures { WritesAtMost result bytes.now }
 {
@@ -53,7 +57,7 @@ pub(crate) fn is_drained(stream: &TcpStream) -> bool {
     }
 }
 
-/// What the system knows of the other end of a connection.
+/// What the system knows about the other end of a connection.
 #[derive(Clone, Copy, PartialEq, Eq, Debug, Drop)]
 pub(crate) enum OtherEnd {
     /// It may still send.
@@ -64,7 +68,7 @@ pub(crate) enum OtherEnd {
     Reset,
 }
 
-/// What the system knows of the other end. A call that fails tells nothing.
+/// What the system knows about the other end. If the call fails, the result is `Open`.
 pub(crate) fn other_end(stream: &TcpStream) -> OtherEnd {
     let mut asked = [pollfd {
         fd: stream.as_raw_fd(),

@@ -12,21 +12,21 @@ use std::io;
 use std::net::{TcpListener, TcpStream};
 use std::os::fd::{AsRawFd, OwnedFd, RawFd};
 
-/// How long one wait lasts at most, in milliseconds.
+/// The longest wait, in milliseconds.
 const LONGEST_WAIT_MILLIS: i32 = 1_000;
 
 /// An event wakes one of the waiting sets alone (`EPOLLEXCLUSIVE` of epoll_ctl(2)).
 const EXCLUSIVE: u32 = 1 << 28;
 
-/// What the events of a worker's set are of.
+/// The sources of the events of a worker's set.
 const LISTENER: u64 = 0;
 
 const OVER: u64 = 1;
 
-/// What the event loop is told of that is no connection.
+/// The key of the event that wakes the event loop and belongs to no connection.
 const WAKE_UP: u64 = u64::MAX;
 
-/// A set of descriptors of which one thread waits for events (epoll(7)). It tells of a descriptor as
+/// A set of descriptors for whose events one thread waits (epoll(7)). It reports a descriptor as
 /// long as it is ready.
 #[derive(Drop)]
 struct Set {
@@ -58,10 +58,10 @@ impl Set {
     }
 }
 
-/// What a worker's wait ends with.
+/// The result of a worker's wait.
 #[derive(Clone, Copy, PartialEq, Eq, Debug, Drop)]
 pub(crate) enum Ready {
-    /// Nothing, for as long as one wait lasts.
+    /// No event came during the longest wait.
     Nothing,
     /// A connection waits at the listener.
     Listener,
@@ -69,10 +69,11 @@ pub(crate) enum Ready {
     Over,
 }
 
-/// Where one worker waits, for the listener and for pending connections whose request is over.
+/// The set at which one worker waits for the listener and for pending connections whose request is
+/// over.
 ///
-/// Each worker has a set of its own, and what comes wakes one of those that wait, as a blocking accept
-/// would. A single set for all would be a lock that each request takes twice.
+/// Each worker has its own set, and an event wakes one of the waiting workers, as a blocking accept
+/// would. A single set for all workers would need a lock, which each request would take twice.
 #[derive(Drop)]
 pub(crate) struct WaitSet {
     set: Set,
@@ -102,7 +103,7 @@ impl WaitSet {
         }
     }
 
-    /// Watches the listener no longer.
+    /// Stops watching the listener.
     pub(crate) fn forget(&self, listener: &TcpListener) {
         let _ = self
             .set
@@ -110,18 +111,16 @@ impl WaitSet {
     }
 }
 
-/// The wait sets of a port, one for each worker. A worker takes one as it begins to wait, and gives it
-/// back once the connection that it was given has ended.
+/// The wait sets of a port, one for each worker. A worker takes a set when it begins to wait, and
+/// gives it back after the connection that it was given has ended.
 #[derive(Drop)]
 pub(crate) struct WaitSets {
     free: Vec<WaitSet>,
     total: usize,
-    /// How many were taken at once, at most.
-    most_taken: usize,
 }
 
 impl WaitSets {
-    /// Sets for so many workers.
+    /// Sets for this many workers.
     pub(crate) fn new(
         alloc: Global,
         workers: usize,
@@ -135,38 +134,35 @@ impl WaitSets {
         Ok(WaitSets {
             free,
             total: workers,
-            most_taken: 0,
         })
     }
 
-    /// A set that nobody has.
+    /// Takes a free set.
     pub(crate) fn take(&mut self) -> Option<WaitSet> {
-        let set = self.free.pop()?;
-        let taken = self.total.saturating_sub(self.free.len());
-        self.most_taken = self.most_taken.max(taken);
-        Some(set)
+        self.free.pop()
     }
 
     /// Gives a set back.
     pub(crate) fn give_back(&mut self, set: WaitSet) {
-        // there is room for as many as there ever were
+        // there is room for all sets
         let _ = self.free.push(set);
     }
 
-    /// How many were taken at once, at most.
-    pub(crate) fn most_taken(&self) -> usize {
-        self.most_taken
+    /// The number of sets that are taken.
+    pub(crate) fn taken(&self) -> usize {
+        self.total.saturating_sub(self.free.len())
     }
 }
 
-/// What the event loop awaits of a pending connection. That it was reset is told in any case.
+/// The events of a pending connection for which the event loop waits. A reset is reported in any
+/// case.
 #[derive(Clone, Copy, PartialEq, Eq, Debug, Drop)]
 pub(crate) enum Interest {
-    /// Bytes that come.
+    /// Bytes can be read.
     Input,
-    /// Room for bytes that are to be written.
+    /// Bytes can be written.
     Output,
-    /// Nothing else.
+    /// Nothing but a reset.
     Paused,
 }
 
@@ -180,10 +176,10 @@ impl Interest {
     }
 }
 
-/// How many events the event loop takes at once.
+/// The number of events that the event loop takes at once.
 pub(crate) const MOST_EVENTS: usize = 64;
 
-/// Where the event loop waits for pending connections, each of which has a key.
+/// The set at which the event loop waits for pending connections. Each connection has a key.
 #[derive(Drop)]
 pub(crate) struct LoopSet {
     set: Set,
@@ -204,8 +200,8 @@ impl LoopSet {
         self.wake_up.post();
     }
 
-    /// Waits for events, and puts the keys of connections that they are of at the front. How many
-    /// events there were; a key that is no connection's may be among them.
+    /// Waits for events, and puts the keys of their connections at the front of `keys`. Gives the
+    /// number of events. The keys may include one that belongs to no connection.
     pub(crate) fn wait(&self, millis: i32, keys: &mut [usize; MOST_EVENTS]) -> usize {
         let mut events = [EpollEvent { events: 0, data: 0 }; MOST_EVENTS];
         let count = self.set.wait(&mut events, millis);
@@ -233,7 +229,7 @@ impl LoopSet {
         )
     }
 
-    /// Awaits something else of a connection that is watched.
+    /// Changes the events for which a watched connection waits.
     pub(crate) fn change(
         &self,
         stream: &TcpStream,
@@ -248,7 +244,7 @@ impl LoopSet {
         )
     }
 
-    /// Watches a connection no longer.
+    /// Stops watching a connection.
     pub(crate) fn forget(&self, stream: &TcpStream) {
         let _ = self.set.control(EPOLL_CTL_DEL, stream.as_raw_fd(), 0, 0);
     }

@@ -1,4 +1,4 @@
--- What holds of words that the program takes.
+-- The facts about words that the program accepts.
 use Rattle.std.proofs.Common.{◌≡◌, ◌≢◌, ◌⊎◌, inl, inr, arith, slice_index, ℕ, List, [], ◌∷◌, refl, sym, ◌∙◌, ap, subst}
 use Rattle.std.specs.Prelude.{Bool, true, false, ◌&&◌, ◌||◌, not, Option, Some, None, is_some, find, cond, codes, fold, length, option_map, option_and_then, slice_get, bytes_eq}
 use Rattle.std.specs.List.{list_all, list_any}
@@ -40,7 +40,7 @@ abbrev Among : Shape → List Shape → Type 0
 Among s [] = ⊥
 Among s (x ∷ xs) = (x ≡ s) ⊎ Among s xs
 
--- the words enter one of the subcommands, and it takes the words that are left
+-- the words enter one of the subcommands, and it accepts the remaining words
 pub record Enters (a : App) (stop : Option (Text × List Text)) : Type 0 where
   pub shape : Shape
   pub among : Among shape a.subs
@@ -132,7 +132,7 @@ default_one : (c : List Rule) (b : Bool) (other rows : List Row) → AreGood c o
 default_one c true other rows h g = g
 default_one c false other rows h g = h
 
--- the default of an argument keeps what holds of the rows
+-- the default of an argument keeps the facts about the rows
 abbrev DefaultKeeps : List Rule → Rule → Type 0
 DefaultKeeps c a = (rows : List Row) → AreGood c rows → AreGood c (with_default rows a)
 
@@ -187,7 +187,7 @@ in_range c r id most rows own plain parser good t at =
     let test : accepts false (value_parser.Unsigned 1 most) t ≡ true = rw (plain, parser) at own_pass in
     accepts-Accepts false (value_parser.Unsigned 1 most) t test
 
--- `--seats` has a number from 1 to 8, where it is given
+-- `--seats` has a number from 1 to 8, if it is given
 replay_known : (words : List Text) → level_fault replay [] nothing_held words false [] ≡ [] → IsIn 1 8 (codes "seats") (rows_after replay.rules [] words)
 replay_known words e =
     let rows = rows_after replay.rules [] words in
@@ -272,7 +272,7 @@ first_given : (given other : Bool) → (not given || other) ≡ false → (given
 first_given true other e = (refl, e)
 first_given false other e = cc
 
--- an argument that has to be given unless `forever` holds
+-- an argument that is required unless `forever` holds
 unless_given : (forever given other : Bool) → ((not forever && not given) || other) ≡ false → forever ≡ false → given ≡ true
 unless_given true given other e limited = cc
 unless_given false true other e limited = refl
@@ -432,7 +432,7 @@ fault_as words app e (Words x) is has from =
     ] in
     rw from.0 (among, from.1)
 
--- words that `clap` takes give no error but that of a conflict
+-- words that `clap` accepts give no error other than that of a conflict
 kinds_are : (words : List Text) (name : Text) (rows : List Row) (b : Bool) → fault_of (program (has_forever words)) words ≡ []
     → subcommand_of (program (has_forever words)) words ≡ Some (name, rows) → is_in_conflict (has_forever words) rows ≡ b
     → kinds_of words ≡ cond b (kind.ArgumentConflict ∷ []) []

@@ -102,7 +102,7 @@ pub option_full : (a : Rule) (values : List Text) → range_kinds 1 1 (length va
 option_full a [] one = cc
 option_full a (v ∷ vs) one = refl
 
--- a use of a flag has a value, also where none is written
+-- a use of a flag has a value, even if none is written
 pub flag_full : (a : Rule) (values : List Text) → has_none a.missing ≡ false → has_none (values_or_missing a values) ≡ false
 flag_full a [] missing = missing
 flag_full a (v ∷ vs) missing = refl

@@ -1,4 +1,4 @@
--- What holds of the rows of a simple command at words that it takes: what each use keeps.
+-- The facts about the rows of a simple command for words that it accepts, which each use keeps.
 use Rattle.std.proofs.Common.{◌≡◌, ℕ, zero, suc, List, [], ◌∷◌, refl}
 use Rattle.std.specs.Prelude.{Bool, true, false, not, ◌&&◌, Option, Some, None, is_some, find, fold, length, drop, slice_get, cond, encode_utf8, bytes_eq, chars}
 use Rattle.std.specs.Option.{option_map_or}

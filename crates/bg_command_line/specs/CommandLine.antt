@@ -17,7 +17,7 @@ use Rattle.bg_command_line.specs.declared.orders.Site.{Site}
 use Rattle.bg_command_line.specs.declared.orders.OrderFault.{OrderFault}
 use Rattle.bg_command_line.specs.declared.orders.OrderFault.TheVariants.{Words, OutOfMemory}
 
--- `--NAME N`, N from 1 to `most`
+-- `--NAME N`, with N from 1 to `most`
 abbrev pub number_rule : Text → ℕ → Rule
 number_rule name most = record (new_rule name) {
   long = Some name;
@@ -25,7 +25,7 @@ number_rule name most = record (new_rule name) {
   parser = Some (value_parser.Unsigned 1 most);
 }
 
--- `--NAME N`, N from 1 to `most`, which has to be given
+-- the required `--NAME N`, with N from 1 to `most`
 abbrev pub required_rule : Text → ℕ → Rule
 required_rule name most = record (number_rule name most) { required = true }
 
@@ -42,7 +42,7 @@ abbrev pub with_port_rules : App → App
 with_port_rules a = with_rule (with_rule (with_rule a (required_rule (codes "active") 65535))
     (number_rule (codes "preview") 65535)) (required_rule (codes "control") 65535)
 
--- `--count K`, K from 1 to 1,000,000, which has to be given unless `--forever` is
+-- `--count K`, with K from 1 to 1,000,000, which is required unless `--forever` is given
 abbrev pub count_rule : Bool → Rule
 count_rule forever = record (number_rule (codes "count") 1000000) { required = not forever }
 
@@ -54,14 +54,13 @@ forever_rule forever = record (new_rule (codes "forever")) {
   required = forever;
 }
 
--- `serve --active P [--preview P] --control P --workers N`, and `--count K` or `--forever`, of which the
--- one has to be given that `forever` says
+-- `serve --active P [--preview P] --control P --workers N`, and `--count K` or `--forever`; `forever`
+-- says which of the two is required
 abbrev pub serve_app : Bool → App
 serve_app forever = with_rule (with_rule (with_rule (with_port_rules (new_app (codes "serve")))
     (required_rule (codes "workers") 7)) (count_rule forever)) (forever_rule forever)
 
--- `bg_switch`, which tells its version, and has to be followed by a subcommand; there is no subcommand
--- `help`
+-- `bg_switch`, which has a version and requires a subcommand; there is no subcommand `help`
 abbrev pub top_app : App
 top_app = record {
   top = record (new_app (codes "bg_switch")).top {
@@ -72,7 +71,7 @@ top_app = record {
   subs = [];
 }
 
--- the whole command line, for words that have `--forever` or not
+-- the whole command line, for words with or without `--forever`
 abbrev pub program : Bool → App
 program forever = with_subcommand (with_subcommand (with_subcommand top_app check_app.top)
     replay_app.top) (serve_app forever).top
@@ -81,7 +80,7 @@ program forever = with_subcommand (with_subcommand (with_subcommand top_app chec
 abbrev pub has_forever : List Text → Bool
 has_forever words = list_any (λ w. bytes_eq w (codes "--forever")) (drop 1 words)
 
--- `--count` is given beside `--forever`
+-- `--count` is given together with `--forever`
 abbrev pub is_in_conflict : Bool → List Row → Bool
 is_in_conflict forever rows = forever && is_some (first_of (codes "count") rows)
 
@@ -90,18 +89,18 @@ conflict_kinds forever None = []
 conflict_kinds forever (Some s) =
     if is_in_conflict forever s.1 then kind.ArgumentConflict ∷ [] else []
 
--- the kinds of error that words may give: those of `clap`, and where it takes them that of a conflict
+-- the kinds of error that words may give: those of `clap`, and if it accepts them, that of a conflict
 abbrev pub kinds_of : List Text → Kinds
 kinds_of words =
     let forever = has_forever words in
     or_else (fault_of (program forever) words)
     (conflict_kinds forever (subcommand_of (program forever) words))
 
--- the number that a text of digits is
+-- the number that a text of digits stands for
 abbrev pub number : Text → ℕ
 number t = digits_value 10 (without_leading_plus t)
 
--- the number that an argument has, where it is given
+-- the number of an argument, if it is given
 abbrev pub number_of : Text → List Row → Option ℕ
 number_of id rows = option_map number (first_of id rows)
 
@@ -109,18 +108,18 @@ number_of id rows = option_map number (first_of id rows)
 abbrev pub IsBetween : ℕ → ℕ → ℕ → Type 0
 IsBetween least most n = (least ≤ n) × (n ≤ most)
 
--- the argument is given, and the number is its own, in this range
+-- the argument is given with this number, which is in this range
 abbrev pub IsGiven : ℕ → ℕ → Text → List Row → ℕ → Type 0
 IsGiven least most id rows n = (number_of id rows ≡ Some n) × IsBetween least most n
 
--- how many connections each worker takes: as many as `--count` says, or no limit where `--forever` is
--- given
+-- the number of connections that each worker takes: the number of `--count`, or no limit if
+-- `--forever` is given
 abbrev pub AreConnections : Bool → List Row → Connections → Type 0
 AreConnections forever rows (Count n) =
     (forever ≡ false) × IsGiven 1 1000000 (codes "count") rows n
 AreConnections forever rows Forever = forever ≡ true
 
--- what `serve` is given
+-- the arguments of `serve`
 pub record IsServe (forever : Bool) (rows : List Row) (site : Site) : Type 0 where
   pub active_is : IsGiven 1 65535 (codes "active") rows site.active
   pub preview_is : site.preview ≡ number_of (codes "preview") rows
@@ -129,7 +128,7 @@ pub record IsServe (forever : Bool) (rows : List Row) (site : Site) : Type 0 whe
   pub workers_is : IsGiven 1 7 (codes "workers") rows site.workers
   pub connections_are : AreConnections forever rows site.connections
 
--- the order is the subcommand of this name with these matches; 4 seats where no number is given
+-- the order is the subcommand of this name with these matches; 4 seats if no number is given
 abbrev pub IsOrderOf : Bool → Text → List Row → Order → Type 0
 IsOrderOf forever name rows Check = name ≡ codes "check"
 IsOrderOf forever name rows (Replay seats) = (name ≡ codes "replay")
@@ -143,18 +142,23 @@ IsOrderIn words o = (kinds_of words ≡ [])
     × (subcommand_of (program (has_forever words)) words ≡ Some (name, rows))
     × IsOrderOf (has_forever words) name rows o)
 
--- memory was refused, or the words are refused with this error
+-- an allocation failed, or the words are refused with this error
 abbrev pub IsFaultIn : List Text → OrderFault → Type 0
 IsFaultIn words OutOfMemory = Unit {0}
 IsFaultIn words (Words e) =
     IsAmong (kind_of e) (kinds_of words) × (kind_of e ≢ kind.OutOfMemory)
 
--- the fault that an error of `clap` is
+-- the words ask for the program's version
+abbrev pub AsksForVersion : OrderFault → Type 0
+AsksForVersion OutOfMemory = ⊥
+AsksForVersion (Words e) = kind_of e ≡ kind.DisplayVersion
+
+-- the fault for an error of `clap`
 abbrev pub IsFaultFrom : Error → OrderFault → Type 0
 IsFaultFrom e OutOfMemory = kind_of e ≡ kind.OutOfMemory
 IsFaultFrom e (Words x) = (x ≡ e) × (kind_of e ≢ kind.OutOfMemory)
 
--- the argument is a number in this range, where it is given
+-- the argument is a number in this range, if it is given
 abbrev pub IsIn : ℕ → ℕ → Text → List Row → Type 0
 IsIn least most id rows = (t : Text) → first_of id rows ≡ Some t → IsUnsignedIn least most t
 
@@ -172,7 +176,7 @@ pub record HasWordsOfServe (forever : Bool) (rows : List Row) : Type 0 where
   pub count : IsIn 1 1000000 (codes "count") rows
   pub count_given : forever ≡ false → is_some (first_of (codes "count") rows) ≡ true
 
--- what the name of a subcommand that was taken says of its matches
+-- what the name of an accepted subcommand says about its matches
 pub record IsKnown (forever : Bool) (name : Text) (rows : List Row) : Type 0 where
   pub is_serve : name ≢ codes "check" → name ≢ codes "replay" → name ≡ codes "serve"
   pub seats : name ≡ codes "replay" → IsIn 1 8 (codes "seats") rows

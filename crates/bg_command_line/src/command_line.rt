@@ -14,7 +14,7 @@ const GREATEST_PORT: u64 = 65_535;
 /// The program's version.
 const VERSION: &str = "0.1.0";
 
-/// What the help of `serve` says beside its words.
+/// The notes in the help of `serve`.
 const NOTES_ON_SERVING: &str = "\
 One of --count and --forever has to be given, and not both.
 With --count, any connection counts, a health check too, and one that sends nothing. Once the workers
@@ -27,7 +27,7 @@ can't be bound.
 In the environment, BG_SWITCH_PATIENCE_SECONDS is how many seconds a request may take from its
 connection on, and a response from the dial on, until it is whole: 1 to 3600; 60 where it isn't given.";
 
-/// What the help of the program says beside its commands.
+/// The notes in the help of the program.
 const NOTES: &str = "\
 check has no words of its own. replay takes --seats N: how many requests can be open at once, 1 to 8;
 4 where it isn't given. serve takes, on ports of 127.0.0.1:
@@ -44,7 +44,7 @@ The strategy comes on standard input, as `kubectl get rollout NAME -o json` writ
 Status: 0; 1 after a fault, and where the run ends early; 2 after words that are no order, and after
 this help.";
 
-/// `--NAME N`, N from 1 to `most`, which may be left out.
+/// The optional `--NAME N`, with N from 1 to `most`.
 fn number_option<'a>(alloc: Global, name: &'a str, most: u64, help: &'a str) -> Arg<'a>
     ensures rule { rule_of result ≡ number_rule name.entry.now most }
     ensures local { result.global ≡ false }
@@ -56,7 +56,7 @@ fn number_option<'a>(alloc: Global, name: &'a str, most: u64, help: &'a str) -> 
         .help(help)
 }
 
-/// `--NAME N`, N from 1 to `most`, which has to be given.
+/// The required `--NAME N`, with N from 1 to `most`.
 fn required_option<'a>(alloc: Global, name: &'a str, most: u64, help: &'a str) -> Arg<'a>
     ensures rule { rule_of result ≡ required_rule name.entry.now most }
     ensures local { result.global ≡ false }
@@ -119,7 +119,7 @@ fn with_ports<'a>(alloc: Global, command: Command<'a>) -> Result<Command<'a>, Al
     command.arg(active)?.arg(preview)?.arg(control)
 }
 
-/// `--count K`, which has to be given unless `--forever` is.
+/// `--count K`, which is required unless `--forever` is given.
 fn count_option<'a>(alloc: Global, forever: bool) -> Arg<'a>
     ensures rule { rule_of result ≡ count_rule forever }
     ensures local { result.global ≡ false }
@@ -133,7 +133,7 @@ fn count_option<'a>(alloc: Global, forever: bool) -> Arg<'a>
     count.required(!forever)
 }
 
-/// `--forever`, which the words have where `forever` says so.
+/// `--forever`. `forever` says whether the words have it.
 fn forever_flag<'a>(alloc: Global, forever: bool) -> Arg<'a>
     ensures rule { rule_of result ≡ forever_rule forever }
     ensures local { result.global ≡ false }
@@ -145,8 +145,8 @@ fn forever_flag<'a>(alloc: Global, forever: bool) -> Arg<'a>
         .help("No limit in the place of --count: the workers end at a graceful shutdown")
 }
 
-/// `serve --active P [--preview P] --control P --workers N`, and `--count K` or `--forever`: the one
-/// of the two that has to be given is `--forever` where `forever` says so.
+/// `serve --active P [--preview P] --control P --workers N`, and `--count K` or `--forever`.
+/// `forever` says whether the required one of the two is `--forever`.
 fn serve_command<'a>(alloc: Global, forever: bool) -> Result<Command<'a>, AllocError>
     ensures app { IfOk result (λ c. app_of c ≡ serve_app forever) }
     ensures local { IfOk result (λ c. (fields_of c).has_globals ≡ false) }
@@ -168,7 +168,7 @@ fn serve_command<'a>(alloc: Global, forever: bool) -> Result<Command<'a>, AllocE
         .arg(flag)
 }
 
-/// The error of words of a subcommand that give both `--count` and `--forever`.
+/// The error for a subcommand with both `--count` and `--forever`.
 pub fn conflict<'a>(alloc: Global, subcommand: &'a str) -> Result<Error, AllocError>
     ensures { IfOk result (λ e. kind_of e ≡ ErrorKind.ArgumentConflict) }
 {

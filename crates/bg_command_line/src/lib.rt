@@ -1,4 +1,4 @@
-//! What the program is told: the words of its command line, and the variable of its environment.
+//! The program's settings: the words of its command line, and the variable of its environment.
 #![tactic(auto)]
 
 mod command_line;

@@ -1,4 +1,4 @@
-//! How long the environment lets a message take.
+//! The message timeout that the environment sets.
 ghost use Rattle.std.specs.Prelude.{◌≡◌};
 ghost use Rattle.bg_command_line.specs.CommandLine.{IsBetween};
 ghost use Rattle.bg_command_line.specs.MessageTimeout.{IsTimeoutIn, seconds_of};
@@ -7,23 +7,23 @@ use std::env;
 use std::env::VarError;
 use std::rt::Env;
 
-/// How many seconds a message may take where the environment doesn't say it.
+/// The message timeout in seconds if the environment does not set it.
 const DEFAULT_SECONDS: u64 = 60;
 
-/// How many seconds the environment may give at most.
+/// The largest timeout in seconds that the environment may set.
 const MOST_SECONDS: u64 = 3_600;
 
-/// The environment's variable that gives the seconds.
+/// The environment variable that sets the seconds.
 pub const TIMEOUT_VARIABLE: &str = "BG_SWITCH_PATIENCE_SECONDS";
 
-/// How long a message may take until it is whole, and whether the environment says it.
+/// The timeout within which a message has to be complete, and whether the environment sets it.
 #[derive(Clone, Copy, Debug, Drop, PartialEq, Eq)]
 pub enum MessageTimeout {
-    /// The variable isn't set. The timeout is 60 seconds.
+    /// The variable is not set. The timeout is 60 seconds.
     Default,
-    /// The variable gives so many seconds, 1 to 3,600.
+    /// The variable sets this many seconds, 1 to 3,600.
     Given(u64),
-    /// The variable is set, but to no number from 1 to 3,600. The timeout is 60 seconds.
+    /// The variable is set, but not to a number from 1 to 3,600. The timeout is 60 seconds.
     Unusable,
 }
 
@@ -49,8 +49,8 @@ impl MessageTimeout {
         }
     }
 
-    /// The timeout that the environment's `BG_SWITCH_PATIENCE_SECONDS` gives. It is `Unusable` also where
-    /// the variable is no text, and where memory for its text is refused.
+    /// The timeout that the environment's `BG_SWITCH_PATIENCE_SECONDS` gives. It is `Unusable` also if
+    /// the variable is not a text, and if the allocation for its text fails.
     pub fn from_environment<R: Env + AllocGlobal>(rt: &R) -> MessageTimeout
         ensures { IsBetween 1 3600 (seconds_of result) }
     {

@@ -1,54 +1,69 @@
-//! What the program is to do.
-ghost use Rattle.std.specs.Prelude.{◌≡◌};
+//! The orders of the program's words.
+ghost use Rattle.std.specs.Prelude.{◌≡◌, ◌↔◌, IsTrue};
+ghost use Rattle.bg_command_line.specs.CommandLine.{AsksForVersion};
 ghost use Rattle.bg_command_line.specs.declared.orders.OrderFault.TheVariants.{OutOfMemory};
 
 use clap::Error;
+use clap::error::ErrorKind;
 use std::alloc::AllocError;
 use thiserror::Error as DeriveError;
 
-/// What the program is to do.
+/// The orders of the program's words.
 #[derive(Clone, Copy, Debug, Drop, PartialEq, Eq)]
 pub enum Order {
-    /// Tell what the strategy on standard input means.
+    /// Write what the strategy on standard input means.
     Check,
-    /// Answer the script after the strategy, with so many seats, 1 to 8.
+    /// Answer the script after the strategy, with this many seats, 1 to 8.
     Replay { seats: u8 },
-    /// Forward requests that come to the ports of clients, by the lines of operators.
+    /// Forward the requests of clients, controlled by the lines of operators.
     Serve(Site),
 }
 
-/// How many connections a worker takes.
+/// The number of connections that a worker takes.
 #[derive(Clone, Copy, Debug, Drop, PartialEq, Eq)]
 pub enum Connections {
-    /// Each worker takes so many connections, 1 to 1,000,000, and then ends.
+    /// Each worker takes this many connections, 1 to 1,000,000, and then ends.
     Count(u32),
     /// No limit: the workers end at a graceful shutdown.
     Forever,
 }
 
-/// Where `serve` takes connections, and how many. Ports are from 1 to 65535.
+/// The ports at which `serve` takes connections, and the number of connections. Ports are from 1 to
+/// 65535.
 #[derive(Clone, Copy, Debug, Drop, PartialEq, Eq)]
 pub struct Site {
     /// The port of the active service.
     pub active: u16,
-    /// The port of the preview service, where it is given.
+    /// The port of the preview service, if it is given.
     pub preview: Option<u16>,
-    /// The port of operators.
+    /// The control port.
     pub control: u16,
-    /// How many workers the active service has, 1 to 7. The preview service has one.
+    /// The number of workers of the active service, 1 to 7. The preview service has one.
     pub workers: u8,
-    /// How many connections each worker takes.
+    /// The number of connections that each worker takes.
     pub connections: Connections,
 }
 
-/// Why the words are no order.
+/// Why the words are not an order.
 #[derive(Debug, Drop, DeriveError)]
 pub enum OrderFault {
-    /// `clap` refuses the words, or was asked for help; its error is what the program prints.
+    /// `clap` refuses the words, or they ask for help or for the version. The program prints its error.
     #[error("the words are no order")]
     Words(Error),
     #[error("out of memory")]
     OutOfMemory,
+}
+
+impl OrderFault {
+    /// Whether the words ask for the program's version, which the error of `Words` then tells.
+    pub fn asks_for_version(&self) -> bool
+        ensures { IsTrue result ↔ AsksForVersion self.now }
+    {
+        match self {
+            OrderFault::Words(error) => matches!(error.kind(), ErrorKind::DisplayVersion),
+            OrderFault::OutOfMemory => false,
+        }
+    }
 }
 
 impl From<AllocError> for OrderFault {

@@ -9,16 +9,16 @@ use clap::error::ErrorKind;
 use clap::{ArgMatches, Error};
 use std::alloc::Global;
 
-/// The seats of a replay where `--seats` is not given.
+/// The number of seats of a replay if `--seats` is not given.
 const DEFAULT_SEATS: u8 = 4;
 
-/// Reads the program's words, of which the first is the program's name: `check`;
-/// `replay [--seats N]` with N from 1 to 8, and 4 seats where no number is given; or
-/// `serve --active P [--preview P] --control P --workers N` with ports from 1 to 65535 and N from 1 to
-/// 7, and either `--count K` with K from 1 to 1,000,000 or `--forever`.
+/// Reads the program's words. The first word is the program's name. The others are `check`; `replay
+/// [--seats N]` with N from 1 to 8, and 4 seats if no number is given; or `serve --active P [--preview
+/// P] --control P --workers N` with ports from 1 to 65535 and N from 1 to 7, and either `--count K`
+/// with K from 1 to 1,000,000 or `--forever`.
 ///
-/// `Words` comes only where `clap` refuses the words, or was asked for help, or where both `--count`
-/// and `--forever` are given, and `OutOfMemory` where memory is refused.
+/// The error is `Words` only if `clap` refuses the words, if they ask for help, or if both `--count`
+/// and `--forever` are given. It is `OutOfMemory` if an allocation fails.
 pub fn order(alloc: Global, words: &[&str]) -> Result<Order, OrderFault>
     ensures ok { IfOk result (IsOrderIn (map (λ w. w.now) words.now)) }
     ensures fault { IfErr result (IsFaultIn (map (λ w. w.now) words.now)) }
@@ -46,11 +46,11 @@ fn has_forever(words: &[&str]) -> bool
     }
 }
 
-/// Whether `--count` is given beside `--forever`.
+/// Whether `--count` is given together with `--forever`.
 fn is_in_conflict(forever: bool, matches: &ArgMatches) -> bool
     ensures { result ≡ is_in_conflict forever (rows_of (found_of matches.now)) }
 {
-    forever && text_of(matches, "count").is_some()
+    forever && argument_text(matches, "count").is_some()
 }
 
 fn fault_of(error: Error) -> OrderFault
@@ -77,13 +77,13 @@ fn order_of(forever: bool, name: &str, matches: &ArgMatches) -> Order
     }
 }
 
-/// The seats of a replay.
+/// The number of seats of a replay.
 fn seats_of(matches: &ArgMatches) -> u8
     requires { IsIn 1 8 (codes "seats") (rows_of (found_of matches.now)) }
     ensures value { result ≡ unwrap_or (number_of (codes "seats") (rows_of (found_of matches.now))) 4 }
     ensures range { IsBetween 1 8 result }
 {
-    match text_of(matches, "seats") {
+    match argument_text(matches, "seats") {
         Some(text) => seats_in(text),
         None => DEFAULT_SEATS,
     }
@@ -94,13 +94,13 @@ fn serve_of(forever: bool, matches: &ArgMatches) -> Order
     ensures { IsOrderOf forever (codes "serve") (rows_of (found_of matches.now)) result }
 {
     Order::Serve(Site {
-        active: port_in(given(matches, "active")),
-        preview: match text_of(matches, "preview") {
+        active: port_in(required_text(matches, "active")),
+        preview: match argument_text(matches, "preview") {
             Some(text) => Some(port_in(text)),
             None => None,
         },
-        control: port_in(given(matches, "control")),
-        workers: workers_in(given(matches, "workers")),
+        control: port_in(required_text(matches, "control")),
+        workers: workers_in(required_text(matches, "workers")),
         connections: connections_of(forever, matches),
     })
 }
@@ -113,22 +113,22 @@ fn connections_of(forever: bool, matches: &ArgMatches) -> Connections
     if forever {
         Connections::Forever
     } else {
-        Connections::Count(count_in(given(matches, "count")))
+        Connections::Count(count_in(required_text(matches, "count")))
     }
 }
 
-fn text_of<'a>(matches: &ArgMatches<'a>, id: &str) -> Option<&'a str>
+fn argument_text<'a>(matches: &ArgMatches<'a>, id: &str) -> Option<&'a str>
     ensures { option_map (λ t. t.now) result ≡ first_of id.now (rows_of (found_of matches.now)) }
 {
     matches.get_str(id)
 }
 
 /// The text of an argument that is required.
-fn given<'a>(matches: &ArgMatches<'a>, id: &str) -> &'a str
+fn required_text<'a>(matches: &ArgMatches<'a>, id: &str) -> &'a str
     requires { is_some (first_of id.now (rows_of (found_of matches.now))) ≡ true }
     ensures { first_of id.now (rows_of (found_of matches.now)) ≡ Some result.now }
 {
-    text_of(matches, id).unwrap()
+    argument_text(matches, id).unwrap()
 }
 
 fn seats_in(text: &str) -> u8

@@ -1,4 +1,4 @@
--- What has arrived of a connection.
+-- What has arrived on a connection.
 use Rattle.std.specs.Prelude.{ℕ, Bool, ◌&&◌, ◌||◌, List, length, ◌==◌, nat_le, nat_lt}
 use Rattle.std.specs.List.{list_any}
 

@@ -5,13 +5,15 @@ use Rattle.std.specs.Prelude.{ℕ, ◌-◌, if◌then◌else◌, nat_le, Option,
 abbrev pub lesser : ℕ → ℕ → ℕ
 lesser a b = if nat_le a b then a else b
 
--- How many milliseconds of a limit are left at a moment. The time counts from the later of two moments.
+-- The number of milliseconds that are left of a limit at a moment. The time counts from the later of
+-- two moments.
 abbrev pub left : ℕ → ℕ → ℕ → ℕ → ℕ
 left limit now first second = limit - lesser (now - first) (now - second)
 
--- How many milliseconds are left of a turn that began at one moment, and whose connection has been silent,
--- or has taken nothing of its answers, since another: a second of that, and ten seconds in all. Both count
--- from when another connection had a whole line; where none has, there is no limit.
+-- The number of milliseconds that are left of a turn that began at one moment, and whose connection has
+-- been silent, or has taken nothing of its answers, since another moment. The limits are a second for the
+-- silence and ten seconds in all. Both count from the moment when another connection had a whole line, at
+-- the earliest. There is no limit if no other connection has one.
 abbrev pub turn_left : ℕ → ℕ → ℕ → Option ℕ → Option ℕ
 turn_left now began still other =
     option_map (λ line. lesser (left 1000 now still line) (left 10000 now began line)) other

@@ -4,31 +4,31 @@ use std::io;
 use std::io::ErrorKind;
 use std::net::{TcpListener, TcpStream};
 
-/// How many milliseconds pass before an accept that failed, or that has to wait for room, is tried again.
+/// The number of milliseconds before an accept that failed, or that had no room, is tried again.
 const PAUSE_MILLIS: u64 = 100;
 
-/// What came of an accept.
+/// The result of an accept.
 #[derive(Drop)]
 pub enum Accepted {
     Stream(TcpStream),
-    /// No connection is there.
+    /// No connection waits.
     Nothing,
-    /// It failed, and is tried again after a pause.
+    /// The accept failed. It is tried again after a pause.
     Failed(io::Error),
 }
 
 /// When connections may be accepted.
 #[derive(Clone, Copy, Debug, Drop, PartialEq, Eq)]
 enum Due {
-    /// Once the listener is ready.
+    /// When the listener is ready.
     WhenReady,
-    /// At once: the listener was ready, and more may be there.
+    /// At once. The listener was ready, and more connections may wait.
     Now,
     /// From this moment on.
     From(u64),
 }
 
-/// The listener, whose accepts don't wait. Moments are milliseconds from the start of the port.
+/// The listener. Its accepts do not wait. Moments are milliseconds from the start of the port.
 #[derive(Drop)]
 pub struct Acceptor {
     listener: TcpListener,
@@ -38,7 +38,7 @@ pub struct Acceptor {
 }
 
 impl Acceptor {
-    /// Accepts from this listener.
+    /// An acceptor over this listener.
     pub fn new(listener: TcpListener) -> io::Result<Acceptor> {
         listener.set_nonblocking(true)?;
         Ok(Acceptor {
@@ -52,19 +52,20 @@ impl Acceptor {
         &self.listener
     }
 
-    /// Notes that the listener is ready. After a failure the pause goes on.
+    /// Notes that the listener is ready. A pause after a failure continues.
     pub fn note_ready(&mut self) {
         if self.due == Due::WhenReady {
             self.due = Due::Now;
         }
     }
 
-    /// Puts the next accept off for a pause.
+    /// Delays the next accept by a pause.
     pub fn put_off(&mut self, now: u64) {
         self.due = Due::From(now.saturating_add(PAUSE_MILLIS));
     }
 
-    /// In how many milliseconds connections may be accepted; none where that depends on the listener.
+    /// The number of milliseconds until connections may be accepted; `None` if that depends on the
+    /// listener.
     pub fn millis_to_wait(&self, now: u64) -> Option<u64> {
         match self.due {
             Due::WhenReady => None,
@@ -73,7 +74,7 @@ impl Acceptor {
         }
     }
 
-    /// Accepts a connection, where one is there.
+    /// Accepts a connection, if one waits.
     pub fn accept(&mut self, now: u64) -> Accepted {
         match self.listener.accept() {
             Ok((stream, _from)) => {
@@ -85,7 +86,8 @@ impl Acceptor {
         }
     }
 
-    /// A connection that its peer has given up already is passed over; the next one may be there.
+    /// The result of a failed accept. If the peer has already given its connection up, the
+    /// connection is skipped, and another one may wait.
     fn not_accepted(&mut self, error: io::Error, now: u64) -> Accepted {
         match error.kind() {
             ErrorKind::WouldBlock => {
@@ -103,7 +105,7 @@ impl Acceptor {
         }
     }
 
-    /// Whether a failure is the first since an accept succeeded.
+    /// Whether a failure is the first since the last accept that succeeded.
     pub fn is_first_failure(&mut self) -> bool {
         let is_first = !self.is_failing;
         self.is_failing = true;

@@ -11,20 +11,21 @@ use std::sync::Wait;
 use std::sync::atomic::{AtomicBool, AtomicU64, Ordering};
 use std::time::Clock;
 
-/// How many bytes a read gives at most. The lines among them are answered before the time of the turn is
-/// looked at again.
+/// The maximum number of bytes of a read. The lines among them are answered before the time of the turn
+/// is checked again.
 const MOST_BYTES: usize = 1_024;
 
-/// How many sockets that are ready are looked after before each read.
+/// The maximum number of ready sockets that are handled before each read.
 const MOST_EVENTS: u32 = 256;
 
 /// The connection that has its turn. It is read and written through `&`, so that a reader and a writer can
-/// stand over it side by side.
+/// use it at the same time.
 ///
-/// A read and a write wait for as long as it takes while no other connection has a whole line. While one has,
-/// they fail by `TimedOut` once no whole line has come, or nothing was taken of an answer, for a second, and
-/// once ten seconds of the turn have passed. Both count from when the other connection had its line. A
-/// connection is of no use after that. Its reads and writes also look after those that wait.
+/// While no other connection has a whole line, reads and writes have no timeout. While another one has a
+/// whole line, they fail with `TimedOut` after a second without a whole line or without progress of an
+/// answer, and after ten seconds of the turn. Both times count from the moment when the other connection had
+/// its line, at the earliest. After such a failure the connection must not be used. Its reads and writes also
+/// handle the waiting connections.
 #[derive(Drop)]
 pub struct ControlConnection<'a, R: Clock + Wait, E: ControlEvents> {
     port: &'a ControlPort,
@@ -33,14 +34,14 @@ pub struct ControlConnection<'a, R: Clock + Wait, E: ControlEvents> {
     stream: TcpStream,
     /// When the turn began, in milliseconds from the start of the port.
     began: u64,
-    /// Since when a whole line is awaited.
+    /// Since when the connection waits for a whole line.
     awaits_since: AtomicU64,
-    /// Whether the last read brought a line to its end.
+    /// Whether the last read completed a line.
     has_line: AtomicBool,
 }
 
 impl<'a, R: Clock + Wait, E: ControlEvents> ControlConnection<'a, R, E> {
-    /// A turn that begins now. The reads and writes of the stream don't wait.
+    /// A turn that begins now. Makes the stream non-blocking.
     pub(crate) fn new(
         port: &'a ControlPort,
         rt: &'a R,
@@ -59,14 +60,14 @@ impl<'a, R: Clock + Wait, E: ControlEvents> ControlConnection<'a, R, E> {
         }
     }
 
-    /// Ends the connection, also where it is not dropped yet.
+    /// Ends the connection, even before it is dropped.
     pub fn close(&self) {
         // its peer may have ended it already
         let _ = self.stream.shutdown(Shutdown::Both);
     }
 
-    /// Since when a whole line is awaited. What was answered meanwhile doesn't count, so after a line the
-    /// time begins with the next read.
+    /// Since when the connection waits for a whole line. The time for answers does not count, so after a
+    /// line the time begins with the next read.
     fn awaits_since(&self) -> u64 {
         if self.has_line.swap(false, Ordering::SeqCst) {
             self.awaits_since
@@ -75,7 +76,7 @@ impl<'a, R: Clock + Wait, E: ControlEvents> ControlConnection<'a, R, E> {
         self.awaits_since.load(Ordering::SeqCst)
     }
 
-    /// How long this connection may still be waited for, in milliseconds. `TimedOut` where its turn is over.
+    /// How long a wait for this connection may still last, in milliseconds. `TimedOut` if its turn is over.
     fn millis_left(&self, still: u64) -> io::Result<Option<u64>> {
         let turn = Turn {
             began: self.began,
@@ -91,7 +92,7 @@ impl<'a, R: Clock + Wait, E: ControlEvents> ControlConnection<'a, R, E> {
         }
     }
 
-    /// Looks after all that is ready at the port, without waiting.
+    /// Handles everything that is ready at the port, without waiting.
     fn look_up(&self) {
         for _ in 0..MOST_EVENTS {
             if !self.port.attend(self.rt, self.events, Some(0)) {
@@ -100,7 +101,8 @@ impl<'a, R: Clock + Wait, E: ControlEvents> ControlConnection<'a, R, E> {
         }
     }
 
-    /// Waits for anything at the port, for as long as this connection may still be waited for.
+    /// Waits for any event at the port, at most as long as a wait for this connection may still
+    /// last.
     fn wait(&self, still: u64) -> io::Result<()> {
         let left = self.millis_left(still)?;
         self.port.attend(self.rt, self.events, left);

@@ -1,14 +1,14 @@
-//! What a port tells its owner.
+//! The events of which a port informs its owner.
 
 use std::io;
 
-/// What the owner of a port is told while the port waits. The calls are made on the operators' thread,
-/// which serves nobody until they return.
+/// Events that the owner of a port gets while the port waits. The calls are made on the operators'
+/// thread, which serves nobody until they return.
 pub trait ControlEvents {
-    /// An accept failed, as where no file descriptor is free. It is tried again until it succeeds. Of
-    /// failures that follow one another the first alone is told.
+    /// An accept failed, for example because no file descriptor is free. It is tried again until it
+    /// succeeds. Only the first of several failures in a row is reported.
     fn accept_failed(&self, reason: &io::Error);
 
-    /// About a second has passed since the last such call. While a line is carried out no call comes.
+    /// About a second has passed since the last such call. No call comes while a line is carried out.
     fn second_passed(&self);
 }

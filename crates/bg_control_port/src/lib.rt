@@ -1,10 +1,10 @@
-//! The port at which operators connect: connections that are served one after the other by one thread.
+//! The port at which operators connect. One thread serves the connections one after the other.
 //!
-//! A connection takes its turn once a whole line of it has arrived, so one that is silent keeps nobody
-//! out. [`ControlPort::next`] waits for the next turn, and the [`ControlConnection`] that it gives is read
-//! and written as a stream. While the thread waits for that stream it also accepts connections and looks
-//! at those that wait. A connection whose peer is silent, or reads no answers, is ended by a failed read or
-//! write while another one waits with a whole line.
+//! A connection gets its turn after a whole line of it has arrived, so a silent connection does not block
+//! the others. [`ControlPort::next`] waits for the next turn, and gives a [`ControlConnection`], which is
+//! read and written as a stream. While the thread waits for that stream, it also accepts connections and
+//! handles the waiting ones. If the peer of a connection is silent or reads no answers while another
+//! connection waits with a whole line, a read or write of the connection fails, which ends it.
 #![tactic(auto)]
 
 mod acceptor;

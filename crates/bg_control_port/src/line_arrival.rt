@@ -6,23 +6,23 @@ use std::io;
 use std::io::ErrorKind;
 use std::net::TcpStream;
 
-/// How many bytes a line has at most, 4,096, and a CR and a byte more. A line of which as many bytes have
-/// arrived is too long.
+/// The maximum length of a line, 4,096 bytes, plus a CR and one byte more. A line of which this many
+/// bytes have arrived is too long.
 const LONGEST_LINE: usize = 4098;
 
-/// What has arrived of a connection that waits.
+/// What has arrived on a waiting connection.
 #[derive(Clone, Copy, Debug, Drop, PartialEq, Eq)]
 pub enum Arrival {
     /// A whole line, or more bytes than a line may have.
     Line,
-    /// So many bytes of a line.
+    /// This many bytes of a line.
     Part(usize),
-    /// No line is to come: the input ended without a byte, or the connection failed.
+    /// No line can come, because the input ended without a byte or the connection failed.
     Nothing,
 }
 
-/// Looks at what has arrived of a connection whose reads don't wait. The bytes stay in its socket. Where its
-/// input has ended, bytes without a break are a line.
+/// Examines what has arrived on a non-blocking connection. The bytes stay in its socket. If its input has
+/// ended, bytes without a line break are a line.
 pub fn look(stream: &TcpStream, has_ended: bool) -> Arrival {
     let mut piece = [0u8; LONGEST_LINE];
     match stream.peek(&mut piece) {
@@ -32,7 +32,7 @@ pub fn look(stream: &TcpStream, has_ended: bool) -> Arrival {
     }
 }
 
-/// What these bytes are, which have arrived.
+/// The state of a connection on which these bytes have arrived.
 fn arrival_of(bytes: &[u8], has_ended: bool) -> Arrival {
     if is_whole_line(bytes, has_ended) {
         Arrival::Line
@@ -41,7 +41,7 @@ fn arrival_of(bytes: &[u8], has_ended: bool) -> Arrival {
     }
 }
 
-/// Where a look fails: nothing has arrived yet, or nothing will.
+/// The state after a failed look: nothing has arrived yet, or nothing will.
 fn not_arrived(error: &io::Error) -> Arrival {
     match error.kind() {
         ErrorKind::WouldBlock | ErrorKind::Interrupted => Arrival::Part(0),

@@ -13,16 +13,17 @@ use std::net::{Net, TcpListener, TcpStream};
 use std::sync::{Mutex, Wait};
 use std::time::{Clock, Duration, Instant};
 
-/// How many connections are accepted one after the other before something else is looked at.
+/// The number of accepts in a row before other events are handled.
 const MOST_ACCEPTS: u32 = 64;
 
-/// How many milliseconds pass between two calls of [`ControlEvents::second_passed`].
+/// The number of milliseconds between two calls of [`ControlEvents::second_passed`].
 const SECOND: u64 = 1_000;
 
-/// Which part of the process's file descriptors the waiting connections may have at most: one in so many.
+/// The waiting connections may have at most one in this many of the process's file descriptors.
 const DESCRIPTOR_SHARE: u64 = 4;
 
-/// The port at which operators connect. One thread takes its connections; other threads may hold it.
+/// The port at which operators connect. One thread takes its connections; other threads may share
+/// it.
 #[derive(Drop)]
 pub struct ControlPort {
     readiness: Readiness,
@@ -30,17 +31,17 @@ pub struct ControlPort {
     start: Instant,
 }
 
-/// What changes.
+/// The state that changes.
 #[derive(Drop)]
 struct State {
-    /// None once the port is closed.
+    /// `None` after the port was closed.
     acceptor: Option<Acceptor>,
     waiting: Waiting,
-    /// When the events are told next that a second has passed.
+    /// When the next call of `second_passed` is due.
     next_second: u64,
 }
 
-/// What the events are to be told.
+/// The calls that are due to the events.
 #[derive(Drop)]
 struct News {
     failure: Option<io::Error>,
@@ -48,8 +49,9 @@ struct News {
 }
 
 impl ControlPort {
-    /// The port of a listener. Memory for 1,024 waiting connections is taken here. An error comes where it is
-    /// refused, where the system has no epoll set to give, and where the listener can't be set not to wait.
+    /// The port of a listener. Allocates the memory for 1,024 waiting connections. An error if this
+    /// allocation fails, if the system cannot create an epoll set, or if the listener cannot be made
+    /// non-blocking.
     pub fn new<R: Net + Clock>(
         rt: &R,
         alloc: Global,
@@ -69,16 +71,15 @@ impl ControlPort {
         })
     }
 
-    /// Waits for the next connection that has its turn: of those of which a whole line has arrived, the one
-    /// of which it arrived first. Bytes without a break are a line where the input has ended, and where they
-    /// are more than a line may have.
+    /// Waits for the connection that has the next turn: the one whose whole line arrived first. Bytes
+    /// without a line break are a line if the input has ended, or if they are more than a line may have.
     ///
-    /// At most 1,024 connections wait, and at most a quarter of the process's file descriptors. Where more
-    /// come, the one that has been without progress for the longest time is closed, if that is two seconds
-    /// or more and no whole line of it has arrived; else no further one is accepted. An accept that fails is
-    /// tried again every 100 milliseconds.
+    /// At most 1,024 connections wait, and at most a quarter of the process's file descriptors. If more
+    /// come, the port closes the connection that has made no progress for the longest time, provided that
+    /// this is two seconds or more and that no whole line of it has arrived. Otherwise it accepts no further
+    /// connection. A failed accept is tried again every 100 milliseconds.
     ///
-    /// The connection before has to have ended by then.
+    /// The previous connection has to be ended before this call.
     pub fn next<'a, R: Clock + Wait, E: ControlEvents>(
         &'a self,
         rt: &'a R,
@@ -93,14 +94,15 @@ impl ControlPort {
         unreachable!()
     }
 
-    /// Closes the listener and all connections that wait. [`ControlPort::next`] gives none from then on.
+    /// Closes the listener and all connections that wait. [`ControlPort::next`] gives `None` from then
+    /// on.
     pub fn close<R: Wait>(&self, rt: &R) {
         let mut state = self.state.lock(rt);
         state.acceptor = None;
         state.waiting.close();
     }
 
-    /// How many milliseconds have passed since the start. A clock that fails shows none.
+    /// The number of milliseconds since the start; 0 if the clock fails.
     pub(crate) fn now<R: Clock>(&self, rt: &R) -> u64 {
         match self.start.elapsed(rt) {
             Ok(passed) => millis(passed),
@@ -113,7 +115,7 @@ impl ControlPort {
         self.state.lock(rt).waiting.line_since()
     }
 
-    /// Takes the connection that has its turn next. One that can't be watched is closed.
+    /// Takes the connection that has the next turn. Closes a connection that cannot be watched.
     fn take_first<R: Wait>(&self, rt: &R) -> Option<TcpStream> {
         let stream = self.state.lock(rt).waiting.take_first()?;
         match self.readiness.give_turn(&stream) {
@@ -122,8 +124,8 @@ impl ControlPort {
         }
     }
 
-    /// Waits for one socket that is ready, for so many milliseconds at most, and looks after the listener and
-    /// the waiting connections. Returns whether one was ready.
+    /// Waits until a socket is ready, for at most this many milliseconds, and handles the listener and the
+    /// waiting connections. Returns whether a socket was ready.
     pub(crate) fn attend<R: Clock + Wait, E: ControlEvents>(
         &self,
         rt: &R,
@@ -143,7 +145,8 @@ impl ControlPort {
         ready != Ready::Nothing
     }
 
-    /// How many milliseconds may be waited: up to the limit, the next second and the next accept.
+    /// The number of milliseconds that a wait may last: up to the limit, the next second and the
+    /// next accept.
     fn millis_to_wait<R: Clock + Wait>(&self, rt: &R, limit: Option<u64>) -> i32 {
         let now = self.now(rt);
         let state = self.state.lock(rt);
@@ -161,7 +164,7 @@ impl ControlPort {
 }
 
 impl State {
-    /// Looks after what is ready, and accepts connections where that is due.
+    /// Handles what is ready, and accepts connections if that is due.
     fn attend(&mut self, ready: Ready, now: u64, readiness: &Readiness) -> News {
         match ready {
             Ready::Nothing | Ready::Turn => {}
@@ -178,7 +181,8 @@ impl State {
         }
     }
 
-    /// Accepts the connections that are there, and lets them wait. Returns a failure that is to be told.
+    /// Accepts the connections that have come, and adds them to the waiting ones. Returns a failure that
+    /// has to be reported.
     fn accept_due(&mut self, now: u64, readiness: &Readiness) -> Option<io::Error> {
         let acceptor = self.acceptor.as_mut()?;
         let most = most_waiting();
@@ -191,7 +195,7 @@ impl State {
                 return None;
             }
             match acceptor.accept(now) {
-                // one that can't be watched is closed
+                // a connection that cannot be watched is closed
                 Accepted::Stream(stream) => drop(self.waiting.add(stream, readiness, now)),
                 Accepted::Nothing => {}
                 Accepted::Failed(reason) => {
@@ -203,7 +207,7 @@ impl State {
         None
     }
 
-    /// Whether a second has passed since the last one that was told.
+    /// Whether a second has passed since the last one that was reported.
     fn passes_second(&mut self, now: u64) -> bool {
         if now < self.next_second {
             return false;
@@ -213,7 +217,7 @@ impl State {
     }
 }
 
-/// How many connections may wait now.
+/// The number of connections that may wait now.
 fn most_waiting() -> usize {
     let mut limit = rlimit {
         rlim_cur: 0,

@@ -9,8 +9,8 @@ use std::io;
 use std::net::{Net, TcpListener, TcpStream};
 use std::os::fd::{AsRawFd, RawFd};
 
-/// Which number the events of the listener have, and which those of the connection that has its turn. A
-/// waiting connection has its key, which is smaller.
+/// The keys of the events of the listener, and of the connection that has its turn. The key of a
+/// waiting connection is smaller.
 const LISTENER: u64 = u64::MAX;
 
 const TURN: u64 = u64::MAX - 1;
@@ -18,7 +18,7 @@ const TURN: u64 = u64::MAX - 1;
 /// What is ready.
 #[derive(Clone, Copy, Debug, Drop, PartialEq, Eq)]
 pub enum Ready {
-    /// Nothing, and the time is up.
+    /// Nothing: the wait timed out.
     Nothing,
     /// Connections may be accepted.
     Listener,
@@ -28,8 +28,8 @@ pub enum Ready {
     Turn,
 }
 
-/// The sockets of the port, in one epoll set. Each is watched for changes alone, so a line that is not
-/// whole yet is told of once.
+/// The sockets of the port, in one epoll set. Each is watched for changes only (edge-triggered), so a
+/// line that is not complete yet is reported once.
 #[derive(Drop)]
 pub struct Readiness {
     set: Poll,
@@ -45,7 +45,7 @@ impl Readiness {
         Ok(readiness)
     }
 
-    /// Watches a connection that waits.
+    /// Watches a waiting connection.
     pub fn watch(&self, stream: &TcpStream, key: usize) -> io::Result<()> {
         let events = EPOLLIN | EPOLLRDHUP;
         self.control(EPOLL_CTL_ADD, stream.as_raw_fd(), events, key as u64)
@@ -65,7 +65,7 @@ impl Readiness {
         Err(io::Error::from_raw_os_error(errno()))
     }
 
-    /// Waits for one socket that is ready, for so many milliseconds at most.
+    /// Waits until a socket is ready, for at most `millis` milliseconds.
     pub fn wait(&self, millis: i32) -> Ready {
         let mut events = [EpollEvent { events: 0, data: 0 }];
         if epoll_wait(self.set.as_raw_fd(), &mut events, millis) == 0 {

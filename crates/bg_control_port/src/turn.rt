@@ -2,8 +2,8 @@
 ghost use Rattle.std.specs.Prelude.{◌≡◌};
 ghost use Rattle.bg_control_port.specs.Turns.{left, lesser, turn_left};
 
-/// How many milliseconds a connection may be silent, or take nothing of its answers, while another waits
-/// with a whole line; and how many a turn may take in all then.
+/// The number of milliseconds for which a connection may be silent, or take nothing of its answers,
+/// while another one waits with a whole line; and the number for the whole turn in that case.
 const LONGEST_SILENCE: u64 = 1_000;
 
 const LONGEST_TURN: u64 = 10_000;
@@ -18,8 +18,8 @@ pub struct Turn {
 }
 
 impl Turn {
-    /// How many milliseconds are left of it, where another connection has had a whole line since some
-    /// moment. There is no limit where none has.
+    /// The number of milliseconds that are left of the turn if another connection has had a whole
+    /// line since the moment `other`. There is no limit if no other connection has one.
     pub fn millis_left(self, now: u64, other: Option<u64>) -> Option<u64>
         ensures { result ≡ turn_left now self.began self.still other }
     {
@@ -30,7 +30,7 @@ impl Turn {
     }
 }
 
-/// How many milliseconds of a limit are left that counts from the later of two moments.
+/// The number of milliseconds that are left of a limit that counts from the later of two moments.
 fn millis_left(limit: u64, now: u64, first: u64, second: u64) -> u64
     ensures { result ≡ left limit now first second }
 {

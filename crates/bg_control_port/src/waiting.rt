@@ -7,16 +7,16 @@ use std::alloc::{AllocError, Global};
 use std::io;
 use std::net::TcpStream;
 
-/// How many connections wait at most.
+/// The maximum number of waiting connections.
 pub const MOST_WAITING: usize = 1_024;
 
-/// How many milliseconds a connection may be without progress before it is closed to make room.
+/// The number of milliseconds without progress after which a connection may be closed to make room.
 const LONGEST_SILENCE: u64 = 2_000;
 
-/// How far a connection is.
+/// The progress of a waiting connection.
 #[derive(Clone, Copy, Debug, Drop, PartialEq, Eq)]
 enum Progress {
-    /// So many bytes of a line have arrived, the last of them at this moment.
+    /// This many bytes of a line have arrived, the last of them at this moment.
     Part { count: usize, moved: u64 },
     /// It has had a whole line since this moment; its place among those that have one.
     Line { since: u64, place: u64 },
@@ -38,7 +38,7 @@ pub struct Waiting {
 }
 
 impl Waiting {
-    /// None waits. Memory for all that can wait is taken here.
+    /// No waiting connections. Allocates the memory for all connections that can wait.
     pub fn new(alloc: Global) -> Result<Waiting, AllocError> {
         Ok(Waiting {
             connections: Slab::with_capacity(alloc, MOST_WAITING)?,
@@ -46,12 +46,12 @@ impl Waiting {
         })
     }
 
-    /// How many wait.
+    /// The number of waiting connections.
     pub fn count(&self) -> usize {
         self.connections.len()
     }
 
-    /// Lets a connection wait. What has arrived of it already is told of by the next wait.
+    /// Adds a waiting connection. The next wait reports what has already arrived on it.
     pub fn add(&mut self, stream: TcpStream, readiness: &Readiness, now: u64) -> io::Result<()> {
         stream.set_nonblocking(true)?;
         let progress = Progress::Part {
@@ -72,7 +72,7 @@ impl Waiting {
         watched
     }
 
-    /// Looks at what has arrived of a connection. One of which no line is to come is closed.
+    /// Examines what has arrived on a connection. Closes it if no line can come.
     pub fn attend(&mut self, key: usize, has_ended: bool, now: u64) {
         let Some(connection) = self.connections.get_mut(key) else {
             return;
@@ -121,15 +121,15 @@ impl Waiting {
         self.first().map(|(_key, since)| since)
     }
 
-    /// Takes out the connection that has had a whole line for the longest time.
+    /// Removes and gives the connection that has had a whole line for the longest time.
     pub fn take_first(&mut self) -> Option<TcpStream> {
         let (key, _since) = self.first()?;
         let connection = self.connections.try_remove(key)?;
         Some(connection.stream)
     }
 
-    /// Closes the connection that has been without progress for the longest time, where that is at least two
-    /// seconds. One that has a whole line is not closed. Returns whether one was closed.
+    /// Closes the connection that has made no progress for the longest time, if that is at least two
+    /// seconds. Does not close a connection that has a whole line. Returns whether one was closed.
     pub fn close_stillest(&mut self, now: u64) -> bool {
         let Some((key, moved)) = self.stillest() else {
             return false;

@@ -4,46 +4,72 @@ ghost use Rattle.bg_endpoints.specs.Addresses.{home_address};
 
 use libc::net::{_SS_SIZE, AF_INET, SOCK_CLOEXEC, SOCK_STREAM};
 use os::FromRawFd;
-use std::io;
 use std::io::ErrorKind;
 use std::net::TcpStream;
 use std::os::fd::{AsRawFd, OwnedFd, RawFd};
-use std::time::Duration;
+use std::time::{Clock, Duration};
+use std::{io, thread};
 
-/// How many bytes of an address C reads: the size of its sockaddr_in.
+/// The number of bytes of an address that C reads: the size of its sockaddr_in.
 const ADDRESS_LENGTH: u32 = 16;
 
-/// How often a connect is tried that a signal interrupts, as where the process was stopped.
+/// The number of tries of a connect that signals interrupt, for example when the process was
+/// stopped.
 const CONNECT_TRIES: u32 = 8;
 
-/// A connection to a port of 127.0.0.1. To connect takes no longer than `write_wait`; after that it
-/// fails. No later write waits for longer than `write_wait`, and no read for longer than `read_wait`.
+/// The number of tries to create a socket while the process has no free descriptor, and the number of
+/// milliseconds between them. Other requests that end in the meantime free descriptors.
+const SOCKET_TRIES: u32 = 50;
+
+const SOCKET_PAUSE_MILLIS: u64 = 20;
+
+/// A connection to a port of 127.0.0.1. The connect fails after `write_wait`. A later write waits at
+/// most `write_wait`, and a read at most `read_wait`.
 ///
-/// Linux bounds a connect by the timeout of writes, so this is one system call fewer than std's
-/// `connect_timeout` and its `poll`.
-pub(crate) fn connect(
+/// Linux limits a connect by the timeout of writes, so this needs one system call fewer than std's
+/// `connect_timeout` with its `poll`.
+pub(crate) fn connect<C: Clock>(
+    clock: &C,
     port: u16,
     write_wait: Duration,
     read_wait: Duration,
 ) -> io::Result<TcpStream> {
-    let stream = TcpStream::from(new_socket()?);
+    let stream = TcpStream::from(new_socket(clock)?);
     stream.set_write_timeout(Some(write_wait))?;
     stream.set_read_timeout(Some(read_wait))?;
     connect_to(stream.as_raw_fd(), &home_address(port))?;
     Ok(stream)
 }
 
-/// A socket of TCP that isn't connected.
-fn new_socket() -> io::Result<OwnedFd> {
-    let socket = unsafe { libc::net::socket(AF_INET, SOCK_STREAM | SOCK_CLOEXEC, 0) };
-    if socket < 0 {
-        return Err(io::Error::from_raw_os_error(os::errno()));
+/// A TCP socket that is not connected. If no descriptor is free, waits for one for a second.
+fn new_socket<C: Clock>(clock: &C) -> io::Result<OwnedFd> {
+    for _ in 1..SOCKET_TRIES {
+        if let Some(socket) = try_socket() {
+            return Ok(socket);
+        }
+        let error = os::errno();
+        if error != libc::EMFILE {
+            return Err(io::Error::from_raw_os_error(error));
+        }
+        thread::sleep(clock, Duration::from_millis(SOCKET_PAUSE_MILLIS));
     }
-    Ok(unsafe { OwnedFd::from_raw_fd(socket) })
+    match try_socket() {
+        Some(socket) => Ok(socket),
+        None => Err(io::Error::from_raw_os_error(os::errno())),
+    }
 }
 
-/// Connects a socket. A connect that was interrupted goes on, and the next one waits for it, or finds
-/// it done.
+/// A TCP socket; `None` if the system has none.
+fn try_socket() -> Option<OwnedFd> {
+    let socket = unsafe { libc::net::socket(AF_INET, SOCK_STREAM | SOCK_CLOEXEC, 0) };
+    if socket < 0 {
+        return None;
+    }
+    Some(unsafe { OwnedFd::from_raw_fd(socket) })
+}
+
+/// Connects a socket. An interrupted connect continues in the system. The next call waits for it, or
+/// finds the socket connected.
 fn connect_to(socket: RawFd, address: &[u8; _SS_SIZE]) -> io::Result<()> {
     for _ in 0..CONNECT_TRIES {
         if unsafe { libc::net::connect(socket, address, ADDRESS_LENGTH) } == 0 {
@@ -52,6 +78,8 @@ fn connect_to(socket: RawFd, address: &[u8; _SS_SIZE]) -> io::Result<()> {
         match os::errno() {
             libc::EISCONN => return Ok(()),
             libc::EINTR => {}
+            // the error of Linux after the timeout of writes
+            libc::EINPROGRESS => return Err(io::Error::from(ErrorKind::TimedOut)),
             error => return Err(io::Error::from_raw_os_error(error)),
         }
     }

@@ -9,38 +9,38 @@ use std::io::{ErrorKind, Read, Write};
 use std::net::TcpStream;
 use std::time::{Clock, Duration, Instant};
 
-/// How many seconds a connect takes at most, and one try of a write.
+/// The timeout in seconds of a connect, and of one try of a write.
 const CONNECT_SECONDS: u64 = 5;
 
-/// How often a write is tried that gets no byte on its way: so for 30 seconds.
+/// The number of tries of a write that sends no byte, which together take 30 seconds.
 const WRITE_TRIES: u32 = 6;
 
-/// How many seconds a read waits, until it is `Interrupted`.
+/// The number of seconds after which a waiting read is `Interrupted`.
 const TURN_SECONDS: u64 = 1;
 
-/// The connection to an endpoint, whose response has to be whole in time: each read and each write
-/// fails by `TimedOut` once the response timeout is over.
+/// The connection to an endpoint. After the response timeout, each read and each write fails with
+/// `TimedOut`.
 ///
-/// A read waits for a second at most, and is `Interrupted` where nothing came, so that the reader can
-/// look whether it still wants the response. Where nothing has come for too long, it fails. A write that gets no byte on its way in 30 seconds fails.
-/// It takes the system calls of a connection without timeouts, and two more for its timeouts.
+/// A read waits for at most a second, and is `Interrupted` if nothing came, so that the reader can check whether it
+/// still needs the response. If nothing has come for too long, it fails. A write that sends no byte in 30 seconds
+/// fails. The timeouts cost two system calls for each connection.
 #[derive(Drop)]
 pub struct Connection<'a, C: Clock> {
     stream: TcpStream,
     clock: &'a C,
     /// When the connect began.
     start: Instant,
-    /// How long the connect, the request and the response may take in all.
+    /// The timeout of the connect, the request and the response in all.
     timeout: Duration,
-    /// For how many more turns nothing may come.
+    /// The number of further turns in which nothing may come.
     turns_left: u64,
-    /// For how many turns nothing may come.
+    /// The number of turns in a row in which nothing may come.
     turns: u64,
 }
 
 impl<'a, C: Clock> Connection<'a, C> {
-    /// Connects to a port of 127.0.0.1, which takes 5 seconds at most. The response timeout begins before
-    /// it.
+    /// Connects to a port of 127.0.0.1. The connect takes at most 5 seconds. The response timeout begins
+    /// before the connect.
     pub(crate) fn open(
         clock: &'a C,
         port: u16,
@@ -51,7 +51,7 @@ impl<'a, C: Clock> Connection<'a, C> {
         let timeout = Duration::from_secs(timeout.seconds);
         let write_wait = timeout.min(Duration::from_secs(CONNECT_SECONDS));
         let read_wait = timeout.min(Duration::from_secs(TURN_SECONDS));
-        let stream = connect(port, write_wait, read_wait)?;
+        let stream = connect(clock, port, write_wait, read_wait)?;
         Ok(Connection {
             stream,
             clock,
@@ -62,13 +62,12 @@ impl<'a, C: Clock> Connection<'a, C> {
         })
     }
 
-    /// What is left of the response timeout; `TimedOut` where nothing is.
+    /// The time that is left of the response timeout; `TimedOut` if none is left.
     fn time_left(&self) -> io::Result<Duration> {
         time_left(self.timeout, self.start.elapsed(self.clock)?)
     }
 
-    /// Writes as the stream does, but waits for no longer than 5 seconds, nor than the response timeout
-    /// lets it.
+    /// Writes as the stream does. Waits at most 5 seconds, and at most until the response timeout.
     fn try_write(&mut self, bytes: &[u8]) -> io::Result<usize>
         ensures { WritesAtMost result bytes.now }
     {
@@ -79,8 +78,8 @@ impl<'a, C: Clock> Connection<'a, C> {
         self.stream.write(bytes)
     }
 
-    /// Reads as the stream does, but waits for no longer than a second, nor than the response timeout
-    /// lets it; `Interrupted` where nothing came.
+    /// Reads as the stream does. Waits at most a second, and at most until the response timeout;
+    /// `Interrupted` if nothing came.
     fn read_in_turn(&mut self, buf: &mut [u8]) -> io::Result<usize>
         ensures { ReadsAtMost result buf.new }
     {
@@ -97,7 +96,7 @@ impl<'a, C: Clock> Connection<'a, C> {
         }
     }
 
-    /// What a read answers in whose turn nothing came.
+    /// The error of a read in whose turn nothing came.
     fn after_silence(&mut self) -> io::Error {
         self.turns_left = self.turns_left.saturating_sub(1);
         if self.turns_left == 0 {
@@ -106,7 +105,7 @@ impl<'a, C: Clock> Connection<'a, C> {
         io::Error::from(ErrorKind::Interrupted)
     }
 
-    /// Writes as the stream does. It is tried again where no byte got on its way, up to 30 seconds.
+    /// Writes as the stream does. Repeats a write that sent no byte, for up to 30 seconds.
     fn write_in_tries(&mut self, bytes: &[u8]) -> io::Result<usize>
         ensures { WritesAtMost result bytes.now }
     {

@@ -18,7 +18,8 @@ pub struct Endpoints<'a, R: Net + Clock> {
 }
 
 impl<'a, R: Net + Clock> Endpoints<'a, R> {
-    /// Endpoints of a switch that listens at these ports. Each response may take so long.
+    /// The endpoints of a switch that listens at the ports `own`. `timeout` is the timeout of each
+    /// response.
     pub fn new(rt: &'a R, own: OwnPorts, timeout: ResponseTimeout) -> Endpoints<'a, R> {
         Endpoints { rt, own, timeout }
     }
@@ -27,8 +28,8 @@ impl<'a, R: Net + Clock> Endpoints<'a, R> {
 impl<'a, R: Net + Clock> Dial for Endpoints<'a, R> {
     type Stream = Connection<'a, R>;
 
-    /// Connects to an endpoint, which takes 5 seconds at most. A port of the switch itself is refused by
-    /// `InvalidInput`, without a connection.
+    /// Connects to an endpoint. The connect takes at most 5 seconds. A port of the switch itself is
+    /// refused with `InvalidInput`, without a connection.
     fn dial(&self, port: u16) -> io::Result<Connection<'a, R>> {
         if self.own.is_own(port) {
             return Err(io::Error::from(ErrorKind::InvalidInput));

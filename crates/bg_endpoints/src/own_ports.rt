@@ -2,13 +2,13 @@
 ghost use Rattle.std.specs.Prelude.{◌≡◌};
 ghost use Rattle.bg_endpoints.specs.OwnPorts.{is_own};
 
-/// The ports at which the switch itself listens. A request that went to one of them would come back
-/// to the switch.
+/// The ports at which the switch itself listens. A request to one of them would come back to the
+/// switch.
 #[derive(Clone, Copy, Debug, Drop, PartialEq, Eq)]
 pub struct OwnPorts {
     /// The port of the active service.
     pub active: u16,
-    /// The port of the preview service, where there is one.
+    /// The port of the preview service, if there is one.
     pub preview: Option<u16>,
     /// The control port.
     pub control: u16,

@@ -1,4 +1,4 @@
-//! What is left of a timeout.
+//! The time that is left of a timeout.
 ghost use Rattle.std.specs.Prelude.{◌≡◌, ◌<◌, ◌≤◌, ◌-◌, IfErr, IfOk};
 ghost use Rattle.std.specs.Duration.{as_nanos};
 ghost use Rattle.std.specs.IoError.{error_kind};
@@ -7,7 +7,7 @@ use std::io;
 use std::io::ErrorKind;
 use std::time::Duration;
 
-/// What is left of a timeout, once a time has elapsed; `TimedOut` where nothing is left.
+/// The time that is left of a timeout after `elapsed`; `TimedOut` if none is left.
 pub(crate) fn time_left(timeout: Duration, elapsed: Duration) -> io::Result<Duration>
     ensures some { IfOk result (λ left. 0 < as_nanos left) }
     ensures value { IfOk result (λ left. as_nanos left ≡ as_nanos timeout - as_nanos elapsed) }

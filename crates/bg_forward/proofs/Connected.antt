@@ -1,4 +1,5 @@
--- Lemmas on what a client was written: first while its request was read, then at the end.
+-- Lemmas on the bytes that were written to a client: first while its request was read, then at the
+-- end.
 use Rattle.std.proofs.Common.{ℕ, Bool, true, false, if◌then◌else◌, IfSome, List, [], Option}
 use Rattle.std.proofs.Common.{Some, None, Ok, Err, inl, inr, refl, sym, ◌∙◌, append-nil}
 use Rattle.std.specs.Io.KnownBytes.{Appends, Keeps}
@@ -21,7 +22,7 @@ kept None new k = tt
 kept (Some x) None k = absurd k
 kept (Some x) (Some y) k = k ∙ sym (append-nil x)
 
--- the client was written nothing before what it was written last
+-- nothing was written to the client before the last text
 pub kept_before : (old mid new : Option (List ℕ)) (read : ReadOutcome) (e : End) → Keeps old mid
     → WroteLast mid new read e → WroteLast old new read e
 kept_before old mid new read end.WriteFailed k w = tt
@@ -95,7 +96,7 @@ module _ (input old mid new : Option (List ℕ)) where
         wrote = ended input old mid new (Ok request) b e last;
       }
 
-  -- no request was read, and the stream was not what failed in writing
+  -- no request was read, and writing to the stream did not fail
   refused : (f : RequestFault) (e : End) → IfSome input (λ bytes. RequestFails bytes f)
       → WroteOnFault input old mid f → EndsBy (request_status f) f e → WroteLast mid new (Err f) e
       → Connection input old new None e

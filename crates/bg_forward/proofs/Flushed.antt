@@ -1,9 +1,9 @@
--- A lemma on a text that is written through a buffer and handed on.
+-- A lemma on a text that is written through a buffer and flushed.
 use Rattle.std.proofs.Common.{◌≡◌, ℕ, List, [], ◌++◌, Option, Some, None, OnOk}
 use Rattle.std.proofs.Common.{Result, Ok, Err, sym, ap, subst, ◌∙◌, append-nil}
 use Rattle.std.specs.Io.KnownBytes.{Appends, Keeps, append_known}
 
--- where nothing was held before, and nothing is after, the stream was written just the text
+-- if the buffer was empty before and is empty after, exactly the text was written to the stream
 appended : (old mid new : Option (List ℕ)) (text : List ℕ) → Appends (append_known old []) mid text
     → Keeps mid (append_known new []) → Appends old new text
 appended None mid new text wrote kept = tt

@@ -1,9 +1,9 @@
--- Lemmas on a buffer that hands on what it holds.
+-- Lemmas on flushing a buffer.
 use Rattle.std.proofs.Common.{◌≡◌, ℕ, List, ◌++◌, take, drop, Option, ap, sym, subst, ◌∙◌, take-append-drop}
 use Rattle.std.proofs.KnownBytes.{Keeps-trans, append_known-kept, append_known-moved}
 use Rattle.std.specs.Io.KnownBytes.{Appends, Keeps, append_known}
 
--- the stream took the first of the bytes that are held, and the rest is held
+-- the stream took the first of the buffered bytes, and the rest stays buffered
 pub handed_on : (first old new : Option (List ℕ)) (held given rest : List ℕ) (count : ℕ)
     → Keeps first (append_known old held) → given ≡ held → Appends old new (take count given)
     → rest ≡ drop count held → Keeps first (append_known new rest)

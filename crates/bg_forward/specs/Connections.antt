@@ -1,4 +1,4 @@
--- What became of a connection, and what its client was written.
+-- The outcome of a connection, and the bytes that were written to its client.
 use Rattle.std.specs.Prelude.{◌≡◌, ◌⊎◌, ℕ, IfSome, if◌then◌else◌, List}
 use Rattle.std.specs.Prelude.{[], ◌++◌, Option, Some, None, Result, Ok, Err, ⊤}
 use Rattle.std.specs.Io.KnownBytes.{Appends}
@@ -16,7 +16,7 @@ use Rattle.bg_http_read.specs.Requests.{HeadRefused, JudgedHead, ReadsRequest, R
 use Rattle.bg_forward.specs.declared.serving.End.{End}
 use Rattle.bg_forward.specs.declared.serving.End.TheVariants as end
 
--- what came of reading a request
+-- the outcome of reading a request
 abbrev pub ReadOutcome : Type 0
 ReadOutcome = Result Request RequestFault
 
@@ -26,27 +26,27 @@ ReadsAs input (Ok request) =
     IfSome input (λ bytes. (rest : List ℕ) × ReadsRequest bytes request rest)
 ReadsAs input (Err fault) = IfSome input (λ bytes. RequestFails bytes fault)
 
--- a refusal in this status, unless writing it failed
+-- a refusal with this status, unless writing it failed
 abbrev pub MayBeRefused : ℕ → End → Type 0
 MayBeRefused status e = (e ≡ end.Refused status) ⊎ (e ≡ end.WriteFailed)
 
--- an endpoint that can't be reached or gives no response is a bad gateway; for want of memory the
--- service is unavailable
+-- an endpoint that cannot be reached or gives no response makes the answer a bad gateway; an allocation
+-- failure makes the service unavailable
 abbrev pub IsGatewayStatus : ℕ → Type 0
 IsGatewayStatus status = (status ≡ 502) ⊎ (status ≡ 503)
 
--- how a connection ends whose client is not to be answered
+-- the end of a connection whose client is not answered
 abbrev pub unanswered : RequestFault → End
 unanswered fault.Closed = end.Closed
 unanswered fault.ReadFailed = end.ReadFailed
 unanswered _ = end.WriteFailed
 
--- a fault with a status is refused in it, and one without ends the connection
+-- a fault with a status is refused with it, and one without a status ends the connection
 abbrev pub EndsBy : Option ℕ → RequestFault → End → Type 0
 EndsBy (Some status) fault e = MayBeRefused status e
 EndsBy None fault e = e ≡ unanswered fault
 
--- how a connection may end that entered
+-- the possible ends of a connection that entered
 abbrev pub MayEndInside : End → Type 0
 MayEndInside (end.Answered code) = ⊤
 MayEndInside (end.Refused status) = IsGatewayStatus status
@@ -54,8 +54,8 @@ MayEndInside end.WriteFailed = ⊤
 MayEndInside end.Closed = ⊥
 MayEndInside end.ReadFailed = ⊥
 
--- how a connection may end, by what was read and by whether it entered: no request that is refused
--- enters, and one that the gate refuses is answered 503
+-- the possible ends of a connection, by the outcome of reading and by whether it entered: a request
+-- that is refused does not enter, and the answer to one that the gate refuses is 503
 abbrev pub MayEnd : ReadOutcome → Option Ticket → End → Type 0
 MayEnd (Err fault) None e = EndsBy (request_status fault) fault e
 MayEnd (Err fault) (Some t) e = ⊥
@@ -68,7 +68,7 @@ IsResponseText (Ok request) code text =
     (response : Response) × (response.code ≡ code) × (text ≡ response_text request response)
 IsResponseText (Err fault) code text = ⊥
 
--- what the client is written last, by how the connection ended
+-- the bytes that are written to the client last, by the end of the connection
 abbrev pub IsLastText : ReadOutcome → End → List ℕ → Type 0
 IsLastText read end.Closed text = text ≡ []
 IsLastText read end.ReadFailed text = text ≡ []
@@ -76,26 +76,26 @@ IsLastText read (end.Refused status) text = text ≡ refusal_text status
 IsLastText read (end.Answered code) text = IsResponseText read code text
 IsLastText read end.WriteFailed text = ⊤
 
--- what was written last; where writing failed, nothing is said
+-- what was written last; nothing is said if writing failed
 abbrev pub WroteLast : Option (List ℕ) → Option (List ℕ) → ReadOutcome → End → Type 0
 WroteLast old new read end.WriteFailed = ⊤
 WroteLast old new read e = (text : List ℕ) × IsLastText read e text × Appends old new text
 
--- a head that passes all rules was read, and this is what it is owed: `100 Continue` or nothing
+-- a head that passes all rules was read, and this is owed to it: `100 Continue` or nothing
 pub record IsOwed (input : Option (List ℕ)) (interim : List ℕ) : Type 0 where
   pub head : RequestHead
   pub framing : Framing
   pub begins : IfSome input (λ bytes. (after : List ℕ) × JudgedHead bytes head framing after)
   pub interim_is : interim ≡ (if owes_continue head framing then continue_text else [])
 
--- what was written while the request was read: what its head is owed, and nothing where the head
--- was refused. Where a read failed or memory was refused it may be either
+-- what was written while the request was read: what is owed to its head, and nothing if the head
+-- was refused. If a read or an allocation failed, it may be either
 abbrev pub IsInterim : Option (List ℕ) → ReadOutcome → List ℕ → Type 0
 IsInterim input (Ok request) interim = IsOwed input interim
 IsInterim input (Err fault) interim =
     ((interim ≡ []) × IfSome input (λ bytes. HeadRefused bytes fault)) ⊎ IsOwed input interim
 
--- what the client was written: first while its request was read, then at the end
+-- the bytes that were written to the client: first while its request was read, then at the end
 pub record Wrote (input old new : Option (List ℕ)) (read : ReadOutcome) (e : End) : Type 0 where
   pub interim : List ℕ
   pub text : List ℕ
@@ -103,13 +103,14 @@ pub record Wrote (input old new : Option (List ℕ)) (read : ReadOutcome) (e : E
   pub is_last : IsLastText read e text
   pub appends : Appends old new (interim ++ text)
 
--- the same, where writing to the client didn't fail
+-- the same, unless writing to the client failed
 abbrev pub WroteUnlessFailed
     : Option (List ℕ) → Option (List ℕ) → Option (List ℕ) → ReadOutcome → End → Type 0
 WroteUnlessFailed input old new read end.WriteFailed = ⊤
 WroteUnlessFailed input old new read e = Wrote input old new read e
 
--- a connection: what was read, that it may end so, and what the client was written
+-- a connection: what was read, that this end is possible, and the bytes that were written to the
+-- client
 pub record Connection (input old new : Option (List ℕ)) (entered : Option Ticket) (e : End)
     : Type 0 where
   pub read : ReadOutcome

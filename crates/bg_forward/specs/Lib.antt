@@ -1,3 +1,4 @@
 pub mod Buffers
 pub mod Connections
+pub mod Reasons
 pub mod Seats

@@ -1,4 +1,4 @@
-//! A stream with a buffer of fixed size before it.
+//! A buffer of fixed size for the writes to a stream.
 ghost use Rattle.std.specs.Prelude.{◌≡◌, ◌≤◌, [], OnOk, drop, vec_len};
 ghost use Rattle.std.specs.Io.KnownBytes.{Keeps};
 ghost use Rattle.bg_forward.specs.Buffers.{buffered, held, stream_of};
@@ -8,15 +8,15 @@ use std::alloc::Global;
 use std::io;
 use std::io::{ErrorKind, Write};
 
-/// How many bytes are gathered before they go on.
+/// The size of the buffer in bytes.
 const ROOM: usize = 4096;
 
-/// A stream whose writes are gathered, up to 4,096 bytes, and go on where there is no room for
-/// more, or at `flush`: so the head of a message goes out in one write where it fits. What is held
-/// when this is dropped is lost.
+/// A stream whose writes are buffered, up to 4,096 bytes. The buffer is written when it is full, or
+/// at `flush`, so a message head that fits goes out in one write. Buffered bytes are lost when this
+/// is dropped.
 ///
-/// std's `BufWriter` drops its writer where memory is refused; here each write then goes on at
-/// once.
+/// std's `BufWriter` drops its writer if an allocation fails. Here each write then goes to the
+/// stream at once.
 #[derive(Drop)]
 pub struct Buffered<S> {
     pub(crate) stream: S,
@@ -24,7 +24,7 @@ pub struct Buffered<S> {
 }
 
 impl<S> Buffered<S> {
-    /// A buffer before a stream.
+    /// A stream with an empty buffer.
     pub fn new(alloc: Global, stream: S) -> Buffered<S>
         ensures stream { stream_of result ≡ stream }
         ensures empty { held result ≡ [] }
@@ -43,7 +43,7 @@ impl<S> Buffered<S> {
         &self.stream
     }
 
-    /// The stream alone. What is held is lost.
+    /// The stream without its buffer. Buffered bytes are lost.
     pub fn into_inner(self) -> S
         ensures { result ≡ stream_of self }
     {
@@ -53,7 +53,8 @@ impl<S> Buffered<S> {
 }
 
 impl<S: Write> Buffered<S> {
-    /// Hands on what is held. Where that fails, what wasn't taken is still held.
+    /// Writes the buffered bytes to the stream. If that fails, the bytes that were not written stay
+    /// buffered.
     fn hand_on(&mut self) -> io::Result<()>
         ensures bytes { Keeps (buffered S.contents self.old) (buffered S.contents self.new) }
         ensures empty { OnOk result (held self.new ≡ []) }

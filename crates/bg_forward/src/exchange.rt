@@ -1,15 +1,18 @@
-//! What is done with a request that entered, and what its client is answered.
-ghost use Rattle.std.specs.Prelude.{◌≡◌, ◌<◌, ◌⊎◌, [], IfErr, IsTrue, OnOk, Ok};
+//! Handles a request that entered, and answers its client.
+ghost use Rattle.std.specs.Prelude.{◌≡◌, ◌<◌, ◌⊎◌, [], IfErr, IfOk, IfSome, IsTrue, OnOk, Ok};
 ghost use Rattle.std.specs.Io.KnownBytes.{Appends, Keeps};
 ghost use Rattle.bg_http.specs.Statuses.{is_refusal};
-ghost use Rattle.bg_http.specs.Texts.{refusal_text, response_text};
+ghost use Rattle.bg_http.specs.Texts.{refusal_text, request_text, response_text};
+ghost use Rattle.bg_http_read.specs.Responses.{ReadsResponse};
 ghost use Rattle.bg_forward.specs.Buffers.{held, stream_of};
 ghost use Rattle.bg_forward.specs.Connections.{IsGatewayStatus, MayBeRefused, MayEndInside, ReadOutcome};
 ghost use Rattle.bg_forward.specs.Connections.{WroteLast};
+ghost use Rattle.bg_forward.specs.Reasons.{TellsWhy, reason_status};
 ghost use Rattle.bg_forward.specs.declared.serving.End.TheVariants as end;
 
 use crate::buffered::Buffered;
 use crate::gate::Gate;
+use crate::reason::Reason;
 use crate::serving::End;
 use crate::streams::{ClientStream, Dial};
 use bg_book::GoOn;
@@ -20,8 +23,16 @@ use std::alloc::Global;
 use std::io;
 use std::io::{ErrorKind, Read, Write};
 
-/// How many bytes of a response are asked for at once.
+/// The number of bytes of a response that one read asks for.
 const PIECE: usize = 8192;
+
+/// The outcome of a request that entered.
+#[derive(Clone, Copy, PartialEq, Eq, Debug, Drop)]
+pub(crate) struct Outcome {
+    pub(crate) end: End,
+    /// Why the client was refused.
+    pub(crate) reason: Option<Reason>,
+}
 
 /// Forwards a request to a port, and answers its client with the response or a refusal.
 pub(crate) fn exchange<N: Names, G: Gate<N>, S: ClientStream, D: Dial>(
@@ -32,23 +43,30 @@ pub(crate) fn exchange<N: Names, G: Gate<N>, S: ClientStream, D: Dial>(
     port: u16,
     client: &mut Buffered<S>,
     dial: &D,
-) -> End
+) -> Outcome
     requires within { 0 < seat.old.number }
     requires empty { held client.old ≡ [] }
     ensures seat { seat.new ≡ seat.old }
-    ensures may_end { MayEndInside result }
+    ensures may_end { MayEndInside result.end }
+    ensures why { TellsWhy result.end result.reason }
     ensures wrote { WroteLast (S.contents (stream_of client.old))
-        (S.contents (stream_of client.new)) (Ok request.now) result }
+        (S.contents (stream_of client.new)) (Ok request.now) result.end }
 {
     match forward(alloc, gate, seat, request, port, &mut client.stream, dial) {
-        Ok(response) => answer(request, &response, client),
-        Err(status) => refuse(status, client),
+        Ok(response) => Outcome {
+            end: answer(request, &response, client),
+            reason: None,
+        },
+        Err(reason) => Outcome {
+            end: refuse(reason.status(), client),
+            reason: Some(reason),
+        },
     }
 }
 
-/// Forwards a request to a port and reads the response. A fault is the status in which the client
-/// is refused: 503 where the request is given up, or memory is refused as the response is read, and
-/// 502 otherwise (RFC 9110 sections 15.6.3 and 15.6.4). The client is written nothing.
+/// Forwards a request to a port and reads the response. An error is the reason why the client is
+/// refused: with 503 if the request is given up or an allocation fails while the response is read,
+/// and with 502 otherwise (RFC 9110 sections 15.6.3 and 15.6.4). Writes nothing to the client.
 fn forward<N: Names, G: Gate<N>, S: ClientStream, D: Dial>(
     alloc: Global,
     gate: &G,
@@ -57,26 +75,41 @@ fn forward<N: Names, G: Gate<N>, S: ClientStream, D: Dial>(
     port: u16,
     client: &mut S,
     dial: &D,
-) -> Result<Response, u16>
+) -> Result<Response, Reason>
     requires { 0 < seat.old.number }
-    ensures status { IfErr result IsGatewayStatus }
+    ensures status { IfErr result (λ reason. IsGatewayStatus (reason_status reason)) }
     ensures seat { seat.new ≡ seat.old }
     ensures client { Keeps (S.contents client.old) (S.contents client.new) }
 {
-    let Ok(stream) = dial.dial(port) else {
-        return Err(502);
+    let stream = match dial.dial(port) {
+        Ok(stream) => stream,
+        Err(error) => return Err(Reason::of_dial(&error)),
     };
     if gate.may_go_on(seat) == GoOn::Cut {
-        return Err(503);
+        return Err(Reason::GivenUp);
     }
     let mut upstream = Buffered::new(alloc, stream);
-    if write_request(request, port, &mut upstream).is_err() || upstream.flush().is_err() {
-        return Err(502);
+    if let Err(error) = send_request(request, port, &mut upstream) {
+        return Err(Reason::of_stream(&error));
     }
     receive(alloc, gate, seat, request, client, &mut upstream.stream)
 }
 
-/// Whether a request is given up: its gate says so, or its client has gone.
+/// Writes a request and flushes it.
+fn send_request<S: Write>(
+    request: &Request,
+    port: u16,
+    upstream: &mut Buffered<S>,
+) -> io::Result<()>
+    requires { held upstream.old ≡ [] }
+    ensures { OnOk result (Appends (S.contents (stream_of upstream.old))
+        (S.contents (stream_of upstream.new)) (request_text request.now port)) }
+{
+    write_request(request, port, upstream)?;
+    upstream.flush()
+}
+
+/// Whether a request is given up, because its gate says so or its client has gone.
 fn is_given_up<N: Names, G: Gate<N>, S: ClientStream>(
     gate: &G,
     seat: &mut Seat<N>,
@@ -89,8 +122,8 @@ fn is_given_up<N: Names, G: Gate<N>, S: ClientStream>(
     gate.may_go_on(seat) == GoOn::Cut || client.has_gone()
 }
 
-/// Reads the response to a request, and asks before each read whether the request is given up. A
-/// read that was interrupted is tried again. Faults are those of `forward`.
+/// Reads the response to a request, and asks before each read whether the request is given up. An
+/// interrupted read is repeated. The errors are those of `forward`.
 fn receive<N: Names, G: Gate<N>, S: ClientStream, R: Read>(
     alloc: Global,
     gate: &G,
@@ -98,9 +131,11 @@ fn receive<N: Names, G: Gate<N>, S: ClientStream, R: Read>(
     request: &Request,
     client: &mut S,
     reader: &mut R,
-) -> Result<Response, u16>
+) -> Result<Response, Reason>
     requires { 0 < seat.old.number }
-    ensures status { IfErr result IsGatewayStatus }
+    ensures response { IfOk result (λ response. IfSome (R.remaining reader.old)
+        (λ input. ReadsResponse request.now response input)) }
+    ensures status { IfErr result (λ reason. IsGatewayStatus (reason_status reason)) }
     ensures seat { seat.new ≡ seat.old }
     ensures client { Keeps (S.contents client.old) (S.contents client.new) }
 {
@@ -108,28 +143,28 @@ fn receive<N: Names, G: Gate<N>, S: ClientStream, R: Read>(
     let mut piece = [0; PIECE];
     for _ in 0..MOST_TURNS {
         if is_given_up(gate, seat, client) {
-            return Err(503);
+            return Err(Reason::GivenUp);
         }
         match reader.read(&mut piece) {
             Ok(0) => {
                 return match parser.end() {
                     Ok(response) => Ok(response),
-                    Err(fault) => Err(fault.status()),
+                    Err(fault) => Err(Reason::of_response(fault)),
                 };
             }
             Ok(count) => match parser.feed(&piece[..count.min(PIECE)]) {
                 Ok(Some(response)) => return Ok(response),
                 Ok(None) => {}
-                Err(fault) => return Err(fault.status()),
+                Err(fault) => return Err(Reason::of_response(fault)),
             },
             Err(error) => {
                 if error.kind() != ErrorKind::Interrupted {
-                    return Err(502);
+                    return Err(Reason::of_stream(&error));
                 }
             }
         }
     }
-    Err(502)
+    Err(Reason::ResponseTimeout)
 }
 
 /// Answers a client with a response.
@@ -145,7 +180,7 @@ fn answer<S: Write>(request: &Request, response: &Response, client: &mut Buffere
     }
 }
 
-/// Writes a response and hands all of it on.
+/// Writes a response and flushes it.
 fn send_response<S: Write>(
     request: &Request,
     response: &Response,
@@ -173,7 +208,7 @@ pub(crate) fn refuse<S: Write>(status: u16, client: &mut Buffered<S>) -> End
     }
 }
 
-/// Writes a refusal and hands all of it on.
+/// Writes a refusal and flushes it.
 fn send_refusal<S: Write>(status: u16, client: &mut Buffered<S>) -> io::Result<()>
     requires status { IsTrue (is_refusal status) }
     requires empty { held client.old ≡ [] }

@@ -1,4 +1,4 @@
-//! A connection that stands in memory.
+//! A connection that is in memory.
 ghost use Rattle.std.specs.Prelude.{◌≡◌, ◌+◌, ◌<◌, [], IfSome, Some};
 ghost use Rattle.bg_forward.specs.Connections.{Connection};
 ghost use Rattle.bg_forward.specs.Seats.{calls_made, seat_after};
@@ -7,23 +7,24 @@ use crate::buffered::Buffered;
 use crate::gate::Gate;
 use crate::serving::{Served, serve_one};
 use crate::streams::Dial;
-use bg_http::{Bytes, Memory};
+use bg_http::{Bytes, MemoryStream};
 use bg_ledger::{Names, Seat};
 use bg_revisions::Service;
 use std::alloc::Global;
 
-/// What became of a connection that stands in memory.
+/// The outcome of a connection that is in memory.
 #[derive(Drop, Debug)]
 pub struct Exchange {
     /// What `serve_one` gave.
     pub served: Served,
-    /// What the client was written: `100 Continue` where it is owed, and the answer or the refusal.
+    /// The bytes that were written to the client: `100 Continue` if it is owed, and the answer or
+    /// the refusal.
     pub written: Bytes,
 }
 
-/// Serves the client whose bytes these are, as `serve_one` does, and keeps what it is written. Since
-/// such a client's bytes are known, and what it was written too, its contract is that of `serve_one`
-/// with nothing left open: it is what any caller over memory knows.
+/// Serves the client with these bytes, as `serve_one` does, and keeps the bytes that are written to
+/// it. The client's bytes and the bytes written to it are known, so the contract is that of
+/// `serve_one` with nothing unspecified.
 pub fn serve_in_memory<N: Names, G: Gate<N>, D: Dial>(
     alloc: Global,
     gate: &G,
@@ -42,7 +43,7 @@ pub fn serve_in_memory<N: Names, G: Gate<N>, D: Dial>(
     ensures client { Connection (Some input.now) (Some []) (Some result.written)
         result.served.entered result.served.end }
 {
-    let mut client = Buffered::new(alloc, Memory::new(alloc, input));
+    let mut client = Buffered::new(alloc, MemoryStream::new(alloc, input));
     let served = serve_one(alloc, gate, seat, service, &mut client, dial);
     let written = Bytes::from_vec(client.into_inner().written);
     Exchange { served, written }

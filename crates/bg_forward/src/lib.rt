@@ -1,23 +1,25 @@
-//! One connection served from its request to its answer, and workers that do so side by side.
+//! Serves a connection from its request to its answer, and runs workers that do so in parallel.
 //!
-//! A worker has a seat of its own. Before a request is forwarded it enters at a [`Gate`], after the
-//! answer it leaves there, on every path. Where connections come from and go to is told by
-//! [`Accept`] and [`Dial`], so that all of it also runs over memory.
+//! Each worker has its own seat. A request enters at a [`Gate`] before it is forwarded, and leaves
+//! there after the answer, on every path. [`Accept`] gives the connections of clients and [`Dial`]
+//! those to endpoints, so all of it also runs over memory.
 #![tactic(auto)]
 
 mod buffered;
-mod door;
+mod desk_gate;
 mod exchange;
 mod gate;
 mod in_memory;
+mod reason;
 mod serving;
 mod streams;
 mod workers;
 
 pub use buffered::Buffered;
-pub use door::Door;
+pub use desk_gate::DeskGate;
 pub use gate::Gate;
 pub use in_memory::{Exchange, serve_in_memory};
+pub use reason::Reason;
 pub use serving::{End, Served, serve_one};
 pub use streams::{Accept, ClientStream, Dial};
 pub use workers::run_workers;

@@ -3,11 +3,13 @@ ghost use Rattle.std.specs.Prelude.{◌≡◌, ◌+◌, ◌<◌, [], IfSome, Ok,
 ghost use Rattle.bg_http.specs.Statuses.{request_status};
 ghost use Rattle.bg_forward.specs.Buffers.{held, stream_of};
 ghost use Rattle.bg_forward.specs.Connections.{Connection, EndsBy, MayEnd, WroteLast};
+ghost use Rattle.bg_forward.specs.Reasons.{TellsWhy};
 ghost use Rattle.bg_forward.specs.Seats.{calls_made, seat_after};
 
 use crate::buffered::Buffered;
-use crate::exchange::{exchange, refuse};
+use crate::exchange::{Outcome, exchange, refuse};
 use crate::gate::Gate;
+use crate::reason::Reason;
 use crate::streams::{ClientStream, Dial};
 use bg_book::Ticket;
 use bg_http::{Request, RequestFault};
@@ -20,43 +22,46 @@ use std::io::Write;
 /// How a connection ended for its client.
 #[derive(Clone, Copy, PartialEq, Eq, Debug, Drop)]
 pub enum End {
-    /// The client ended its input before its request was whole, and was written no answer.
+    /// The client ended its input before the end of its request. No answer was written to it.
     Closed,
-    /// Reading the request failed, and the client was written no answer.
+    /// Reading the request failed. No answer was written to the client.
     ReadFailed,
-    /// The client was written a refusal with this status: 400, 413, 431, 501, 502 or 503.
+    /// A refusal with this status was written to the client: 400, 413, 431, 501, 502 or 503.
     Refused(u16),
-    /// The client was written the response of an endpoint, with this status code.
+    /// The response of an endpoint, with this status code, was written to the client.
     Answered(u16),
-    /// Writing to the client failed; a part may have been written.
+    /// Writing to the client failed. A part may have been written.
     WriteFailed,
 }
 
-/// What became of a connection.
+/// The outcome of a connection.
 #[derive(Clone, Copy, PartialEq, Eq, Debug, Drop)]
 pub struct Served {
-    /// What the request was given where it entered; none where it didn't.
+    /// The ticket that the request got when it entered; `None` if it did not enter.
     pub entered: Option<Ticket>,
     /// How the connection ended for its client.
     pub end: End,
+    /// Why the client was refused, also if the refusal could not be written.
+    pub reason: Option<Reason>,
 }
 
-/// Serves one client on a seat that is out: reads its request whole, enters, dials the ticket's
-/// port, forwards the request, reads the response, writes it, and leaves. Wherever this fails, the
-/// seat is out at the end.
+/// Serves one client on a seat that is out: reads its whole request, enters, dials the ticket's
+/// port, forwards the request, reads the response, writes it, and leaves. The seat is out at the
+/// end, also after a failure.
 ///
-/// A request that can't be read is answered by its fault's status (`RequestFault::status`) and
-/// doesn't enter; where it has none, nothing is answered. A refusal of the gate is answered 503. An
-/// endpoint that can't be dialled or written to, or whose response can't be read, is answered 502,
-/// and 503 where memory was refused as that response was read. The gate is asked once after the dial
-/// and before each read of the response: where it gives the request up, the endpoint is let go, and
-/// the client is answered 503. The client's stream is asked too before each read of the response:
-/// where the client has gone, the request ends in the same way, and writing the 503 mostly fails.
-/// So nobody holds a seat and an endpoint by asking and going (nginx's `proxy_ignore_client_abort
-/// off`). The request leaves once its answer or refusal was written or its writing failed.
+/// A request that cannot be read does not enter. It is answered with its fault's status
+/// (`RequestFault::status`), or not at all if the fault has none. If the gate refuses the request,
+/// the answer is 503. If the endpoint cannot be dialled or written to, or its response cannot be
+/// read, the answer is 502; it is 503 if an allocation failed while the response was read. The gate
+/// is asked once after the dial and before each read of the response. If it gives the request up,
+/// the connection to the endpoint is closed, and the answer is 503. The client's stream is asked too
+/// before each read of the response. If the client has gone, the request ends in the same way, and
+/// writing the 503 usually fails. So a client that has gone does not hold a seat and an endpoint
+/// (nginx's `proxy_ignore_client_abort off`). The request leaves after its answer or refusal was
+/// written or the write failed.
 ///
-/// The client and the endpoint are written through a buffer, which is flushed before anything
-/// further is done; a flush that fails counts as a failed write.
+/// The writes to the client and to the endpoint go through a buffer, which is flushed before the
+/// next step. A failed flush counts as a failed write.
 pub fn serve_one<N: Names, G: Gate<N>, S: ClientStream, D: Dial>(
     alloc: Global,
     gate: &G,
@@ -73,20 +78,25 @@ pub fn serve_one<N: Names, G: Gate<N>, S: ClientStream, D: Dial>(
     ensures seat { seat.new ≡ seat_after seat.old result.entered }
     ensures number { IfSome result.entered (λ t. 0 < t.number) }
     ensures gives { IfSome result.entered (λ t. G.gives gate.now service seat.old t) }
+    ensures why { TellsWhy result.end result.reason }
     ensures client { Connection (S.remaining (stream_of client.old))
         (S.contents (stream_of client.old)) (S.contents (stream_of client.new))
         result.entered result.end }
 {
     match read_request(alloc, &mut client.stream) {
         Ok(request) => pass(alloc, gate, seat, service, &request, client, dial),
-        Err(fault) => Served {
-            entered: None,
-            end: turn_away(fault, client),
-        },
+        Err(fault) => {
+            let outcome = turn_away(fault, client);
+            Served {
+                entered: None,
+                end: outcome.end,
+                reason: outcome.reason,
+            }
+        }
     }
 }
 
-/// Passes a request through the gate, answers it, and leaves.
+/// Enters a request at the gate, answers it, and leaves.
 fn pass<N: Names, G: Gate<N>, S: ClientStream, D: Dial>(
     alloc: Global,
     gate: &G,
@@ -102,36 +112,47 @@ fn pass<N: Names, G: Gate<N>, S: ClientStream, D: Dial>(
     ensures number { IfSome result.entered (λ t. 0 < t.number) }
     ensures gives { IfSome result.entered (λ t. G.gives gate.now service seat.old t) }
     ensures may_end { MayEnd (Ok request.now) result.entered result.end }
+    ensures why { TellsWhy result.end result.reason }
     ensures wrote { WroteLast (S.contents (stream_of client.old))
         (S.contents (stream_of client.new)) (Ok request.now) result.end }
 {
-    let Ok(ticket) = gate.enter(seat, service) else {
-        return Served {
-            entered: None,
-            end: refuse(503, client),
-        };
+    let ticket = match gate.enter(seat, service) {
+        Ok(ticket) => ticket,
+        Err(fault) => {
+            return Served {
+                entered: None,
+                end: refuse(503, client),
+                reason: Some(Reason::of_enter(fault)),
+            };
+        }
     };
-    let end = exchange(alloc, gate, seat, request, ticket.port, client, dial);
+    let outcome = exchange(alloc, gate, seat, request, ticket.port, client, dial);
     gate.leave(seat);
     Served {
         entered: Some(ticket),
-        end,
+        end: outcome.end,
+        reason: outcome.reason,
     }
 }
 
 /// Ends a connection that gave no request.
-fn turn_away<S: Write>(fault: RequestFault, client: &mut Buffered<S>) -> End
+fn turn_away<S: Write>(fault: RequestFault, client: &mut Buffered<S>) -> Outcome
     requires { held client.old ≡ [] }
-    ensures may_end { EndsBy (request_status fault) fault result }
+    ensures may_end { EndsBy (request_status fault) fault result.end }
+    ensures why { TellsWhy result.end result.reason }
     ensures wrote { WroteLast (S.contents (stream_of client.old))
-        (S.contents (stream_of client.new)) (Err fault) result }
+        (S.contents (stream_of client.new)) (Err fault) result.end }
 {
-    if let Some(status) = fault.status() {
-        return refuse(status, client);
+    if let Some(reason) = Reason::of_request(fault) {
+        return Outcome {
+            end: refuse(reason.status(), client),
+            reason: Some(reason),
+        };
     }
-    match fault {
+    let end = match fault {
         RequestFault::Closed => End::Closed,
         RequestFault::ReadFailed => End::ReadFailed,
         _ => End::WriteFailed,
-    }
+    };
+    Outcome { end, reason: None }
 }

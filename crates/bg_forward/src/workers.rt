@@ -13,12 +13,12 @@ use std::thread;
 use std::thread::Threads;
 
 /// Serves up to `count` connections on each seat, one thread for each seat; `services` has the
-/// service of each. An accept that fails counts as one of the connections, and the worker of a seat
-/// ends early where no further connection comes. `u64::MAX` is no limit that is ever met. Where no
-/// thread can be had, seats are worked one after the other.
+/// service of each. A failed accept counts as one of the connections. The worker of a seat ends
+/// early if no further connection comes. `u64::MAX` is a limit that is never reached. If no thread
+/// can be started, the seats are served one after the other.
 ///
-/// Every seat is out at the end, and its calls have risen by two for each of its connections that
-/// entered.
+/// Every seat is out at the end, and its number of calls has risen by two for each of its
+/// connections that entered.
 pub fn run_workers<
     N: Names + Send + Sync,
     R: Threads + Sync,
@@ -78,7 +78,6 @@ fn work<N: Names, G: Gate<N>, A: Accept, D: Dial>(
         };
         let mut client = Buffered::new(alloc, stream);
         let served = serve_one(alloc, gate, seat, service, &mut client, dial);
-        // a request that entered was read whole
-        accept.close(client.into_inner(), served.entered.is_some());
+        accept.close(client.into_inner(), &served);
     }
 }

@@ -1,4 +1,4 @@
--- Where a request enters and leaves, and where it doesn't.
+-- When a request may enter or leave, and when it may not.
 use Rattle.std.proofs.Common.{◌≡◌, true, false, List, [], ◌∷◌, refl}
 use Rattle.bg_history.specs.declared.entry.Entry.{Entry}
 use Rattle.bg_history.specs.declared.entry.Entry.TheVariants.{Available, Enter, Leave}
@@ -10,7 +10,7 @@ use Rattle.bg_history.specs.Allowed.{is_allowed}
 abbrev started : List Entry
 started = Available 1 2 ∷ []
 
--- so has revision 2, whose attempt runs
+-- revisions 1 and 2 have their endpoints, and the attempt of revision 2 runs
 abbrev beside : List Entry
 beside = Available 2 2 ∷ deploy_2 ∷ started
 
@@ -26,15 +26,15 @@ held = Enter 0 service.Active 1 1 9002 ∷ started
 enter_active : is_allowed plain opening (Enter 0 service.Active 1 1 9002) started ≡ true
 enter_active = refl
 
--- and not at the first
+-- request 1 doesn't enter at the first port
 enter_at_the_first_port : is_allowed plain opening (Enter 0 service.Active 1 1 9001) started ≡ false
 enter_at_the_first_port = refl
 
--- with one endpoint it enters at the first
+-- with one endpoint, request 1 enters at the first port
 enter_at_the_only_endpoint : is_allowed plain opening (Enter 0 service.Active 1 1 9001) (Available 1 1 ∷ []) ≡ true
 enter_at_the_only_endpoint = refl
 
--- without one it doesn't
+-- without an endpoint, no request enters
 enter_without_endpoints : is_allowed plain opening (Enter 0 service.Active 1 1 9002) (Available 1 0 ∷ []) ≡ false
 enter_without_endpoints = refl
 
@@ -42,23 +42,23 @@ enter_without_endpoints = refl
 enter_beside_an_attempt : is_allowed plain opening (Enter 0 service.Active 1 1 9002) beside ≡ true
 enter_beside_an_attempt = refl
 
--- and revision 2 isn't reached by it
+-- the active service doesn't reach revision 2
 enter_of_the_new_revision : is_allowed plain opening (Enter 0 service.Active 1 2 9102) beside ≡ false
 enter_of_the_new_revision = refl
 
--- it is by the preview service
+-- the preview service reaches revision 2
 enter_preview : is_allowed with_preview opening (Enter 0 service.Preview 1 2 9101) previewed ≡ true
 enter_preview = refl
 
--- which doesn't reach revision 1 then
+-- the preview service doesn't reach revision 1 while the attempt of revision 2 runs
 enter_preview_of_the_stable : is_allowed with_preview opening (Enter 0 service.Preview 1 1 9002) previewed ≡ false
 enter_preview_of_the_stable = refl
 
--- nor anything where there is no such service
+-- no request enters at a preview service that isn't set
 enter_preview_unset : is_allowed plain opening (Enter 0 service.Preview 1 2 9102) beside ≡ false
 enter_preview_unset = refl
 
--- of 4 seats the last one is 3
+-- of 4 seats, the last one is seat 3
 enter_at_the_last_seat : is_allowed plain opening (Enter 3 service.Active 1 1 9002) started ≡ true
 enter_at_the_last_seat = refl
 
@@ -66,15 +66,15 @@ enter_at_the_last_seat = refl
 enter_past_the_last_seat : is_allowed plain opening (Enter 4 service.Active 1 1 9002) started ≡ false
 enter_past_the_last_seat = refl
 
--- a seat takes a request beside that of another seat
+-- a seat may take a request while another seat holds one
 enter_beside_a_request : is_allowed plain opening (Enter 1 service.Active 2 1 9001) held ≡ true
 enter_beside_a_request = refl
 
--- and none beside its own
+-- a seat can't take a second request
 enter_at_a_taken_seat : is_allowed plain opening (Enter 0 service.Active 2 1 9001) held ≡ false
 enter_at_a_taken_seat = refl
 
--- no number is given twice
+-- no two requests get the same number
 enter_number_again : is_allowed plain opening (Enter 1 service.Active 1 1 9002) held ≡ false
 enter_number_again = refl
 
@@ -82,18 +82,18 @@ enter_number_again = refl
 leave_held : is_allowed plain opening (Leave 0 1 1) held ≡ true
 leave_held = refl
 
--- and not by another seat
+-- a request doesn't leave from another seat
 leave_of_another_seat : is_allowed plain opening (Leave 1 1 1) held ≡ false
 leave_of_another_seat = refl
 
--- nor under another number
+-- a request doesn't leave under another number
 leave_of_another_number : is_allowed plain opening (Leave 0 2 1) held ≡ false
 leave_of_another_number = refl
 
--- nor at another revision
+-- a request doesn't leave from another revision
 leave_of_another_revision : is_allowed plain opening (Leave 0 1 2) held ≡ false
 leave_of_another_revision = refl
 
--- nor twice
+-- a request doesn't leave twice
 leave_again : is_allowed plain opening (Leave 0 1 1) (Leave 0 1 1 ∷ held) ≡ false
 leave_again = refl

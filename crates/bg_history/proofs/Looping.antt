@@ -8,10 +8,10 @@ use Rattle.std.proofs.lemmas.List.Sorted.{IsPermutation-reverse, list_any-IsPerm
 use Rattle.bg_history.specs.declared.entry.Entry.{Entry}
 use Rattle.bg_history.specs.declared.entry.Entry.TheVariants.{Enter, Leave}
 use Rattle.bg_history.specs.Requests.{request_numbers, entered, given}
-use Rattle.bg_history.specs.declared.compacting.Fate.{Fate}
-use Rattle.bg_history.specs.declared.compacting.Fate.TheVariants.{Stays, Goes, Closes}
+use Rattle.bg_history.specs.declared.compacting.Treatment.{Treatment}
+use Rattle.bg_history.specs.declared.compacting.Treatment.TheVariants.{Keep, Discard, CountClosed}
 use Rattle.bg_history.specs.Compacted.{left_numbers, is_among, without, thin, bump, raised}
-use Rattle.bg_history.specs.Compacting.{is_leave_of, fate_of, laid}
+use Rattle.bg_history.specs.Compacting.{is_leave_of, treatment_of, laid}
 use Rattle.bg_history.specs.Sound.{is_sound}
 use Rattle.bg_history.proofs.Laying.{reverse-last, get-at}
 use Rattle.bg_history.proofs.Raised.{raised-length, bump-sum}
@@ -29,21 +29,21 @@ reverse-split xs i d lt =
 any-reverse : (p : Entry → Bool) (xs : List Entry) → list_any p (reverse xs) ≡ list_any p xs
 any-reverse p xs = sym (list_any-IsPermutation p xs (reverse xs) (IsPermutation-reverse xs))
 
-fate-reverse : (e : Entry) (xs : List Entry) → fate_of e (reverse xs) ≡ fate_of e xs
-fate-reverse (Enter seat service number r port) xs = rw (any-reverse (is_leave_of number) xs) refl
-fate-reverse (Leave seat number r) xs = refl
-fate-reverse e xs = refl
+treatment-reverse : (e : Entry) (xs : List Entry) → treatment_of e (reverse xs) ≡ treatment_of e xs
+treatment-reverse (Enter seat service number r port) xs = rw (any-reverse (is_leave_of number) xs) refl
+treatment-reverse (Leave seat number r) xs = refl
+treatment-reverse e xs = refl
 
 pub adds-at : (n : ℕ) (closed : List ℕ) (xs : List Entry) (i : ℕ) (d : Entry) → i < length xs → is_sound n (reverse xs) ≡ true
-    → Adds n (is_among (left_numbers (reverse xs))) closed (get_or xs i d) (reverse (take i xs)) (fate_of (get_or xs i d) (drop (i + 1) xs))
+    → Adds n (is_among (left_numbers (reverse xs))) closed (get_or xs i d) (reverse (take i xs)) (treatment_of (get_or xs i d) (drop (i + 1) xs))
 adds-at n closed xs i d lt h =
     let split = reverse-split xs i d lt in
-    rw (← split, ← fate-reverse (get_or xs i d) (drop (i + 1) xs)) (adds n closed (reverse (drop (i + 1) xs)) (reverse (take i xs)) (get_or xs i d) (ap (is_sound n) split ∙ h))
+    rw (← split, ← treatment-reverse (get_or xs i d) (drop (i + 1) xs)) (adds n closed (reverse (drop (i + 1) xs)) (reverse (take i xs)) (get_or xs i d) (ap (is_sound n) split ∙ h))
 
--- what becomes of the entry at that place
-pub fate-now : (xs ys : List Entry) (i : ℕ) (d : Entry) (f : Fate) → i < length xs → drop i ys ≡ drop i xs
-    → ((e : Entry) (later : List Entry) → take (length ys - i) (drop i ys) ≡ e ∷ later → f ≡ fate_of e later) → f ≡ fate_of (get_or xs i d) (drop (i + 1) xs)
-fate-now xs ys i d f lt rest h = h (get_or xs i d) (drop (i + 1) xs) (take_rest ys i ∙ rest ∙ drop_more xs i d lt)
+-- the fate of the entry at that place
+pub treatment-now : (xs ys : List Entry) (i : ℕ) (d : Entry) (f : Treatment) → i < length xs → drop i ys ≡ drop i xs
+    → ((e : Entry) (later : List Entry) → take (length ys - i) (drop i ys) ≡ e ∷ later → f ≡ treatment_of e later) → f ≡ treatment_of (get_or xs i d) (drop (i + 1) xs)
+treatment-now xs ys i d f lt rest h = h (get_or xs i d) (drop (i + 1) xs) (take_rest ys i ∙ rest ∙ drop_more xs i d lt)
 
 pub at-now : (xs ys : List Entry) (i : ℕ) (d : Entry) → i < length xs → length ys ≡ length xs → drop i ys ≡ drop i xs → slice_get ys i ≡ Some (get_or xs i d)
 at-now xs ys i d lt len rest =
@@ -56,9 +56,9 @@ at-now xs ys i d lt len rest =
 pub rest-now : (xs ys : List Entry) (i : ℕ) → drop i ys ≡ drop i xs → drop (i + 1) ys ≡ drop (i + 1) xs
 rest-now xs ys i rest = sym (drop-drop 1 i ys) ∙ ap (drop 1) rest ∙ drop-drop 1 i xs
 
--- a turn at which the entry stays
+-- a turn in which the entry stays
 pub turn-stays : (n : ℕ) (closed : List ℕ) (xs : List Entry) (i : ℕ) (d : Entry) (kept : List Entry) → i < length xs → is_sound n (reverse xs) ≡ true
-    → fate_of (get_or xs i d) (drop (i + 1) xs) ≡ Stays → kept ≡ reverse (thin (without (is_among (left_numbers (reverse xs))) (reverse (take i xs))))
+    → treatment_of (get_or xs i d) (drop (i + 1) xs) ≡ Keep → kept ≡ reverse (thin (without (is_among (left_numbers (reverse xs))) (reverse (take i xs))))
     → (reverse (laid (get_or xs i d) (reverse kept)) ≡ reverse (thin (without (is_among (left_numbers (reverse xs))) (reverse (take (i + 1) xs)))))
     × (raised (is_among (left_numbers (reverse xs))) (reverse (take i xs)) closed ≡ raised (is_among (left_numbers (reverse xs))) (reverse (take (i + 1) xs)) closed)
 turn-stays n closed xs i d kept lt sound f h =
@@ -72,9 +72,9 @@ turn-stays n closed xs i d kept lt sound f h =
       sym a.1 ∙ ap (λ p. raised g p closed) (sym more),
     )
 
--- one at which it goes
+-- a turn in which the entry is dropped
 pub turn-goes : (n : ℕ) (closed : List ℕ) (xs : List Entry) (i : ℕ) (d : Entry) → i < length xs → is_sound n (reverse xs) ≡ true
-    → fate_of (get_or xs i d) (drop (i + 1) xs) ≡ Goes
+    → treatment_of (get_or xs i d) (drop (i + 1) xs) ≡ Discard
     → (reverse (thin (without (is_among (left_numbers (reverse xs))) (reverse (take i xs)))) ≡ reverse (thin (without (is_among (left_numbers (reverse xs))) (reverse (take (i + 1) xs)))))
     × (raised (is_among (left_numbers (reverse xs))) (reverse (take i xs)) closed ≡ raised (is_among (left_numbers (reverse xs))) (reverse (take (i + 1) xs)) closed)
 turn-goes n closed xs i d lt sound f =
@@ -83,9 +83,9 @@ turn-goes n closed xs i d lt sound f =
     let more = reverse-more xs i d lt in
     (ap reverse (sym a.0) ∙ ap (λ p. reverse (thin (without g p))) (sym more), sym a.1 ∙ ap (λ p. raised g p closed) (sym more))
 
--- one at which it goes and is counted
+-- a turn in which the entry is dropped and its request is counted
 pub turn-closes : (n : ℕ) (closed : List ℕ) (xs : List Entry) (i seat : ℕ) (d : Entry) → i < length xs → is_sound n (reverse xs) ≡ true
-    → fate_of (get_or xs i d) (drop (i + 1) xs) ≡ Closes seat
+    → treatment_of (get_or xs i d) (drop (i + 1) xs) ≡ CountClosed seat
     → (reverse (thin (without (is_among (left_numbers (reverse xs))) (reverse (take i xs)))) ≡ reverse (thin (without (is_among (left_numbers (reverse xs))) (reverse (take (i + 1) xs)))))
     × (bump seat (raised (is_among (left_numbers (reverse xs))) (reverse (take i xs)) closed) ≡ raised (is_among (left_numbers (reverse xs))) (reverse (take (i + 1) xs)) closed)
 turn-closes n closed xs i seat d lt sound f =
@@ -95,7 +95,7 @@ turn-closes n closed xs i seat d lt sound f =
     (ap reverse (sym a.0) ∙ ap (λ p. reverse (thin (without g p))) (sym more), sym a.1 ∙ ap (λ p. raised g p closed) (sym more))
 
 pub closes-within : (n : ℕ) (closed : List ℕ) (xs : List Entry) (i seat : ℕ) (d : Entry) → i < length xs → is_sound n (reverse xs) ≡ true
-    → fate_of (get_or xs i d) (drop (i + 1) xs) ≡ Closes seat → seat < n
+    → treatment_of (get_or xs i d) (drop (i + 1) xs) ≡ CountClosed seat → seat < n
 closes-within n closed xs i seat d lt sound f =
     let is : nat_lt seat n ≡ true = ((adds-at n closed xs i d lt sound).closes seat f).2 in grind (arith, nat_tests)
 
@@ -125,7 +125,7 @@ part-of-sum : (xs : List ℕ) (i d : ℕ) → i < length xs → get_or xs i d �
 part-of-sum xs i d lt = omega (arith, sum_by-set (λ (x : ℕ). x) xs i 0 d lt)
 
 pub closes-fits : (closed : List ℕ) (xs : List Entry) (i seat : ℕ) (d : Entry) (v : ℕ) → i < length xs → is_sound (length closed) (reverse xs) ≡ true
-    → fate_of (get_or xs i d) (drop (i + 1) xs) ≡ Closes seat
+    → treatment_of (get_or xs i d) (drop (i + 1) xs) ≡ CountClosed seat
     → get_or (raised (is_among (left_numbers (reverse xs))) (reverse (take i xs)) closed) seat v + 1 ≤ given closed (reverse xs)
 closes-fits closed xs i seat d v lt sound f =
     let g : ℕ → Bool = is_among (left_numbers (reverse xs)) in
@@ -143,7 +143,7 @@ closes-fits closed xs i seat d v lt sound f =
       sound-older n (Leave seat number r) p h = (and_parts _ (is_sound n p) h).1
       sound-older n e p h = h
 
--- what stands at a place is read whatever the default is
+-- an element in the list doesn't depend on the default
 pub any-default : (xs : List ℕ) (i d e : ℕ) → i < length xs → get_or xs i d ≡ get_or xs i e
 any-default [] i d e lt = absurd (omega arith)
 any-default (x ∷ xs) zero d e lt = refl

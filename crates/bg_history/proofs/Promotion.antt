@@ -1,4 +1,4 @@
--- What ends the wait of an attempt.
+-- What ends the waits of an attempt.
 use Rattle.std.proofs.Common.{◌≡◌, true, false, [], ◌∷◌, Some, None, refl}
 use Rattle.bg_history.specs.declared.entry.Entry.TheVariants.{Tick, Available, Verdict, Promote, PromoteFull, Retry, Outcome}
 use Rattle.bg_history.specs.declared.entry.Outcome.TheVariants.{Ready, Resumed, Switched, Promoted, ScaledDown}
@@ -8,7 +8,7 @@ use Rattle.bg_strategy.specs.declared.strategy.Strategy.{Strategy}
 use Rattle.bg_history.proofs.Examples.{plain, with_pause, with_post, deploy_2, deploy_3, ready, switched, paused, aborted}
 use Rattle.bg_history.specs.Steps.{first_allowed}
 
--- while the analysis before the switch is awaited nothing goes on
+-- while the analysis before the switch is awaited, nothing is allowed
 pre_is_awaited : first_allowed with_pause ready ≡ None
 pre_is_awaited = refl
 
@@ -16,79 +16,79 @@ pre_is_awaited = refl
 abbrev with_pre : Strategy
 with_pre = record plain { pre = true }
 
--- nor does anything where no pause is set
+-- the same holds without a pause in the strategy
 with_pre-wait : first_allowed with_pre ready ≡ None
 with_pre-wait = refl
 
--- its success ends it
+-- the success of the analysis ends this wait
 with_pre-success : first_allowed with_pre (Verdict Pre Successful ∷ ready) ≡ Some (Resumed 2)
 with_pre-success = refl
 
--- a full promotion ends the analysis and the pause
+-- a full promotion ends the wait for the analysis and for the pause
 pre_by_promote_full : first_allowed with_pause (PromoteFull ∷ ready) ≡ Some (Resumed 2)
 pre_by_promote_full = refl
 
--- it doesn't stand for the endpoints
+-- a full promotion doesn't replace the endpoints
 ready_by_promote_full : first_allowed with_pause (PromoteFull ∷ deploy_2 ∷ []) ≡ None
 ready_by_promote_full = refl
 
--- once these are there, one that was given before counts
+-- an earlier full promotion counts once the endpoints are available
 pre_by_an_early_promote_full : first_allowed with_pause (Outcome (Ready 2) ∷ Available 2 2 ∷ PromoteFull ∷ deploy_2 ∷ []) ≡ Some (Resumed 2)
 pre_by_an_early_promote_full = refl
 
--- one of the attempt before doesn't
+-- a full promotion of the attempt before doesn't count
 pre_by_an_old_promote_full : first_allowed with_pause
     (Outcome (Ready 3) ∷ Available 3 2 ∷ Outcome (ScaledDown 2) ∷ deploy_3 ∷ PromoteFull ∷ deploy_2 ∷ []) ≡ None
 pre_by_an_old_promote_full = refl
 
--- a promotion that was given in the pause ends it
+-- a promotion in the pause ends the pause
 pause_by_promote : first_allowed with_pause (Promote ∷ paused) ≡ Some (Resumed 2)
 pause_by_promote = refl
 
--- one before the analysis has succeeded wouldn't
+-- a promotion before the analysis has succeeded wouldn't end the wait
 pause_by_an_early_promote : first_allowed with_pause (Promote ∷ ready) ≡ None
 pause_by_an_early_promote = refl
 
--- only an operator ends the pause, whatever the seconds are
+-- only an operator ends the pause, regardless of the seconds
 abbrev by_hand : Strategy
 by_hand = record plain { auto_promotion = false; auto_seconds = 10 }
 
--- no time does
+-- time doesn't end this pause
 by_hand-tick : first_allowed by_hand (Tick 1000 ∷ ready) ≡ None
 by_hand-tick = refl
 
--- nor does the pause end at once where no seconds are set
+-- the pause doesn't end at once if there are no seconds
 by_hand-no_seconds : first_allowed (record by_hand { auto_seconds = 0 }) ready ≡ None
 by_hand-no_seconds = refl
 
--- a promotion does
+-- a promotion ends this pause
 by_hand-promote : first_allowed by_hand (Promote ∷ ready) ≡ Some (Resumed 2)
 by_hand-promote = refl
 
--- while the analysis after the switch is awaited nothing goes on
+-- while the analysis after the switch is awaited, nothing is allowed
 post_is_awaited : first_allowed with_post switched ≡ None
 post_is_awaited = refl
 
--- its success ends it
+-- the success of the analysis after the switch ends this wait
 post_by_success : first_allowed with_post (Verdict Post Successful ∷ switched) ≡ Some (Promoted 2)
 post_by_success = refl
 
--- a full promotion does so too
+-- a full promotion ends this wait, too
 post_by_promote_full : first_allowed with_post (PromoteFull ∷ switched) ≡ Some (Promoted 2)
 post_by_promote_full = refl
 
--- with an analysis before the switch and one after it
+-- a strategy with an analysis before the switch and one after it
 abbrev with_both : Strategy
 with_both = record with_pause { post = true }
 
--- the success of the one before doesn't end the one after
+-- the success of the first analysis doesn't end the wait for the second
 post_by_success_of_pre : first_allowed with_both (Outcome (Switched 2) ∷ Outcome (Resumed 2) ∷ Promote ∷ paused) ≡ None
 post_by_success_of_pre = refl
 
--- an aborted attempt doesn't go on
-aborted_stands_still : first_allowed with_pause aborted ≡ None
-aborted_stands_still = refl
+-- an aborted attempt doesn't continue
+aborted_stays : first_allowed with_pause aborted ≡ None
+aborted_stays = refl
 
--- a retry begins it again from its first step
+-- a retry begins a new attempt with the first step
 retried_from_the_first : first_allowed with_pause (Retry ∷ aborted) ≡ Some (Ready 2)
 retried_from_the_first = refl

@@ -5,17 +5,17 @@ use Rattle.std.proofs.lemmas.Bool.Decides.{nat_tests}
 use Rattle.bg_history.specs.declared.entry.Entry.{Entry}
 use Rattle.bg_history.specs.declared.entry.Entry.TheVariants.{Enter, Leave}
 use Rattle.bg_history.specs.Requests.{request_numbers, entered}
-use Rattle.bg_history.specs.declared.compacting.Fate.{Fate}
-use Rattle.bg_history.specs.declared.compacting.Fate.TheVariants.{Stays, Goes, Closes}
+use Rattle.bg_history.specs.declared.compacting.Treatment.{Treatment}
+use Rattle.bg_history.specs.declared.compacting.Treatment.TheVariants.{Keep, Discard, CountClosed}
 use Rattle.bg_history.specs.Compacted.{left_numbers, is_among, without, thin, bump, raised}
-use Rattle.bg_history.specs.Compacting.{is_leave_of, fate_of, laid}
+use Rattle.bg_history.specs.Compacting.{is_leave_of, treatment_of, laid}
 use Rattle.bg_history.specs.Sound.{is_sound}
 
 pub and_parts : (a b : Bool) → a && b ≡ true → (a ≡ true) × (b ≡ true)
 and_parts true b h = (refl, h)
 and_parts false b h = absurd (cc)
 
--- the older part of such entries is one too
+-- the older part of entries that may be compacted may be compacted
 pub sound-part : (n : ℕ) (ys p : List Entry) → is_sound n (ys ++ p) ≡ true → is_sound n p ≡ true
 sound-part n [] p h = h
 sound-part n (Enter seat service number r port ∷ ys) p h = sound-part n ys p (and_parts _ (is_sound n (ys ++ p)) h).1
@@ -35,7 +35,7 @@ among-append : (xs ys : List ℕ) (n : ℕ) → is_among (xs ++ ys) n ≡ is_amo
 among-append [] ys n = refl
 among-append (x ∷ xs) ys n = ap (λ t. (x == n) || t) (among-append xs ys n) ∙ or-three (x == n) (is_among xs n) (is_among ys n)
 
--- a number of no request is of none that left
+-- a number of no request is not the number of a request that left
 left-none : (n : ℕ) (past : List Entry) → is_among (request_numbers past) n ≡ false → is_among (left_numbers past) n ≡ false
 left-none n [] h = refl
 left-none n (Enter seat service number r port ∷ before) h = left-none n before (by (number == n) h) where
@@ -49,7 +49,7 @@ left-none n (Leave seat number r ∷ before) h = by (number == n) h (left-none n
   by false h rest = rest h
 left-none n (e ∷ before) h = left-none n before h
 
--- a request left among these entries
+-- the entries have the Leave of the request
 leaves-among : (n : ℕ) (xs : List Entry) → list_any (is_leave_of n) xs ≡ is_among (left_numbers xs) n
 leaves-among n [] = refl
 leaves-among n (Leave seat number r ∷ xs) = ap (λ t. (number == n) || t) (leaves-among n xs)
@@ -67,7 +67,7 @@ not_true : (b : Bool) → not b ≡ true → b ≡ false
 not_true true h = absurd (cc)
 not_true false h = refl
 
--- whether an Enter is of a closed request is told by the entries after it
+-- the entries after an Enter tell whether its request is closed
 pub enter-closed : (n seat : ℕ) (e : Entry) (number : ℕ) (ys p : List Entry) → is_among (request_numbers p) number ≡ false → left_numbers (e ∷ p) ≡ left_numbers p
     → is_among (left_numbers (ys ++ e ∷ p)) number ≡ list_any (is_leave_of number) ys
 enter-closed n seat e number ys p new same =
@@ -86,17 +86,17 @@ leave-closed seat number r ys p =
     ∙ among-append (left_numbers ys) (number ∷ left_numbers p) number
     ∙ or-right (is_among (left_numbers ys) number) (is_among (number ∷ left_numbers p) number) (ap (λ t. t || is_among (left_numbers p) number) (itself number))
 
--- what an entry adds to the compacted entries before it, by what becomes of it
-pub record Adds (n : ℕ) (gone : ℕ → Bool) (closed : List ℕ) (e : Entry) (p : List Entry) (fate : Fate) : Type 0 where
-  pub stays : fate ≡ Stays → (thin (without gone (e ∷ p)) ≡ laid e (thin (without gone p))) × (raised gone (e ∷ p) closed ≡ raised gone p closed)
-  pub goes : fate ≡ Goes → (thin (without gone (e ∷ p)) ≡ thin (without gone p)) × (raised gone (e ∷ p) closed ≡ raised gone p closed)
-  pub closes : (seat : ℕ) → fate ≡ Closes seat
+-- what an entry adds to the compacted entries before it, by its fate
+pub record Adds (n : ℕ) (gone : ℕ → Bool) (closed : List ℕ) (e : Entry) (p : List Entry) (treatment : Treatment) : Type 0 where
+  pub stays : treatment ≡ Keep → (thin (without gone (e ∷ p)) ≡ laid e (thin (without gone p))) × (raised gone (e ∷ p) closed ≡ raised gone p closed)
+  pub goes : treatment ≡ Discard → (thin (without gone (e ∷ p)) ≡ thin (without gone p)) × (raised gone (e ∷ p) closed ≡ raised gone p closed)
+  pub closes : (seat : ℕ) → treatment ≡ CountClosed seat
       → (thin (without gone (e ∷ p)) ≡ thin (without gone p)) × (raised gone (e ∷ p) closed ≡ bump seat (raised gone p closed)) × (nat_lt seat n ≡ true) × (entered (e ∷ p) ≡ entered p + 1)
 
 adds-enter : (n : ℕ) (gone : ℕ → Bool) (closed : List ℕ) (seat number : ℕ) (e : Entry) (p : List Entry) (b : Bool) → nat_lt seat n ≡ true
     → thin (without gone (e ∷ p)) ≡ cond b (thin (without gone p)) (laid e (thin (without gone p)))
     → raised gone (e ∷ p) closed ≡ cond b (bump seat (raised gone p closed)) (raised gone p closed) → entered (e ∷ p) ≡ entered p + 1
-    → Adds n gone closed e p (cond b (Closes seat) Stays)
+    → Adds n gone closed e p (cond b (CountClosed seat) Keep)
 adds-enter n gone closed seat number e p true lt t r m = record {
   stays = λ f. absurd (cc);
   goes = λ f. absurd (cc);
@@ -114,7 +114,7 @@ enter-thin gone e p true h = refl
 enter-thin gone e p false h = h
 
 pub adds : (n : ℕ) (closed : List ℕ) (ys p : List Entry) (e : Entry) → is_sound n (ys ++ e ∷ p) ≡ true
-    → Adds n (is_among (left_numbers (ys ++ e ∷ p))) closed e p (fate_of e ys)
+    → Adds n (is_among (left_numbers (ys ++ e ∷ p))) closed e p (treatment_of e ys)
 adds n closed ys p (Enter seat service number r port) h =
     let e : Entry = Enter seat service number r port in
     let gone : ℕ → Bool = is_among (left_numbers (ys ++ e ∷ p)) in

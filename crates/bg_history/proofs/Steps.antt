@@ -1,23 +1,23 @@
--- Which outcome comes first, and which openings are well formed.
+-- The order of allowed outcomes, and the form of an opening.
 use Rattle.std.proofs.Common.{◌≡◌, true, false, [], ◌∷◌, Some, codes, refl}
 use Rattle.bg_history.specs.declared.entry.Entry.TheVariants.{Tick, Available, Outcome}
 use Rattle.bg_history.specs.declared.entry.Outcome.TheVariants.{Ready, ScaledDown, Removed}
 use Rattle.bg_history.proofs.Examples.{plain, without_history, opening, deploy_2, deploy_3, deploy_4, promoted_twice}
 use Rattle.bg_history.specs.Steps.{first_allowed, is_opening}
 
--- a step of an attempt comes before a revision is scaled down
+-- a step of an attempt comes before a scale-down
 ready_first : first_allowed plain (Available 3 2 ∷ deploy_3 ∷ deploy_2 ∷ []) ≡ Some (Ready 3)
 ready_first = refl
 
--- of two that are due the least is scaled down first
+-- of two revisions that are due, the least is scaled down first
 scaled_down_least : first_allowed plain (Tick 30 ∷ promoted_twice) ≡ Some (ScaledDown 1)
 scaled_down_least = refl
 
--- one is scaled down before another is removed
+-- a scale-down comes before a removal
 scaled_down_first : first_allowed without_history (deploy_4 ∷ Outcome (ScaledDown 2) ∷ deploy_3 ∷ deploy_2 ∷ []) ≡ Some (ScaledDown 3)
 scaled_down_first = refl
 
--- then the other one is removed
+-- the removal comes last
 removed_last : first_allowed without_history (Outcome (ScaledDown 2) ∷ deploy_3 ∷ deploy_2 ∷ []) ≡ Some (Removed 2)
 removed_last = refl
 
@@ -25,22 +25,22 @@ removed_last = refl
 opening_is_well_formed : is_opening plain opening ≡ true
 opening_is_well_formed = refl
 
--- its name is a label
+-- the name of an opening is a label
 opening_without_a_label : is_opening plain (record opening { template = record { name = codes "V1"; ports = 9001 ∷ 9002 ∷ [] } }) ≡ false
 opening_without_a_label = refl
 
--- its ports are as many as the endpoints
+-- an opening has a port for each endpoint
 opening_with_one_port : is_opening plain (record opening { template = record { name = codes "v1"; ports = 9001 ∷ [] } }) ≡ false
 opening_with_one_port = refl
 
--- there is a seat
+-- an opening has at least one seat
 opening_without_seats : is_opening plain (record opening { seats = 0 }) ≡ false
 opening_without_seats = refl
 
--- and there may be 8
+-- an opening may have 8 seats
 opening_with_8_seats : is_opening plain (record opening { seats = 8 }) ≡ true
 opening_with_8_seats = refl
 
--- but no 9
+-- an opening can't have 9 seats
 opening_with_9_seats : is_opening plain (record opening { seats = 9 }) ≡ false
 opening_with_9_seats = refl

@@ -1,4 +1,4 @@
--- Worked histories that are compacted. Each is read from its last line up, the oldest entry first.
+-- Worked examples of compacted histories. Read each from its last line up: the oldest entry is first.
 use Rattle.std.proofs.Common.{◌≡◌, true, false, List, [], ◌∷◌, Some, refl}
 use Rattle.bg_history.specs.declared.entry.Entry.{Entry}
 use Rattle.bg_history.specs.declared.entry.Entry.TheVariants.{Tick, Available, Enter, Leave}
@@ -9,7 +9,7 @@ use Rattle.bg_history.specs.Steps.{all_allowed}
 use Rattle.bg_history.specs.Compacted.{compacted, closed_after}
 use Rattle.bg_history.specs.Sound.{is_sound}
 
--- two requests that left, and one that is open
+-- two requests left, and one is open
 abbrev two_closed : List Entry
 two_closed =
     Enter 0 service.Active 3 1 9002
@@ -26,14 +26,14 @@ two_closed_is_legal = refl
 two_closed_is_sound : is_sound 4 two_closed ≡ true
 two_closed_is_sound = refl
 
--- the open one stays, and each closed one counts for its seat
+-- the open request stays, and each closed request counts for its seat
 two_closed-compacted : compacted two_closed ≡ Enter 0 service.Active 3 1 9002 ∷ Available 1 2 ∷ []
 two_closed-compacted = refl
 
 two_closed-counts : closed_after two_closed (7 ∷ 0 ∷ 0 ∷ 0 ∷ []) ≡ 8 ∷ 1 ∷ 0 ∷ 0 ∷ []
 two_closed-counts = refl
 
--- seat 0 was answered three calls, and is still said to
+-- seat 0 has three answered calls, also after the compaction
 two_closed-calls : calls_of (0 ∷ 0 ∷ 0 ∷ 0 ∷ []) 0 two_closed ≡ 3
 two_closed-calls = refl
 
@@ -43,15 +43,15 @@ compacted-calls = refl
 two_closed-once : compacted (compacted two_closed) ≡ compacted two_closed
 two_closed-once = refl
 
--- of ticks in a row the newest stays
+-- of consecutive ticks, only the newest stays
 ticks-compacted : compacted (Tick 3 ∷ Tick 2 ∷ Tick 2 ∷ Available 1 2 ∷ Tick 1 ∷ []) ≡ Tick 3 ∷ Available 1 2 ∷ Tick 1 ∷ []
 ticks-compacted = refl
 
--- a request between two ticks parts them while it is open
+-- an open request between two ticks keeps both of them
 parted : compacted (Tick 2 ∷ Enter 0 service.Active 1 1 9002 ∷ Tick 1 ∷ []) ≡ Tick 2 ∷ Enter 0 service.Active 1 1 9002 ∷ Tick 1 ∷ []
 parted = refl
 
--- once it is closed they are neighbours
+-- once the request is closed, only the newer tick stays
 joined : compacted (Leave 0 1 1 ∷ Tick 2 ∷ Enter 0 service.Active 1 1 9002 ∷ Tick 1 ∷ []) ≡ Tick 2 ∷ []
 joined = refl
 
@@ -59,11 +59,11 @@ joined = refl
 abbrev one_left : List Entry
 one_left = Leave 0 1 1 ∷ Enter 1 service.Active 2 1 9001 ∷ Enter 0 service.Active 1 1 9002 ∷ Available 1 2 ∷ []
 
--- its two entries are dropped
+-- the two entries of the first request are dropped
 one_left-compacted : compacted one_left ≡ Enter 1 service.Active 2 1 9001 ∷ Available 1 2 ∷ []
 one_left-compacted = refl
 
--- two ticks later one of them is
+-- of two later ticks, one is dropped
 two_ticks_later : compacted (Tick 2 ∷ Tick 1 ∷ compacted one_left) ≡ Tick 2 ∷ compacted one_left
 two_ticks_later = refl
 
@@ -89,7 +89,7 @@ four_closed-compacted = refl
 four_closed-counts : closed_after four_closed (0 ∷ []) ≡ 4 ∷ []
 four_closed-counts = refl
 
--- the next request has number 5, and so the second port
+-- the next request has number 5, so it gets the second port
 four_closed-given : given (4 ∷ []) (compacted four_closed) ≡ 4
 four_closed-given = refl
 
@@ -101,7 +101,7 @@ open_request-stays : held_by 0 (compacted (Tick 1 ∷ Enter 0 service.Active 1 1
     ≡ Some (record { seat = 0; number = 1; revision = 1; port = 9002 })
 open_request-stays = refl
 
--- entries that no book makes: a Leave without its Enter, one of another seat, a number that comes twice
+-- entries that no book makes: a Leave without its Enter, a Leave from another seat, and a repeated number
 leaves_nothing : is_sound 4 (Leave 0 1 1 ∷ []) ≡ false
 leaves_nothing = refl
 

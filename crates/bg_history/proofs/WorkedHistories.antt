@@ -1,4 +1,4 @@
--- Worked histories, which pin what the definitions say. Each is read from its last line up, the oldest entry first.
+-- Worked examples of histories, which fix the definitions. Read each from its last line up: the oldest entry is first.
 use Rattle.std.proofs.Common.{◌≡◌, true, false, List, [], ◌∷◌, Some, None, refl}
 use Rattle.bg_history.specs.declared.entry.Entry.{Entry}
 use Rattle.bg_history.specs.declared.entry.Entry.TheVariants.{Tick, Available, Verdict, Enter, Leave, Outcome}
@@ -25,7 +25,7 @@ promoted_is_settled = refl
 promoted_is_steady : is_steady promoted ≡ true
 promoted_is_steady = refl
 
--- the old revision waits for 30 seconds, and not for 29
+-- the old revision is scaled down after 30 seconds, and not after 29
 promoted-deadline : deadline plain 1 promoted ≡ Some 30
 promoted-deadline = refl
 
@@ -39,7 +39,7 @@ scaled_down_at_30 = refl
 lone_switch_is_illegal : all_allowed plain opening (Outcome (Switched 1) ∷ []) ≡ false
 lone_switch_is_illegal = refl
 
--- with an analysis after the switch: in its midst, at moment 40, revision 1 is deployed again
+-- the strategy has an analysis after the switch; during it, at moment 40, revision 1 is deployed again
 abbrev reverted : List Entry
 reverted =
     deploy_1
@@ -71,11 +71,11 @@ reverted-deadline_of_active = refl
 reverted-at_70 : first_allowed with_post (Tick 70 ∷ reverted) ≡ Some (ScaledDown 2)
 reverted-at_70 = refl
 
--- what is deployed already isn't deployed again
+-- the newest template can't be deployed again
 deployed_twice_is_illegal : all_allowed with_post opening (deploy_1 ∷ reverted) ≡ false
 deployed_twice_is_illegal = refl
 
--- a request entered at revision 1 before revision 2 was promoted, and 30 seconds have gone by
+-- a request entered at revision 1 before revision 2 was promoted, and 30 seconds have passed
 abbrev draining : List Entry
 draining =
     Tick 30
@@ -98,21 +98,21 @@ draining_is_due = refl
 draining-open : open_at 1 draining ≡ 1 ∷ []
 draining-open = refl
 
--- it stays while the request is open, and is scaled down once it has left
+-- revision 1 stays scaled while the request is open, and is scaled down once it has left
 draining_is_settled : is_settled plain draining ≡ true
 draining_is_settled = refl
 
 drained : first_allowed plain (Leave 0 1 1 ∷ draining) ≡ Some (ScaledDown 1)
 drained = refl
 
--- with one old revision at most: the one that left the service first is scaled down before its deadline
+-- at most one old revision stays scaled: the one that left the service first is scaled down before its deadline
 over_the_limit : first_allowed with_limit promoted_twice ≡ Some (ScaledDown 1)
 over_the_limit = refl
 
 within_the_limit : is_settled with_limit (Outcome (ScaledDown 1) ∷ promoted_twice) ≡ true
 within_the_limit = refl
 
--- with no old revision kept: a superseded revision is scaled down and removed at once
+-- the strategy keeps no old revision: a superseded revision is scaled down and removed at once
 superseded_is_legal : all_allowed without_history opening superseded ≡ true
 superseded_is_legal = refl
 
@@ -122,21 +122,21 @@ superseded_is_settled = refl
 superseded-existing : existing superseded ≡ 1 ∷ 3 ∷ []
 superseded-existing = refl
 
--- with an analysis before the switch, and a pause of 10 seconds after it
+-- the strategy has an analysis before the switch, and a pause of 10 seconds after it
 ready_awaits_pre : awaits_pre with_pause ready ≡ true
 ready_awaits_pre = refl
 
 paused_is_paused : is_paused with_pause paused ≡ true
 paused_is_paused = refl
 
--- the seconds count from the verdict on
+-- the seconds of the pause count from the verdict on
 pause_not_over_at_14 : first_allowed with_pause (Tick 14 ∷ paused) ≡ None
 pause_not_over_at_14 = refl
 
 pause_over_at_15 : first_allowed with_pause (Tick 15 ∷ paused) ≡ Some (Resumed 2)
 pause_over_at_15 = refl
 
--- an operator aborts in the pause: active and preview are the stable revision; the newest stays, and stays scaled
+-- an operator aborts in the pause: the stable revision is active and preview; the newest revision stays scaled
 aborted_is_halted : is_halted aborted ≡ true
 aborted_is_halted = refl
 
@@ -152,7 +152,7 @@ aborted-desired = refl
 aborted-deadline : deadline with_pause 2 aborted ≡ Some 25
 aborted-deadline = refl
 
--- the analysis after the switch fails: active goes back, and the revision that just left it stays for the delay of an aborted one
+-- the analysis after the switch fails: the stable revision is active; the other stays for the delay of an aborted one
 abbrev failed : List Entry
 failed = Verdict Post Failed ∷ switched
 
@@ -165,7 +165,7 @@ failed-active = refl
 failed-deadline : deadline with_post 2 failed ≡ Some 20
 failed-deadline = refl
 
--- request numbers are given in turn from 1: a past whose only request is the second one isn't legal
+-- request numbers are given in order from 1: a past whose only request has number 2 isn't legal
 abbrev second_request : List Entry
 second_request = Enter 0 service.Active 2 1 9001 ∷ Available 1 2 ∷ []
 

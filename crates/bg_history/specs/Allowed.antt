@@ -1,4 +1,4 @@
--- Which entry the ones before it allow.
+-- The entries that a past allows next.
 use Rattle.std.specs.Prelude.{ℕ, Bool, false, not, if◌then◌else◌, ◌==◌, ◌+◌, ◌%◌, ◌^◌, ◌&&◌, nat_lt, nat_le, List, length, Option, Some, None, slice_index, is_none, is_some}
 use Rattle.std.specs.List.{list_all}
 use Rattle.bg_history.specs.declared.entry.Entry.{Entry}
@@ -22,8 +22,8 @@ use Rattle.bg_history.specs.Templates.{template, is_named, has_ports, owner}
 use Rattle.bg_strategy.specs.Label.{is_label}
 use Rattle.bg_revisions.specs.PortLists.{are_ports}
 
--- an existing revision of the name is r, with these ports; else r is the next number and there is
--- room
+-- the existing revision of the name is r and has these ports; or there is none, r is the next number, and fewer than
+-- 64 revisions exist
 abbrev pub fits_owner : Opening → Option ℕ → ℕ → List ℕ → List Entry → Bool
 fits_owner o (Some q) r ports before = (q == r) && has_ports ports (template o q before)
 fits_owner o None r ports before =
@@ -38,7 +38,7 @@ may_deploy s o r name ports before =
     && not (is_template name ports (template o (newest_of before) before))
     && fits_owner o (owner o name before) r ports before
 
--- the analysis that the verdict is of is awaited
+-- the rollout waits for the verdict of this analysis
 abbrev pub awaits : Analysis → Strategy → List Entry → Bool
 awaits Pre s past = awaits_pre s past
 awaits Post s past = awaits_post s past
@@ -57,7 +57,7 @@ abbrev pub port_in : Option Template → ℕ → ℕ → Option ℕ
 port_in None number size = None
 port_in (Some t) number size = Some (slice_index t.ports (number % size))
 
--- the port that a request of that number gets
+-- the port that a request of that number gets at r
 abbrev pub port_of : Opening → ℕ → ℕ → List Entry → Option ℕ
 port_of o r number past = port_in (template o r past) number (available r past)
 
@@ -71,7 +71,7 @@ abbrev pub holds : ℕ → ℕ → Option Request → Bool
 holds number r None = false
 holds number r (Some q) = (q.number == number) && (q.revision == r)
 
--- the entry is allowed by those before it
+-- the entries before it allow the entry
 abbrev pub is_allowed : Strategy → Opening → Entry → List Entry → Bool
 is_allowed s o (Tick m) before = nat_le (moment before) m && nat_le m (2 ^ 53)
 is_allowed s o (Deploy r name ports) before = may_deploy s o r name ports before

@@ -1,4 +1,4 @@
--- What stands in the running attempt.
+-- The entries of the running attempt.
 use Rattle.std.specs.Prelude.{ℕ, Bool, true, false, not, if◌then◌else◌, ◌&&◌, ◌||◌, List, [], ◌∷◌, Option, Some, None, is_some}
 use Rattle.bg_history.specs.declared.entry.Entry.{Entry}
 use Rattle.bg_history.specs.declared.entry.Entry.TheVariants.{Verdict, Promote, PromoteFull, Outcome}
@@ -8,7 +8,7 @@ use Rattle.bg_history.specs.declared.entry.Analysis.TheVariants.{Pre, Post}
 use Rattle.bg_strategy.specs.declared.strategy.Strategy.{Strategy}
 use Rattle.bg_history.specs.Turns.{moment, is_turn, is_running}
 
--- an entry that passes the test stands in the running attempt
+-- the running attempt has an entry that passes the test
 abbrev pub in_attempt : (Entry → Bool) → List Entry → Bool
 in_attempt test [] = false
 in_attempt test (e ∷ before) =
@@ -56,20 +56,20 @@ has_promote_full past = in_attempt is_promote_full past
 abbrev pub has_post_success : List Entry → Bool
 has_post_success past = in_attempt is_post_success past
 
--- an entry that passes the attempt: Ready where no analysis is set before promotion, else that
--- analysis' success after Ready
+-- the entry with which the attempt passes the first part: Ready if no analysis is set before the switch, else the
+-- success of that analysis after Ready
 abbrev pub passes : Strategy → Entry → List Entry → Bool
 passes s (Outcome (Ready r)) before = not s.pre && is_running before
 passes s (Verdict Pre Successful) before = s.pre && has_ready before
 passes s _ before = false
 
--- the moment that was kept, else this one where the test holds
+-- the kept moment; if there is none and the test holds, this moment
 abbrev pub first_at : Bool → ℕ → Option ℕ → Option ℕ
 first_at false at kept = kept
 first_at true at None = Some at
 first_at true at (Some kept) = Some kept
 
--- the moment of the first entry that passed the running attempt, if one did
+-- the moment of the first such entry in the running attempt, if there is one
 abbrev pub pass_moment : Strategy → List Entry → Option ℕ
 pass_moment s [] = None
 pass_moment s (e ∷ before) =

@@ -1,10 +1,10 @@
--- How entries are compacted, oldest first.
+-- Compacting entries, oldest first.
 use Rattle.std.specs.Prelude.{ℕ, Bool, true, false, if◌then◌else◌, ◌==◌, ◌&&◌, ◌-◌, nat_lt, List, ◌∷◌, slice_get, Option, Some, None}
 use Rattle.std.specs.List.{list_any}
 use Rattle.bg_history.specs.declared.entry.Entry.{Entry}
 use Rattle.bg_history.specs.declared.entry.Entry.TheVariants.{Tick, Enter, Leave}
-use Rattle.bg_history.specs.declared.compacting.Fate.{Fate}
-use Rattle.bg_history.specs.declared.compacting.Fate.TheVariants.{Stays, Goes, Closes}
+use Rattle.bg_history.specs.declared.compacting.Treatment.{Treatment}
+use Rattle.bg_history.specs.declared.compacting.Treatment.TheVariants.{Keep, Discard, CountClosed}
 use Rattle.bg_history.specs.Compacted.{untick}
 
 abbrev pub is_tick : Entry → Bool
@@ -15,14 +15,14 @@ abbrev pub is_leave_of : ℕ → Entry → Bool
 is_leave_of number (Leave seat n r) = n == number
 is_leave_of number _ = false
 
--- what becomes of an entry, by those after it
-abbrev pub fate_of : Entry → List Entry → Fate
-fate_of (Enter seat service number r port) later =
-    if list_any (is_leave_of number) later then Closes seat else Stays
-fate_of (Leave seat number r) later = Goes
-fate_of _ later = Stays
+-- what compaction does with an entry, by the entries after it
+abbrev pub treatment_of : Entry → List Entry → Treatment
+treatment_of (Enter seat service number r port) later =
+    if list_any (is_leave_of number) later then CountClosed seat else Keep
+treatment_of (Leave seat number r) later = Discard
+treatment_of _ later = Keep
 
--- an entry that stays, in front of those that stayed
+-- the kept entries with one more entry that stays
 abbrev pub laid : Entry → List Entry → List Entry
 laid e kept = if is_tick e then e ∷ untick kept else e ∷ kept
 

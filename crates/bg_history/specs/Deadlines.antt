@@ -19,14 +19,14 @@ abbrev pub deadline_of : Strategy → Option Mark → Option ℕ
 deadline_of s None = None
 deadline_of s (Some m) = time_of s m.kind m.moment
 
--- the moment at which r may be scaled down
+-- the deadline of r: the moment from which it may be scaled down
 abbrev pub deadline : Strategy → ℕ → List Entry → Option ℕ
 deadline s r past = deadline_of s (mark s r past)
 
 abbrev pub exists_in : ℕ → List Entry → Bool
 exists_in r past = list_any (λ q. q == r) (existing past)
 
--- scaled, and none of active, preview and stable
+-- r is scaled, and neither active nor preview nor stable
 abbrev pub is_spare : Strategy → ℕ → List Entry → Bool
 is_spare s r past = is_scaled s r past && not (is_selected r past)
 
@@ -34,26 +34,26 @@ abbrev pub is_left : MarkKind → Bool
 is_left Left = true
 is_left _ = false
 
--- the mark says that the revision left the active service after more than `stood` entries
+-- the mark says that the revision left the active service after more than `position` entries
 abbrev pub left_later : ℕ → Option Mark → Bool
-left_later stood None = false
-left_later stood (Some m) = is_left m.kind && nat_lt stood m.stood
+left_later position None = false
+left_later position (Some m) = is_left m.kind && nat_lt position m.position
 
--- how many spare revisions left the active service after more than `stood` entries
+-- the number of spare revisions that left the active service after more than `position` entries
 abbrev pub rank_after : Strategy → ℕ → List Entry → ℕ
-rank_after s stood past =
-    count_by (λ q. is_spare s q past && left_later stood (mark s q past)) (existing past)
+rank_after s position past =
+    count_by (λ q. is_spare s q past && left_later position (mark s q past)) (existing past)
 
 abbrev pub rank_of : Strategy → Option Mark → List Entry → ℕ
 rank_of s None past = 0
-rank_of s (Some m) past = rank_after s m.stood past
+rank_of s (Some m) past = rank_after s m.position past
 
 abbrev pub rank : Strategy → ℕ → List Entry → ℕ
 rank s r past = rank_of s (mark s r past) past
 
-abbrev pub is_over : Option ℕ → ℕ → Bool
-is_over None n = false
-is_over (Some limit) n = nat_le limit n
+abbrev pub reaches_limit : Option ℕ → ℕ → Bool
+reaches_limit None n = false
+reaches_limit (Some limit) n = nat_le limit n
 
 abbrev pub is_reached : Option ℕ → ℕ → Bool
 is_reached None now = false
@@ -64,7 +64,7 @@ abbrev pub marks_due : Strategy → Option Mark → List Entry → Bool
 marks_due s None past = false
 marks_due s (Some m) past =
     is_reached (time_of s m.kind m.moment) (moment past)
-    || (is_left m.kind && is_over s.revision_limit (rank_after s m.stood past))
+    || (is_left m.kind && reaches_limit s.revision_limit (rank_after s m.position past))
 
 abbrev pub is_due : Strategy → ℕ → List Entry → Bool
 is_due s r past = exists_in r past && is_spare s r past && marks_due s (mark s r past) past
@@ -76,7 +76,7 @@ is_empty _ = false
 abbrev pub may_scale_down : Strategy → ℕ → List Entry → Bool
 may_scale_down s r past = is_due s r past && is_empty (open_at r past)
 
--- exists, isn't scaled and is none of active, preview, stable and newest
+-- r isn't scaled, and neither active nor preview nor stable nor newest
 abbrev pub is_old : Strategy → List Entry → ℕ → Bool
 is_old s past r = not (is_scaled s r past) && not (is_selected r past) && not (r == newest_of past)
 

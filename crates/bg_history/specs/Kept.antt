@@ -1,4 +1,4 @@
--- What a history keeps.
+-- The content of a history.
 use Rattle.std.specs.Prelude.{ℕ, List}
 use Rattle.bg_history.specs.declared.entry.Entry.{Entry}
 
@@ -12,8 +12,8 @@ pub record Opening : Type 0 where
   pub seats : ℕ
   pub template : Template
 
--- a history: its opening, the closed requests of each seat, its entries, the newest first, and the
--- places reserved for more
+-- a history: its opening, the number of dropped closed requests of each seat, its entries (newest first), and the
+-- number of places reserved for more
 pub record Kept : Type 0 where
   pub opening : Opening
   pub closed : List ℕ

@@ -1,4 +1,4 @@
--- What became of a revision, for its deadline.
+-- The marks of a revision, which give its deadline.
 use Rattle.std.specs.Prelude.{ℕ, Bool, false, not, if◌then◌else◌, ◌==◌, ◌&&◌, ◌||◌, List, [], ◌∷◌, length, nat_lt, Option, Some, None}
 use Rattle.std.specs.Option.{option_or, option_map}
 use Rattle.bg_history.specs.declared.entry.Entry.{Entry}
@@ -9,21 +9,21 @@ use Rattle.bg_history.specs.Selections.{active_of}
 use Rattle.bg_history.specs.Sizes.{begins, is_scaled}
 use Rattle.bg_strategy.specs.declared.strategy.Strategy.{Strategy}
 
--- what became of a revision: it left the active service, it was superseded, its attempt was stopped,
--- or its deadline was cleared
+-- what an entry did to a revision: it left the active service, it was superseded, its attempt was halted, or its
+-- deadline was cleared
 pub data MarkKind : Type 0 where
   Left : MarkKind
   Superseded : MarkKind
   Aborted : MarkKind
   Cleared : MarkKind
 
--- the kind, the moment and how many entries stood before it
+-- a mark: its kind, its moment, and the number of entries before it
 pub record Mark : Type 0 where
   pub kind : MarkKind
   pub moment : ℕ
-  pub stood : ℕ
+  pub position : ℕ
 
--- the entry stops the attempt of r
+-- the entry halts the attempt of r
 abbrev pub halts : ℕ → Entry → List Entry → Bool
 halts r e before = is_halt e && (newest_of before == r)
 
@@ -31,18 +31,18 @@ abbrev pub leaves_active : ℕ → Entry → List Entry → Bool
 leaves_active r e before =
     (active_of before == r) && not (active_of (e ∷ before) == r) && not (halts r e before)
 
--- a deploy takes the place of r, the newest revision, which is scaled and neither active nor stable
+-- the entry is a deploy that takes the place of r, the newest revision, which is scaled and neither active nor stable
 abbrev pub supersedes : Strategy → ℕ → Entry → List Entry → Bool
 supersedes s r (Deploy q name ports) before =
     (newest_of before == r) && not (active_of before == r) && not (stable_of before == r)
     && is_scaled s r before
 supersedes s r _ before = false
 
--- aborted revisions are scaled down after a delay
+-- the strategy scales aborted revisions down after a delay
 abbrev pub has_abort_delay : Strategy → Bool
 has_abort_delay s = nat_lt 0 s.abort_delay
 
--- the entry stops the attempt of r, which is to be scaled down after the delay
+-- the entry halts the attempt of r, and the strategy scales aborted revisions down after a delay
 abbrev pub aborts : Strategy → ℕ → Entry → List Entry → Bool
 aborts s r e before = halts r e before && has_abort_delay s
 
@@ -55,7 +55,7 @@ clears s r e before =
     begins r e before || (not (active_of before == r) && (active_of (e ∷ before) == r))
     || scales_down r e || (halts r e before && not (has_abort_delay s))
 
--- the kind of mark that an entry is for r under the strategy, if it is one
+-- the kind of mark that the entry makes for r, if it makes one
 abbrev pub kind_of : Strategy → ℕ → Entry → List Entry → Option MarkKind
 kind_of s r e before =
     if leaves_active r e before then Some Left
@@ -72,6 +72,6 @@ mark s r (e ∷ before) =
     (option_map (λ kind. record {
       kind = kind;
       moment = moment (e ∷ before);
-      stood = length before;
+      position = length before;
     }) (kind_of s r e before))
     (mark s r before)

@@ -6,11 +6,11 @@ use Rattle.bg_strategy.specs.declared.strategy.Strategy.{Strategy}
 use Rattle.bg_history.specs.Turns.{is_running, is_halted}
 use Rattle.bg_history.specs.Attempts.{has_ready, has_resumed, has_switched, is_passed}
 
--- a new revision is not promoted without an operator, or only some seconds later
+-- the strategy has a pause: a promotion needs an operator, or it comes only after some seconds
 abbrev pub needs_pause : Strategy → Bool
 needs_pause s = not s.auto_promotion || nat_lt 0 s.auto_seconds
 
--- steady: no attempt runs and none was aborted
+-- steady: no attempt runs, and the newest turn halted none
 abbrev pub is_steady : List Entry → Bool
 is_steady past = not (is_halted past) && not (is_running past)
 
@@ -18,12 +18,11 @@ is_steady past = not (is_halted past) && not (is_running past)
 abbrev pub is_scaling : List Entry → Bool
 is_scaling past = is_running past && not (has_ready past)
 
--- pre-promotion analysis: the new revision is ready, and the analysis before the switch has no
--- verdict yet
+-- pre-promotion analysis: the new revision is ready, and the analysis before the switch has no verdict yet
 abbrev pub awaits_pre : Strategy → List Entry → Bool
 awaits_pre s past = has_ready past && not (has_resumed past) && s.pre && not (is_passed s past)
 
--- paused: the analysis before the switch is passed, and the pause isn't over
+-- paused: the analysis before the switch succeeded or none is set, and the pause isn't over
 abbrev pub is_paused : Strategy → List Entry → Bool
 is_paused s past = is_passed s past && not (has_resumed past) && needs_pause s
 
@@ -31,7 +30,6 @@ is_paused s past = is_passed s past && not (has_resumed past) && needs_pause s
 abbrev pub is_sizing : List Entry → Bool
 is_sizing past = has_resumed past && not (has_switched past)
 
--- post-promotion analysis: the active service has switched, and the analysis after the switch is
--- awaited
+-- post-promotion analysis: the active service has switched, and the rollout waits for the analysis after the switch
 abbrev pub awaits_post : Strategy → List Entry → Bool
 awaits_post s past = has_switched past && s.post

@@ -9,7 +9,7 @@ use Rattle.bg_history.specs.Attempts.{has_ready, has_resumed, has_switched, has_
 use Rattle.bg_history.specs.Sizes.{available}
 use Rattle.bg_history.specs.Phases.{needs_pause}
 
--- the attempt runs and r is its revision
+-- an attempt of r runs
 abbrev pub attempts : ℕ → List Entry → Bool
 attempts r past = is_running past && (r == newest_of past)
 
@@ -17,7 +17,7 @@ abbrev pub may_be_ready : Strategy → ℕ → List Entry → Bool
 may_be_ready s r past =
     attempts r past && not (has_ready past) && nat_le s.preview_replicas (available r past)
 
--- the seconds of the pause have gone by since it began
+-- promotion needs no operator, and the seconds of the pause have passed since it began at `at`
 abbrev pub waited : Bool → ℕ → ℕ → Option ℕ → Bool
 waited auto seconds now None = false
 waited auto seconds now (Some at) = auto && nat_lt 0 seconds && nat_le (at + seconds) now
@@ -40,7 +40,7 @@ may_promote s r past =
     attempts r past && has_switched past
     && (not s.post || has_post_success past || has_promote_full past)
 
--- the first of the four steps of an attempt that is allowed
+-- the first of the four steps of an attempt that the past allows
 abbrev pub first_promotion : Strategy → List Entry → Option Outcome
 first_promotion s past =
     if may_be_ready s (newest_of past) past then Some (Ready (newest_of past))

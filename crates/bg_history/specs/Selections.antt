@@ -1,4 +1,4 @@
--- Which revisions the services select.
+-- The revisions that the services select.
 use Rattle.std.specs.Prelude.{ℕ, Bool, if◌then◌else◌, ◌==◌, ◌||◌, List, [], ◌∷◌}
 use Rattle.bg_revisions.specs.declared.revision.Selectors.{Selectors}
 use Rattle.bg_history.specs.declared.entry.Entry.{Entry}
@@ -7,12 +7,12 @@ use Rattle.bg_history.specs.declared.entry.Outcome.TheVariants.{Switched}
 use Rattle.bg_history.specs.declared.entry.AnalysisResult.TheVariants.{Failed, Error}
 use Rattle.bg_history.specs.Turns.{stable_of, newest_of, is_running}
 
--- the running newest revision, else the stable one
+-- the newest revision while an attempt runs, else the stable one
 abbrev pub preview_of : List Entry → ℕ
 preview_of past = if is_running past then newest_of past else stable_of past
 
--- the revision of the newest switch; a stop or a deploy of the stable revision goes back to that
--- one
+-- the revision of the newest switch; an entry that halts an attempt and a deploy of the stable revision go back to
+-- the stable revision
 abbrev pub active_of : List Entry → ℕ
 active_of [] = 1
 active_of (Outcome (Switched r) ∷ before) = r
@@ -26,7 +26,7 @@ active_of (_ ∷ before) = active_of before
 abbrev pub is_selected : ℕ → List Entry → Bool
 is_selected r past = (r == active_of past) || (r == preview_of past) || (r == stable_of past)
 
--- the revisions that are active, preview, stable and newest
+-- the active, preview, stable and newest revisions
 abbrev pub selectors_of : List Entry → Selectors
 selectors_of past = record {
   active = active_of past;

@@ -1,4 +1,4 @@
--- Which entries may be compacted.
+-- The entries that may be compacted.
 use Rattle.std.specs.Prelude.{ℕ, Bool, true, false, not, ◌==◌, ◌&&◌, ◌||◌, nat_lt, List, [], ◌∷◌}
 use Rattle.bg_history.specs.declared.entry.Entry.{Entry}
 use Rattle.bg_history.specs.declared.entry.Entry.TheVariants.{Enter, Leave}
@@ -12,8 +12,8 @@ has_entered seat number (Enter q service n r port ∷ before) =
     ((q == seat) && (n == number)) || has_entered seat number before
 has_entered seat number (_ ∷ before) = has_entered seat number before
 
--- no two Enters and no two Leaves have one number, each Leave follows its Enter and has its seat,
--- and each seat is below that number
+-- no two Enters and no two Leaves have the same number, each Leave follows its Enter and has its seat, and each seat
+-- is below `seats`
 abbrev pub is_sound : ℕ → List Entry → Bool
 is_sound seats [] = true
 is_sound seats (Enter seat service number r port ∷ before) =

@@ -1,4 +1,4 @@
--- What a call makes of a past: its event, and the outcomes that this allows.
+-- The past after a call: with its event, and the outcomes that the event allows.
 use Rattle.std.specs.Prelude.{◌≡◌, ℕ, Bool, true, ◌&&◌, nat_le, List, [], ◌∷◌, find, length, Option, Some, is_none, IsTrue}
 use Rattle.std.specs.List.{list_all}
 use Rattle.std.specs.Option.{option_or, option_map}
@@ -16,37 +16,37 @@ use Rattle.bg_strategy.specs.Label.{is_label}
 use Rattle.bg_revisions.specs.PortLists.{are_ports}
 use Rattle.bg_history.specs.Allowed.{is_allowed}
 
--- the first outcome that is allowed: the steps of an attempt, then the least to scale down, then
--- the least to remove
+-- the first allowed outcome: a step of the attempt; else the least revision that may be scaled down; else the least
+-- one that may be removed
 abbrev pub first_allowed : Strategy → List Entry → Option outcome.Outcome
 first_allowed s past =
     option_or (first_promotion s past)
     (option_or (option_map ScaledDown (find (λ r. may_scale_down s r past) (existing past)))
     (option_map Removed (find (λ r. may_remove s r past) (existing past))))
 
--- nothing is left undone
+-- no allowed outcome is left undone
 abbrev pub is_settled : Strategy → List Entry → Bool
 is_settled s past = is_none (first_allowed s past)
 
--- the past with these outcomes in front, the newest first
+-- the past with these outcomes in front, newest first
 abbrev pub with_outcomes : List outcome.Outcome → List Entry → List Entry
 with_outcomes [] past = past
 with_outcomes (x ∷ earlier) past = Outcome x ∷ with_outcomes earlier past
 
--- each outcome was the first allowed where it stands
+-- each outcome was the first allowed one at its place
 abbrev pub Follows : Strategy → List outcome.Outcome → List Entry → Type 0
 Follows s [] past = Unit {0}
 Follows s (x ∷ earlier) past =
     Follows s earlier past × (first_allowed s (with_outcomes earlier past) ≡ Some x)
 
--- the past became the new one by this event and the outcomes that it allowed
+-- the new past is the past with this event and the outcomes that it allowed, and no more is allowed
 pub record Step (s : Strategy) (e : Entry) (past : List Entry) (outcomes : List outcome.Outcome)
     (new : List Entry) : Type 0 where
   pub new_is : new ≡ with_outcomes outcomes (e ∷ past)
   pub follow : Follows s outcomes (e ∷ past)
   pub settled : IsTrue (is_settled s new)
 
--- each entry is allowed by those before it
+-- the entries before each entry allow it
 abbrev pub all_allowed : Strategy → Opening → List Entry → Bool
 all_allowed s o [] = true
 all_allowed s o (e ∷ before) = is_allowed s o e before && all_allowed s o before
@@ -57,12 +57,12 @@ is_opening s o =
     is_label o.template.name && are_ports s.replicas o.template.ports && nat_le 1 o.seats
     && nat_le o.seats 8
 
--- each number lies from 1 to the greatest one that was given
+-- each number lies from 1 to `greatest`
 abbrev pub all_given : ℕ → List ℕ → Bool
 all_given greatest numbers = list_all (λ n. nat_le 1 n && nat_le n greatest) numbers
 
--- the opening is well formed, each seat has a count of closed requests, each entry was allowed
--- where it stands, and each request number is one that was given
+-- the opening is well formed, each seat has a count of closed requests, the entries before each entry allow it, and
+-- each request number lies from 1 to the number of given ones
 pub record IsLegal (s : Strategy) (o : Opening) (closed : List ℕ) (past : List Entry) : Type 0 where
   pub opening : IsTrue (is_opening s o)
   pub seats : length closed ≡ o.seats

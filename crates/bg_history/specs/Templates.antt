@@ -7,7 +7,7 @@ use Rattle.bg_history.specs.declared.entry.Entry.TheVariants.{Deploy}
 use Rattle.bg_history.specs.Sizes.{existing}
 use Rattle.bg_history.specs.Kept.{Template, Opening}
 
--- the template of r's first deploy, or for revision 1 that of the opening
+-- the template of r's first deploy; for revision 1 the template of the opening
 abbrev pub template : Opening → ℕ → List Entry → Option Template
 template o r [] = if r == 1 then Some o.template else None
 template o r (Deploy q name ports ∷ before) =

@@ -1,4 +1,4 @@
--- The turns of a past: when attempts begin and end, and which revisions they are of.
+-- The turns of a past: the begin and the end of each attempt, and its revision.
 use Rattle.std.specs.Prelude.{ℕ, Bool, true, false, not, ◌==◌, List, [], ◌∷◌}
 use Rattle.bg_history.specs.declared.entry.Entry.{Entry}
 use Rattle.bg_history.specs.declared.entry.Entry.TheVariants.{Tick, Deploy, Verdict, Abort, Retry, Outcome}
@@ -23,7 +23,7 @@ newest_of [] = 1
 newest_of (Deploy r name ports ∷ before) = r
 newest_of (_ ∷ before) = newest_of before
 
--- an entry that stops an attempt: an abort, or a verdict that is failed or error
+-- an entry that halts an attempt: an abort, or a verdict that is failed or error
 abbrev pub is_halt : Entry → Bool
 is_halt Abort = true
 is_halt (Verdict analysis Failed) = true
@@ -40,8 +40,7 @@ is_turn (Verdict analysis Failed) = true
 is_turn (Verdict analysis Error) = true
 is_turn _ = false
 
--- an attempt runs: the newest turn is a retry, or a deploy of a revision that wasn't stable before
--- it
+-- an attempt runs: the newest turn is a retry, or a deploy of a revision that wasn't the stable one
 abbrev pub is_running : List Entry → Bool
 is_running [] = false
 is_running (Deploy r name ports ∷ before) = not (r == stable_of before)
@@ -52,7 +51,7 @@ is_running (Verdict analysis Failed ∷ before) = false
 is_running (Verdict analysis Error ∷ before) = false
 is_running (_ ∷ before) = is_running before
 
--- the last attempt was stopped: the newest turn is an abort or a verdict that is failed or error
+-- the last attempt was halted: the newest turn is an abort or a verdict that is failed or error
 abbrev pub is_halted : List Entry → Bool
 is_halted [] = false
 is_halted (Deploy r name ports ∷ before) = false

@@ -1,27 +1,27 @@
-//! Compacting a list of entries in its place.
+//! Compacting a list of entries in place.
 ghost use Rattle.std.specs.Prelude.{◌≡◌, ◌+◌, ◌^◌, ◌<◌, ◌≤◌, ◌∷◌, List, length, reverse, take, drop, vec_len, vec_capacity, slice_get, Some, IsTrue};
 ghost use Rattle.std.specs.List.{list_any};
 ghost use Rattle.bg_history.specs.declared.entry.Entry.{Entry as entry};
 ghost use Rattle.bg_history.specs.Requests.{given};
 ghost use Rattle.bg_history.specs.Compacted.{compacted, closed_after};
-ghost use Rattle.bg_history.specs.Compacting.{is_tick as tick, is_leave_of, fate_of, laid, overwrites_at};
+ghost use Rattle.bg_history.specs.Compacting.{is_tick as tick, is_leave_of, treatment_of, laid, overwrites_at};
 ghost use Rattle.bg_history.specs.Sound.{is_sound};
 
 use crate::entry::Entry;
 
-/// What becomes of an entry.
+/// What compaction does with an entry.
 #[derive(Clone, Copy, PartialEq, Eq, Debug, Drop)]
-enum Fate {
-    /// It stays.
-    Stays,
-    /// It goes, as the Leave of a closed request.
-    Goes,
-    /// It goes, as the Enter of a closed request of that seat.
-    Closes(u32),
+enum Treatment {
+    /// Keep the entry.
+    Keep,
+    /// Drop the entry: it is the Leave of a closed request.
+    Discard,
+    /// Drop the entry and count its request: it is the Enter of a closed request of that seat.
+    CountClosed(u32),
 }
 
-/// Drops the entries of each closed request, counts it for its seat, and keeps of neighbouring ticks the
-/// last alone. Answers how many entries were dropped.
+/// Drops the entries of each closed request, counts the request for its seat, and drops each tick that another tick
+/// directly follows. Gives the number of dropped entries.
 pub fn compact(entries: &mut Vec<Entry>, closed: &mut Vec<u64>) -> u64
     requires sound { IsTrue (is_sound (vec_len closed.old) (reverse entries.old.items)) }
     requires given { given closed.old.items (reverse entries.old.items) ≤ 2 ^ 53 }
@@ -33,37 +33,37 @@ pub fn compact(entries: &mut Vec<Entry>, closed: &mut Vec<u64>) -> u64
     let count = entries.len();
     let mut kept = 0;
     for place in 0..count {
-        match becomes(&entries[place..]) {
-            Fate::Stays => kept = lay(entries, kept, place),
-            Fate::Goes => {}
-            Fate::Closes(seat) => closed[seat as usize] += 1,
+        match treatment_of_first(&entries[place..]) {
+            Treatment::Keep => kept = move_to(entries, kept, place),
+            Treatment::Discard => {}
+            Treatment::CountClosed(seat) => closed[seat as usize] += 1,
         }
     }
     entries.truncate(kept);
     (count - kept) as u64
 }
 
-/// What becomes of the first of these entries.
-fn becomes(entries: &[Entry]) -> Fate
+/// What compaction does with the first of these entries.
+fn treatment_of_first(entries: &[Entry]) -> Treatment
     requires { 0 < length entries.now }
-    ensures { (e : entry) (later : List entry) → entries.now ≡ e ∷ later → result ≡ fate_of e later }
+    ensures { (e : entry) (later : List entry) → entries.now ≡ e ∷ later → result ≡ treatment_of e later }
 {
     match &entries[0] {
         Entry::Enter { seat, number, .. } => {
             if has_left(&entries[1..], *number) {
-                Fate::Closes(*seat)
+                Treatment::CountClosed(*seat)
             } else {
-                Fate::Stays
+                Treatment::Keep
             }
         }
-        Entry::Leave { .. } => Fate::Goes,
-        _ => Fate::Stays,
+        Entry::Leave { .. } => Treatment::Discard,
+        _ => Treatment::Keep,
     }
 }
 
-/// Puts the entry at `place` behind the first `kept` ones, in place of their last where both are ticks.
-/// Answers how many those are then.
-fn lay(entries: &mut Vec<Entry>, kept: usize, place: usize) -> usize
+/// Moves the entry at `place` behind the first `kept` entries. If it and the last of these are both ticks, it
+/// replaces that one. Gives the number of kept entries after this.
+fn move_to(entries: &mut Vec<Entry>, kept: usize, place: usize) -> usize
     requires before { kept ≤ place }
     requires within { place < vec_len entries.old }
     ensures laid { (e : entry) → slice_get entries.old.items place ≡ Some e
@@ -97,7 +97,7 @@ fn is_tick(entry: &Entry) -> bool
     matches!(entry, Entry::Tick(_))
 }
 
-/// Whether the request of that number left.
+/// Whether one of the entries is the Leave of the request of that number.
 fn has_left(entries: &[Entry], number: u64) -> bool
     ensures { result ≡ list_any (is_leave_of number) entries.now }
 {

@@ -2,16 +2,16 @@
 
 use bg_revisions::{Name, Ports, Service};
 
-/// When an analysis is made (Argo Rollouts, "BlueGreen Deployment Strategy").
+/// When an analysis runs (Argo Rollouts, "BlueGreen Deployment Strategy").
 #[derive(Clone, Copy, PartialEq, Eq, Debug, Drop)]
 pub enum Analysis {
-    /// Before the active service is switched: `prePromotionAnalysis`.
+    /// Before the active service switches: `prePromotionAnalysis`.
     Pre,
-    /// After it is switched: `postPromotionAnalysis`.
+    /// After the active service switched: `postPromotionAnalysis`.
     Post,
 }
 
-/// What an analysis found.
+/// The result of an analysis.
 #[derive(Clone, Copy, PartialEq, Eq, Debug, Drop)]
 pub enum AnalysisResult {
     Successful,
@@ -19,7 +19,7 @@ pub enum AnalysisResult {
     Error,
 }
 
-/// What the switch itself does, after an event has allowed it. Each names the revision that it is of.
+/// A step that the switch itself takes once an event allows it. Each outcome names its revision.
 #[derive(Clone, Copy, PartialEq, Eq, Debug, Drop)]
 pub enum Outcome {
     /// The new revision has the endpoints that its preview needs.
@@ -30,16 +30,16 @@ pub enum Outcome {
     Switched(u64),
     /// The new revision is the stable one.
     Promoted(u64),
-    /// An old revision has no endpoints any more.
+    /// An old revision was scaled down: it wants no endpoint and has none available.
     ScaledDown(u64),
-    /// An old revision is gone.
+    /// An old revision was removed.
     Removed(u64),
 }
 
-/// An event, or an outcome that it allowed.
+/// An entry of a history: an event, or an outcome that an event allowed.
 #[derive(Drop, Debug)]
 pub enum Entry {
-    /// The moment is this, in seconds from the start.
+    /// The moment becomes this, in seconds from the start.
     Tick(u64),
     /// A template was deployed as this revision.
     Deploy {
@@ -47,7 +47,7 @@ pub enum Entry {
         name: Name,
         ports: Ports,
     },
-    /// A revision has this many endpoints.
+    /// A revision has this many available endpoints.
     Available {
         revision: u64,
         size: u32,
@@ -63,9 +63,9 @@ pub enum Entry {
     PromoteFull,
     /// An operator aborted the attempt.
     Abort,
-    /// An operator began the aborted attempt again.
+    /// An operator began a new attempt after one was halted.
     Retry,
-    /// A seat's request entered: it got this number, revision and port.
+    /// A request entered at a seat, and got this number, revision and port.
     Enter {
         seat: u32,
         service: Service,
@@ -73,7 +73,7 @@ pub enum Entry {
         revision: u64,
         port: u16,
     },
-    /// A seat's request left.
+    /// The request of a seat left.
     Leave {
         seat: u32,
         number: u64,

@@ -1,4 +1,4 @@
-//! The list of entries.
+//! The history: the list of entries.
 ghost use Rattle.std.specs.Prelude.{◌≡◌, ◌+◌, ◌^◌, ◌≤◌, ◌∷◌, [], IfOk, IsTrue, OnOk, OnErr, slice_get, slice_index, length, reverse, option_map, replicate};
 ghost use Rattle.bg_history.specs.Compacted.{compacted, closed_after};
 ghost use Rattle.bg_history.specs.Requests.{given};
@@ -12,8 +12,8 @@ use std::marker::Model;
 
 /// The entries of a book since its opening.
 ///
-/// Contracts see the past newest first, the revision and the seats of the opening, for each seat the number of
-/// its closed requests whose entries were dropped, and `spare`: the places that are reserved for further entries.
+/// Contracts see the past newest first, the template of revision 1 and the number of seats, for each seat the number
+/// of its closed requests whose entries were dropped, and `spare`: the number of places reserved for more entries.
 #[derive(Drop)]
 pub struct History {
     name: Name,
@@ -43,8 +43,8 @@ impl Model for History {
 }
 
 impl History {
-    /// A history of no entry, whose first revision has this name and these ports, for as many seats.
-    /// Refused only where memory is.
+    /// A history without entries, for `seats` seats. Revision 1 has this name and these ports. The only error is an
+    /// allocation failure.
     pub fn new(alloc: Global, seats: u32, name: &str, ports: &[u16]) -> Result<History, AllocError>
         ensures { IfOk result (λ h. h ≡ record {
           opening = record {
@@ -66,8 +66,8 @@ impl History {
         })
     }
 
-    /// Makes `spare` at least `n`, and takes the memory for it: at least as much as there is already, where
-    /// it takes any. Refused only where memory is, and then nothing changes.
+    /// Makes `spare` at least `n`. If this allocates, the capacity at least doubles. The only error is an allocation
+    /// failure, and it changes nothing.
     pub fn reserve(&mut self, n: u32) -> Result<(), AllocError>
         ensures ok { OnOk result (n ≤ self.new.spare) }
         ensures spare { self.old.spare ≤ self.new.spare }
@@ -82,7 +82,7 @@ impl History {
         Ok(())
     }
 
-    /// Appends an entry, which takes no memory.
+    /// Appends an entry in a reserved place. The call allocates nothing.
     pub fn push_reserved(&mut self, entry: Entry)
         requires { 1 ≤ self.old.spare }
         ensures entry { self.new ≡ record self.old {
@@ -103,14 +103,14 @@ impl History {
         self.closed.len()
     }
 
-    /// The name that revision 1 was opened with.
+    /// The name of revision 1 at the opening.
     pub fn first_name(&self) -> &str
         ensures { result.now ≡ self.now.opening.template.name }
     {
         self.name.get()
     }
 
-    /// The ports that revision 1 was opened with.
+    /// The ports of revision 1 at the opening.
     pub fn first_ports(&self) -> &[u16]
         ensures { result.now ≡ self.now.opening.template.ports }
     {
@@ -124,22 +124,22 @@ impl History {
         self.entries.len() as u64
     }
 
-    /// The entry at a place, counted from the oldest one, which is 0; none past the newest.
+    /// The entry at a place; the oldest entry is at place 0. `None` past the newest entry.
     pub fn get(&self, place: u64) -> Option<&Entry>
         ensures { option_map (λ e. e.now) result ≡ slice_get (reverse self.now.past) place }
     {
         self.entries.get(place as usize)
     }
 
-    /// The number of a seat's closed requests whose entries were dropped; 0 where there is no such seat.
+    /// The number of a seat's closed requests whose entries were dropped; 0 if there is no such seat.
     pub fn closed(&self, seat: u32) -> u64
         ensures { result ≡ slice_index self.now.closed seat }
     {
         self.closed.get(seat as usize).copied().unwrap_or(0)
     }
 
-    /// Drops the entries of each closed request, counts it for its seat, and keeps of neighbouring ticks the
-    /// newest alone. Gives the number of entries that were dropped. It takes no memory.
+    /// Compacts the history: drops the entries of each closed request, counts the request for its seat, and drops each
+    /// tick that another tick directly follows. Gives the number of dropped entries. The call allocates nothing.
     pub fn compact(&mut self) -> u64
         requires sound { IsTrue (is_sound self.old.opening.seats self.old.past) }
         requires given { given self.old.closed self.old.past ≤ 2 ^ 53 }

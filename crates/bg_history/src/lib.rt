@@ -1,8 +1,8 @@
-//! The history of a rollout: its entries, and what they say.
+//! The history of a rollout: its entries, what they say, and its compaction.
 //!
-//! A history grows at its end, and is compacted: then the entries of closed requests leave it. Everything that
-//! the switch keeps running, as a phase, a size or an open request, is defined in `specs/` as a question about
-//! the history, by cases on its newest entry.
+//! A history grows at its end. Compaction drops the entries of closed requests. `specs/` defines the whole running
+//! state of the switch, such as the phase, the sizes and the open requests, as questions about the history, by cases
+//! on its newest entry.
 #![tactic(auto)]
 
 mod compacting;

@@ -1,4 +1,4 @@
--- What stays of a past that is compacted.
+-- What compaction keeps of a past.
 pub mod Steps
 pub mod Marks
 pub mod Alike

@@ -1,4 +1,4 @@
--- How outcomes come to an end.
+-- The outcomes after an event come to an end.
 pub mod Counts
 pub mod Work
 pub mod Removing

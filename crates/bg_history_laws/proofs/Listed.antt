@@ -1,4 +1,4 @@
--- The revisions that a past asks for.
+-- The revisions that a past gives.
 pub mod Members
 pub mod Templates
 pub mod Mapped

@@ -1,4 +1,4 @@
--- What a legal history promises to those who use the switch.
+-- What a legal history promises to the users of the switch.
 pub mod Outcomes
 pub mod Attempts
 pub mod Names

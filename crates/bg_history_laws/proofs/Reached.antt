@@ -1,4 +1,4 @@
--- What holds of each past whose entries were allowed.
+-- What holds of every past whose entries were allowed.
 pub mod Existing
 pub mod Allowing
 pub mod Sizes

@@ -2,22 +2,22 @@
 use Rattle.std.proofs.Common.{◌≡◌, ℕ, Bool, true, false, not, ◌==◌, ◌&&◌, ◌||◌, refl, arith}
 use Rattle.std.proofs.lemmas.Bool.Decides.{nat_tests}
 
--- where both hold, each does
+-- if both of two hold, each holds
 pub and_parts : (a b : Bool) → a && b ≡ true → (a ≡ true) × (b ≡ true)
 and_parts true b h = (refl, h)
 and_parts false b h = absurd (cc)
 
--- where each holds, both do
+-- if each of two holds, both hold
 pub and_both : (a b : Bool) → a ≡ true → b ≡ true → a && b ≡ true
 and_both true b ha hb = hb
 and_both false b ha hb = absurd (cc)
 
--- where the second of two fails, they don't both hold
+-- if the second of two fails, they don't both hold
 pub and_false : (a b : Bool) → b ≡ false → a && b ≡ false
 and_false true b h = h
 and_false false b h = refl
 
--- where one of two holds, they don't both fail
+-- if one of two holds, they don't both fail
 pub or_left : (a b : Bool) → a ≡ true → a || b ≡ true
 or_left true b h = refl
 or_left false b h = absurd (cc)
@@ -26,7 +26,7 @@ pub or_right : (a b : Bool) → b ≡ true → a || b ≡ true
 or_right true b h = refl
 or_right false b h = h
 
--- what isn't so is false
+-- a test whose negation holds is false
 pub not_true : (b : Bool) → not b ≡ true → b ≡ false
 not_true true h = absurd (cc)
 not_true false h = refl

@@ -1,4 +1,4 @@
--- Pasts that answer alike, but for their requests and their moment.
+-- Pasts that give the same answers, except about their requests and their moment.
 use Rattle.std.specs.Prelude.{◌≡◌, ℕ, Bool, true, false, List, Option, Some, None, nat_lt}
 use Rattle.bg_history.specs.declared.entry.Entry.{Entry}
 use Rattle.bg_history.specs.declared.entry.Entry.TheVariants.{Tick, Enter, Leave}
@@ -27,18 +27,18 @@ abbrev pub said : Option Mark → Option Said
 said None = None
 said (Some m) = Some (record { kind = m.kind; at = m.moment })
 
--- both marks are there, and the first stands before the second
+-- there are both marks, and the first comes before the second
 abbrev pub earlier : Option Mark → Option Mark → Bool
 earlier None y = false
 earlier (Some x) None = false
-earlier (Some x) (Some y) = nat_lt x.stood y.stood
+earlier (Some x) (Some y) = nat_lt x.position y.position
 
--- the marks of each revision say the same, and stand in the same order
+-- the marks of each revision say the same, and have the same order
 pub record MarksAlike (s : Strategy) (a b : List Entry) : Type 0 where
   pub say : (r : ℕ) → said (mark s r a) ≡ said (mark s r b)
   pub order : (q r : ℕ) → earlier (mark s q a) (mark s r a) ≡ earlier (mark s q b) (mark s r b)
 
--- the pasts answer each question alike that asks of neither requests nor the moment
+-- the pasts give the same answer to each question that depends on neither requests nor the moment
 pub record Alike (s : Strategy) (o : Opening) (a b : List Entry) : Type 0 where
   pub stable : stable_of a ≡ stable_of b
   pub newest : newest_of a ≡ newest_of b
@@ -56,7 +56,7 @@ pub record Alike (s : Strategy) (o : Opening) (a b : List Entry) : Type 0 where
   pub pass : pass_moment s a ≡ pass_moment s b
   pub marks : MarksAlike s a b
 
--- what stands in the attempt
+-- the same has happened in the running attempts
 pub record Attempted (a b : List Entry) : Type 0 where
   pub ready : has_ready a ≡ has_ready b
   pub resumed : has_resumed a ≡ has_resumed b

@@ -1,4 +1,4 @@
--- What a roster answers to the template of a deploy.
+-- The answer of a roster to the template of a deploy.
 use Rattle.std.specs.Prelude.{ℕ, if◌then◌else◌, List, Option, Some, None, Result, Ok, Err}
 use Rattle.bg_revisions.specs.declared.revision_fault.RevisionFault.{RevisionFault}
 use Rattle.bg_revisions.specs.declared.revision_fault.RevisionFault.TheVariants.{SameTemplate, PortsDiffer}
@@ -7,14 +7,15 @@ use Rattle.bg_history.specs.Kept.{Opening}
 use Rattle.bg_history.specs.Templates.{template, has_ports, owner}
 use Rattle.bg_history.specs.Allowed.{is_template}
 
--- the revision of the name where it has these ports, or none where no revision has the name
+-- the owner of the name, or none if no revision has the name; a fault if the owner has other ports
 abbrev pub owner_answer : Opening → List ℕ → Option ℕ → List Entry
     → Result (Option ℕ) RevisionFault
 owner_answer o ports None past = Ok None
 owner_answer o ports (Some q) past =
     if has_ports ports (template o q past) then Ok (Some q) else Err PortsDiffer
 
--- the newest revision's template is refused first, then other ports under the name of a revision
+-- the answer to a template: a fault if it is the newest revision's; else the owner of the name, a fault if that has
+-- other ports
 abbrev pub template_answer : Opening → ℕ → List ℕ → List ℕ → List Entry
     → Result (Option ℕ) RevisionFault
 template_answer o newest name ports past =

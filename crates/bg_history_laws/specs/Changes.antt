@@ -1,10 +1,10 @@
--- Which entries leave the revisions as they are.
+-- The entries that change no revision.
 use Rattle.std.specs.Prelude.{Bool, true, false}
 use Rattle.bg_history.specs.declared.entry.Entry.{Entry}
 use Rattle.bg_history.specs.declared.entry.Entry.TheVariants.{Deploy, Available, Retry, Outcome}
 use Rattle.bg_history.specs.declared.entry.Outcome.TheVariants.{Resumed, ScaledDown, Removed}
 
--- the entry adds, sizes and removes no revision
+-- the entry adds, resizes and removes no revision
 abbrev pub resizes_none : Entry → Bool
 resizes_none (Deploy r name ports) = false
 resizes_none (Available r n) = false

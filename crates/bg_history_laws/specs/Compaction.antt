@@ -1,4 +1,4 @@
--- What stays of a past that is compacted.
+-- What compaction keeps of a past.
 use Rattle.std.specs.Prelude.{◌≡◌, ℕ, Bool, true, not, List, ◌∷◌}
 use Rattle.bg_history.specs.declared.entry.Entry.{Entry}
 use Rattle.bg_history.specs.declared.entry.Entry.TheVariants.{Enter}
@@ -17,13 +17,13 @@ use Rattle.bg_history.specs.Steps.{IsLegal, first_allowed, Step, with_outcomes}
 use Rattle.bg_history.specs.Compacted.{left_numbers, is_among, compacted, closed_after}
 use Rattle.bg_history_laws.specs.Alike.{Alike, Attempted}
 
--- the pasts answer each question alike
+-- the pasts give the same answer to each question
 pub record Same (s : Strategy) (o : Opening) (a b : List Entry) : Type 0 where
   pub alike : Alike s o a b
   pub now : moment a ≡ moment b
   pub held : open_requests a ≡ open_requests b
 
--- further questions, each of which is made of those
+-- the same answers to further questions, which follow from those
 pub record Answers (s : Strategy) (o : Opening) (a b : List Entry) : Type 0 where
   pub attempted : Attempted a b
   pub preview : preview_of a ≡ preview_of b
@@ -38,7 +38,7 @@ pub record Answers (s : Strategy) (o : Opening) (a b : List Entry) : Type 0 wher
   pub owner_is : (name : List ℕ) → owner o name a ≡ owner o name b
   pub selected : (v : Service) → selection s v a ≡ selection s v b
 
--- what stays of a legal past
+-- what compaction keeps of a legal past
 pub record Compacts (s : Strategy) (o : Opening) (closed : List ℕ)
     (past : List Entry) : Type 0 where
   pub legal : IsLegal s o (closed_after past closed) (compacted past)
@@ -49,13 +49,13 @@ pub record Compacts (s : Strategy) (o : Opening) (closed : List ℕ)
       → calls_of (closed_after past closed) i (compacted past) ≡ calls_of closed i past
   pub first : first_allowed s (compacted past) ≡ first_allowed s past
 
--- the entry isn't the entering of a request that left before
+-- the entry isn't the Enter of a request that left before
 abbrev pub enters_anew : Entry → List Entry → Bool
 enters_anew (Enter seat service number r port) before =
     not (is_among (left_numbers before) number)
 enters_anew _ before = true
 
--- an event makes of the compacted past what answers alike, and compacts to the same
+-- the event leads from the compacted past to a past that gives the same answers and compacts to the same past
 pub record Commutes (s : Strategy) (o : Opening) (closed : List ℕ) (e : Entry)
     (past : List Entry) (outcomes : List Outcome) (new : List Entry) : Type 0 where
   pub step : Step s e (compacted past) outcomes (with_outcomes outcomes (e ∷ compacted past))

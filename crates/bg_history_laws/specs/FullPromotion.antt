@@ -1,5 +1,5 @@
--- The way forward: a running attempt can always be fully promoted, in at most three calls (Argo
--- Rollouts, `kubectl argo rollouts promote --full`).
+-- A running attempt can always be fully promoted, in at most three calls (Argo Rollouts,
+-- `kubectl argo rollouts promote --full`).
 use Rattle.std.specs.Prelude.{◌≡◌, ℕ, zero, suc, if◌then◌else◌, ◌⊎◌, List, IsTrue, IsFalse}
 use Rattle.bg_strategy.specs.declared.strategy.Strategy.{Strategy}
 use Rattle.bg_history.specs.declared.entry.Entry.{Entry}
@@ -21,14 +21,14 @@ pub record IsFullyPromoted (r : ℕ) (past : List Entry) : Type 0 where
   pub stable : stable_of past ≡ r
   pub ended : IsFalse (is_running past)
 
--- the next call of a full promotion: promote full where the attempt has none; else the report that
--- all that is wanted of its revision is available
+-- the next call of a full promotion: the full promotion if the attempt has none; else the report that all wanted
+-- endpoints of its revision are available
 abbrev pub next_promotion_call : Strategy → List Entry → Entry
 next_promotion_call s past =
     if has_promote_full past then Available (newest_of past) (desired s (newest_of past) past)
     else PromoteFull
 
--- at most so many of these calls, each allowed when its turn comes, fully promote r
+-- at most this many of these calls fully promote r; each is allowed in its turn
 abbrev pub CanPromote : ℕ → Strategy → Opening → ℕ → List Entry → Type 0
 CanPromote zero s o r past = IsFullyPromoted r past
 CanPromote (suc calls) s o r past =

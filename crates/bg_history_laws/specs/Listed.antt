@@ -1,4 +1,4 @@
--- The revisions that a past asks for.
+-- The revisions that a past gives.
 use Rattle.std.specs.Prelude.{ℕ, List, [], map, Option, Some, None}
 use Rattle.bg_strategy.specs.declared.strategy.Strategy.{Strategy}
 use Rattle.bg_revisions.specs.declared.revision.Revision.{Revision}
@@ -7,7 +7,7 @@ use Rattle.bg_history.specs.Kept.{Opening, Template}
 use Rattle.bg_history.specs.Sizes.{existing, desired, available}
 use Rattle.bg_history.specs.Templates.{template}
 
--- a revision of this number, template and sizes; each revision that exists has a template
+-- the revision with this number, template and sizes; every existing revision has a template
 abbrev pub sized : ℕ → ℕ → ℕ → Option Template → Revision
 sized r wanted there None = record {
   number = r;
@@ -28,6 +28,6 @@ sized r wanted there (Some t) = record {
 abbrev pub revision_of : Strategy → Opening → List Entry → ℕ → Revision
 revision_of s o past r = sized r (desired s r past) (available r past) (template o r past)
 
--- the existing revisions, in order of number
+-- the existing revisions, in ascending order of their numbers
 abbrev pub revisions_of : Strategy → Opening → List Entry → List Revision
 revisions_of s o past = map (revision_of s o past) (existing past)

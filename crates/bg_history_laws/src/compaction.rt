@@ -1,4 +1,4 @@
-//! What stays of a past that is compacted.
+//! What compaction keeps of a past.
 ghost use Rattle.std.specs.Prelude.{◌≡◌, ◌≤◌, ℕ, IsTrue, List, length};
 ghost use Rattle.bg_strategy.specs.declared.strategy.Strategy.{Strategy};
 ghost use Rattle.bg_history.specs.declared.entry.Entry.{Entry};
@@ -10,20 +10,20 @@ ghost use Rattle.bg_history.specs.Compacted.{compacted, closed_after};
 ghost use Rattle.bg_history.specs.Sound.{is_sound as sound};
 ghost use Rattle.bg_history_laws.specs.Compaction.{Compacts, Commutes, enters_anew};
 
-/// A legal past stays legal where it is compacted, each question about it has the same answer, and the
-/// counts of requests and calls stay.
+/// A compacted legal past is legal. Each question about it has the same answer, and the counts of requests and calls
+/// are the same.
 pub fn compacts()
     ensures { (s : Strategy) (o : Opening) (closed : List ℕ) (past : List Entry)
         → IsLegal s o closed past → Compacts s o closed past }
 {}
 
-/// Where nothing is left undone, nothing is once the past is compacted.
+/// If no allowed outcome is left undone in a past, none is in the compacted past.
 pub fn stays_settled()
     ensures { (s : Strategy) (o : Opening) (past : List Entry) → IsTrue (all_allowed s o past)
         → IsTrue (is_settled s past) → IsTrue (is_settled s (compacted past)) }
 {}
 
-/// An event makes of the compacted past what compacts to the same as what it makes of the past.
+/// An event leads from a past and from the compacted past to two pasts that compact to the same past.
 pub fn commutes()
     ensures { (s : Strategy) (o : Opening) (closed : List ℕ) (e : Entry) (past : List Entry)
         (outcomes : List Outcome) (new : List Entry) → IsTrue (all_allowed s o past)
@@ -31,7 +31,7 @@ pub fn commutes()
         → Commutes s o closed e past outcomes new }
 {}
 
-/// A past that was compacted stays as it is where it is compacted again.
+/// Compacting a compacted past changes nothing.
 pub fn compacts_once()
     ensures past { (past : List Entry) → compacted (compacted past) ≡ compacted past }
     ensures closed { (past : List Entry) (closed : List ℕ)
@@ -44,13 +44,13 @@ pub fn is_sound()
         → IsTrue (sound o.seats past) }
 {}
 
-/// The table of deadlines that a past makes is that of the compacted one.
+/// A past and the compacted past make the same table of deadlines.
 pub fn keeps_table()
     ensures { (s : Strategy) (o : Opening) (past : List Entry)
         → table_of s (compacted past) ≡ table_of s past }
 {}
 
-/// A past is no longer for being compacted.
+/// A compacted past is at most as long as the past.
 pub fn no_longer()
     ensures { (past : List Entry) → length (compacted past) ≤ length past }
 {}

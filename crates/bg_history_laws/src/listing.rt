@@ -1,4 +1,4 @@
-//! What an entry makes of the revisions that a past asks for, and where these stand in their list.
+//! The effect of an entry on the revisions of a past, and finding a revision in their list.
 ghost use Rattle.std.specs.Prelude.{◌≡◌, ◌<◌, ℕ, [], ◌∷◌, ◌++◌, ◌==◌, not, max, if◌then◌else◌, List, length, map, filter, Some, None, IsTrue, IsFalse};
 ghost use Rattle.std.specs.Option.{option_map};
 ghost use Rattle.bg_strategy.specs.declared.strategy.Strategy.{Strategy};
@@ -15,19 +15,19 @@ ghost use Rattle.bg_history_laws.specs.Listed.{revision_of, revisions_of};
 ghost use Rattle.bg_history_laws.specs.Changes.{resizes_none};
 ghost use Rattle.bg_history_laws.specs.Answers.{template_answer};
 
-use bg_history::laws::existing_ascends;
+use bg_history::laws as history_laws;
 
-/// A report of `n` endpoints sets what is available of its revision, and changes no other one.
+/// A report of `n` endpoints sets the available endpoints of its revision, and changes no other revision.
 pub fn reports()
     ensures { (s : Strategy) (o : Opening) (past : List Entry) (r n : ℕ)
         → revisions_of s o (Available r n ∷ past)
         ≡ map (reported r n) (revisions_of s o past) }
 {}
 
-/// What an entry wants of one revision: a retry and a deploy at least the preview's size, the end
-/// of the pause at least full size, scaling down none (Argo Rollouts, "BlueGreen Deployment
-/// Strategy"). A deploy of the stable revision changes no size. The revision of a deploy exists
-/// here; `appends` has the others.
+/// The size that an entry makes its revision want: at least the preview's size after a retry or a deploy, at least
+/// full size after the end of the pause, and none after a scale-down (Argo Rollouts, "BlueGreen Deployment
+/// Strategy"). A deploy of the stable revision changes no size. This law covers a deploy of an existing revision;
+/// `appends` covers the others.
 pub fn resizes()
     ensures retry { (s : Strategy) (o : Opening) (past : List Entry)
         → revisions_of s o (Retry ∷ past)
@@ -49,12 +49,11 @@ pub fn resizes()
         → IsTrue (exists_in r past) → IsTrue (r == stable_of past)
         → revisions_of s o (Deploy r name ports ∷ past) ≡ revisions_of s o past }
 {
-    existing_ascends();
+    history_laws::existing_ascends();
 }
 
-/// A deploy of a number above all that were given puts a revision of the preview's size at the
-/// end, with this name, these ports and no endpoint available. It asks that nothing was wanted or
-/// reported of the number before.
+/// A deploy of a number above the greatest one given appends a revision of the preview's size, with this name, these
+/// ports and no available endpoint. The law requires that the number had no wanted and no available endpoints.
 pub fn appends()
     ensures { (s : Strategy) (o : Opening) (past : List Entry) (r : ℕ) (name ports : List ℕ)
         → last_number past < r → IsFalse (r == stable_of past)
@@ -68,21 +67,21 @@ pub fn appends()
         } ∷ [] }
 {}
 
-/// Removing a revision leaves the others.
+/// A removal drops its revision, and changes no other one.
 pub fn removes()
     ensures { (s : Strategy) (o : Opening) (past : List Entry) (r : ℕ)
         → revisions_of s o (Outcome (Removed r) ∷ past)
         ≡ filter (λ v. not (v.number == r)) (revisions_of s o past) }
 {}
 
-/// Each other entry leaves the revisions as they are.
+/// Each other entry changes no revision.
 pub fn keeps()
     ensures { (s : Strategy) (o : Opening) (past : List Entry) (e : Entry)
         → IsTrue (resizes_none e) → revisions_of s o (e ∷ past) ≡ revisions_of s o past }
 {}
 
-/// The list has a revision of each number that exists and of no other, and is as long as there are
-/// existing ones.
+/// The list has a revision for each existing number and for no other, and its length is the number of existing
+/// revisions.
 pub fn finds()
     ensures number { (s : Strategy) (o : Opening) (past : List Entry) (r : ℕ)
         → numbered r (revisions_of s o past)
@@ -91,9 +90,9 @@ pub fn finds()
         → length (revisions_of s o past) ≡ length (existing past) }
 {}
 
-/// The revision of a name is that of the number that owns it. Where the newest revision exists, a
-/// template is answered `SameTemplate` if that one has it, else `PortsDiffer` if a revision of this
-/// name has other ports, else the number of the revision that has it, or none.
+/// The revision of a name is the revision of its owner's number. If the newest revision exists, the answer to a
+/// template is `SameTemplate` if that revision has it; else `PortsDiffer` if a revision of this name has other ports;
+/// else the number of the revision that has the template, or none.
 pub fn names()
     ensures owner { (s : Strategy) (o : Opening) (past : List Entry) (name : List ℕ)
         → named name (revisions_of s o past)

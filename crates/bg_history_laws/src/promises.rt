@@ -1,4 +1,4 @@
-//! What a legal history promises to those who use the switch.
+//! What a legal history promises to the users of the switch.
 ghost use Rattle.std.specs.Prelude.{◌≡◌, ◌++◌, ◌||◌, ℕ, List, Some, IsTrue, IsFalse};
 ghost use Rattle.bg_strategy.specs.declared.strategy.Strategy.{Strategy};
 ghost use Rattle.bg_history.specs.declared.entry.Entry.{Entry};
@@ -18,37 +18,36 @@ ghost use Rattle.bg_history_laws.specs.Live.{has_pre_success, may_go_live, OnlyT
 ghost use Rattle.bg_history_laws.specs.Draining.{WaitsFor, IsScaledDown};
 ghost use Rattle.bg_history_laws.specs.OpenRequests.{IsServed, LeavesAsItself, is_leaving, is_outcome, open_request, stays};
 
-use crate::compaction::compacts;
-use crate::facts::reachable;
+use crate::{compaction, facts};
 
-/// The way back is always open. In each legal past in which an attempt runs, an abort is allowed, also
-/// while the new revision is active already; so is a verdict that isn't a success, where an analysis is
-/// awaited; and where the newest revision isn't the stable one, a deploy of the stable one's template.
-/// After it both services select the stable revision, which exists, is scaled, and has as many available
-/// endpoints as before.
+/// A rollback is always possible. A legal past allows an abort while an attempt runs, even if the new revision is
+/// already active; a verdict of failed or error while its analysis is awaited; and a deploy of the stable revision's
+/// template while another revision is the newest. After each of them both services select the stable revision, which
+/// exists, is scaled, and has as many available endpoints as before.
 pub fn can_roll_back()
     ensures { (s : Strategy) (o : Opening) (closed : List ℕ) (past : List Entry)
         → IsLegal s o closed past → CanRollBack s o past }
 {
-    reachable();
+    facts::reachable();
 }
 
-/// The way forward is always open. In each legal past in which an attempt runs, at most three calls
-/// fully promote its revision: promote full, where the attempt has none, and then up to two reports that
-/// all that is wanted of the revision is available. Each is allowed when its turn comes.
+/// A running attempt can always be promoted. In a legal past in which an attempt runs, at most three calls fully
+/// promote its revision: a full promotion, unless the attempt has one, and then up to two reports that all wanted
+/// endpoints of the revision are available. Each call is allowed in its turn.
 pub fn can_promote()
     ensures { (s : Strategy) (o : Opening) (closed : List ℕ) (past : List Entry)
         → IsLegal s o closed past → IsTrue (is_running past)
         → CanPromote 3 s o (newest_of past) past }
 {
-    reachable();
+    facts::reachable();
 }
 
-/// Live traffic meets no untested revision. In each legal past the active revision, and that of each request
-/// that entered by the active service, is the first one, or one to which the active service was switched
-/// before, in an attempt that might go live: it was fully promoted, or the analysis before the switch had
-/// succeeded in it, where one is set, and its pause was over. So where an analysis is set, it had succeeded or
-/// the attempt was fully promoted; and where promotion isn't automatic, an operator had promoted it.
+/// No live request reaches an untested revision. In a legal past, the active revision and the revision of each request
+/// that entered at the active service are tested: each is the first revision, or the active service switched to it
+/// before in an attempt that might go live. An attempt might go live if it was fully promoted; or if its pause was
+/// over and the analysis before the switch had succeeded in it or none is set. So if an analysis is set, it had
+/// succeeded or the attempt was fully promoted; and if promotion isn't automatic, an operator had promoted the
+/// attempt.
 pub fn only_tested_is_live()
     ensures live { (s : Strategy) (o : Opening) (closed : List ℕ) (past : List Entry)
         → IsLegal s o closed past → OnlyTestedIsLive s past }
@@ -58,8 +57,8 @@ pub fn only_tested_is_live()
         → IsTrue (may_go_live s past) → IsTrue (has_promote past || has_promote_full past) }
 {}
 
-/// A drained revision goes with its last request. In a legal settled past in which a revision is due and has
-/// one open request, the step in which that one leaves scales the revision down.
+/// A drained revision is scaled down with its last request. If a revision is due in a legal settled past and has one
+/// open request, the step in which the request leaves scales the revision down.
 pub fn drained_is_scaled_down()
     ensures { (s : Strategy) (o : Opening) (closed : List ℕ) (past : List Entry)
         (seat number r : ℕ) (outcomes : List Outcome) (new : List Entry)
@@ -67,11 +66,11 @@ pub fn drained_is_scaled_down()
         → Step s (Leave seat number r) past outcomes new → IsScaledDown s r new }
 {}
 
-/// No request is lost in a switch. A request that is open at its revision and its port stays so until it
-/// leaves, and its revision exists, is scaled and keeps its ports: whatever entries follow (`served`), at each
-/// step of another event (`stepped`, which asks nothing of the past), and where the past is compacted
-/// (`compacted`). Each request that is open is one of these (`every`). A leaving takes the request that its own
-/// seat holds, and that one alone has its number (`own`).
+/// A switch loses no request. An open request stays open at its revision and its port until it leaves, and until then
+/// its revision exists, is scaled and keeps its ports. This holds regardless of the entries that follow (`served`), at
+/// each step of another event (`stepped`, which requires nothing of the past), and after compaction (`compacted`). It
+/// holds for every open request (`every`). A Leave takes the request that its own seat holds, and no other open
+/// request has that number (`own`).
 pub fn keeps_requests()
     ensures every { (s : Strategy) (o : Opening) (closed : List ℕ) (past : List Entry) (q : Request)
         → IsLegal s o closed past → open_request q.number past ≡ Some q
@@ -91,6 +90,6 @@ pub fn keeps_requests()
         (seat number r : ℕ) → IsLegal s o closed past
         → IsTrue (is_allowed s o (Leave seat number r) past) → LeavesAsItself seat number r past }
 {
-    reachable();
-    compacts();
+    facts::reachable();
+    compaction::compacts();
 }

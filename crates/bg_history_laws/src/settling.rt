@@ -1,4 +1,4 @@
-//! How outcomes come to an end.
+//! Settling: the outcomes after an event come to an end.
 ghost use Rattle.std.specs.Prelude.{◌≡◌, ◌<◌, ◌≤◌, ℕ, false, true, not, if◌then◌else◌, ◌==◌, ◌||◌, nat_lt, List, ◌∷◌, length, find, Option, Some, None, IsTrue};
 ghost use Rattle.std.specs.List.{list_all};
 ghost use Rattle.bg_strategy.specs.declared.strategy.Strategy.{Strategy};
@@ -14,15 +14,15 @@ ghost use Rattle.bg_history_laws.specs.Removals.{first_of};
 ghost use Rattle.bg_history_laws.specs.Settling.{Settling};
 ghost use Rattle.bg_history_laws.specs.Work.{work};
 
-use bg_history::laws::existing_ascends;
+use bg_history::laws as history_laws;
 
-/// Each outcome that is the first allowed leaves less work. So no more outcomes follow one another
-/// than the work says.
+/// Each first allowed outcome reduces the work. So the number of outcomes that follow one another is at most the
+/// work.
 pub fn work_falls()
     ensures { (s : Strategy) (past : List Entry) (x : Outcome) → first_allowed s past ≡ Some x
         → work s (came x ∷ past) < work s past }
 {
-    existing_ascends();
+    history_laws::existing_ascends();
 }
 
 /// With at most 64 existing revisions the work is at most 136: 2 for each of the four steps of an
@@ -32,39 +32,38 @@ pub fn work_is_bounded()
         → work s past ≤ 136 }
 {}
 
-/// After each event, and after each past, the outcomes come to an end, in one settled past, and in
-/// one only: the history after a call is a function of the history before it and of the event. This
-/// asks nothing of the past.
+/// After every event and every past, the outcomes come to an end in exactly one settled past. So the history after a
+/// call is a function of the history before it and of the event. This law requires nothing of the past.
 pub fn settles_once()
     ensures some { (s : Strategy) (e : Entry) (past : List Entry) → Settling s e past }
     ensures one { (s : Strategy) (e : Entry) (past : List Entry) (outcomes others : List Outcome)
         (new other : List Entry) → Step s e past outcomes new → Step s e past others other
         → (outcomes ≡ others) × (new ≡ other) }
 {
-    existing_ascends();
+    history_laws::existing_ascends();
 }
 
-/// Where nothing is left undone, a request that enters allows no outcome.
+/// If no allowed outcome is left undone, a request that enters allows none.
 pub fn entering_settles()
     ensures { (s : Strategy) (past : List Entry) (seat : ℕ) (service : Service) (number r port : ℕ)
         → IsTrue (is_settled s past)
         → IsTrue (is_settled s (Enter seat service number r port ∷ past)) }
 {}
 
-/// Where nothing is left undone, a request that leaves allows at most two outcomes: its revision is
-/// scaled down, and the first of the old ones is removed. This asks that each open request of its
-/// number is at its revision.
+/// If no allowed outcome is left undone, a request that leaves allows at most two outcomes: its revision is scaled
+/// down, and the first of the old revisions is removed. The law requires that each open request of its number is at
+/// its revision.
 pub fn leaving_allows_two()
     ensures { (s : Strategy) (past : List Entry) (seat number r : ℕ) (outcomes : List Outcome)
         → IsTrue (is_settled s past)
         → list_all (λ q. not (q.number == number) || (q.revision == r)) (open_requests past) ≡ true
         → Follows s outcomes (Leave seat number r ∷ past) → length outcomes ≤ 2 }
 {
-    existing_ascends();
+    history_laws::existing_ascends();
 }
 
-/// Where nothing is left undone, a request that leaves allows no outcome if its own revision may not be
-/// scaled down then. This asks that each open request of its number is at its revision.
+/// If no allowed outcome is left undone, and the revision of a request that leaves may not be scaled down after it,
+/// the Leave allows no outcome. The law requires that each open request of its number is at its revision.
 pub fn leaving_settles()
     ensures { (s : Strategy) (past : List Entry) (seat number r : ℕ)
         → IsTrue (is_settled s past)
@@ -73,8 +72,8 @@ pub fn leaving_settles()
         → IsTrue (is_settled s (Leave seat number r ∷ past)) }
 {}
 
-/// The next revision to remove is the first of the old ones, where there are more of them than are
-/// kept, and none otherwise (Argo Rollouts, "Specification", `revisionHistoryLimit`).
+/// The next revision to remove is the first of the old ones if there are more of them than the strategy keeps;
+/// otherwise there is none (Argo Rollouts, "Specification", `revisionHistoryLimit`).
 pub fn oldest_is_removed()
     ensures { (s : Strategy) (past : List Entry)
         → find (λ r. may_remove s r past) (existing past)

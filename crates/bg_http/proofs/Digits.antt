@@ -1,4 +1,4 @@
--- Texts of digits, and the numbers that they write.
+-- Texts of digits, and their numbers.
 use Rattle.std.proofs.Common.{arith, zero, suc, ◌-◌, ◌*◌, ◌≡◌, ℕ, true, ◌+◌, ◌<◌, ◌≤◌, length, take, get_or, List, [], ◌∷◌, refl}
 use Rattle.std.specs.Prelude.{nat_le}
 use Rattle.std.proofs.lemmas.Bool.{leb-true, and_parts}
@@ -14,13 +14,13 @@ digit_at [] i below all = absurd (omega arith)
 digit_at (d ∷ ds) zero below all = (and_parts (is_ascii_digit d) (list_all is_ascii_digit ds) all).0
 digit_at (d ∷ ds) (suc i) below all = digit_at ds i (omega arith) (and_parts (is_ascii_digit d) (list_all is_ascii_digit ds) all).1
 
--- a digit lies from `0` to `9`
+-- a digit is a byte from `0` to `9`
 in_range : (c : ℕ) → is_ascii_digit c ≡ true → (48 ≤ c) × (c ≤ 57)
 in_range c h =
     let both = and_parts (nat_le 48 c) (nat_le c 57) h in
     (leb-true 48 c both.0, leb-true c 57 both.1)
 
--- the number that one more digit gives
+-- the number with one more digit
 pub next_number : (ds : List ℕ) (i n r : ℕ) → i < length ds → list_all is_ascii_digit ds ≡ true → n ≡ digits_value 10 (take i ds) → r ≡ get_or ds i 0 - 48
     → n * 10 + r ≡ digits_value 10 (take (i + 1) ds)
 next_number ds i n r below all e f =

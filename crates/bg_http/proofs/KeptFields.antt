@@ -1,17 +1,17 @@
--- Which fields are kept.
+-- The fields that are kept.
 use Rattle.std.proofs.Common.{◌≡◌, ℕ, Bool, true, false, cond, ◌&&◌, ◌||◌, List, [], ◌∷◌, refl, ap, sym, ◌∙◌}
 use Rattle.std.specs.Prelude.{filter, not, codes}
 use Rattle.std.specs.List.{list_any}
 use Rattle.std.specs.Str.{bytes_eq, str_eq_ignore_ascii_case, str_to_ascii_lowercase}
 use Rattle.std.proofs.lemmas.Bool.{or_left, or_right}
 use Rattle.std.proofs.lemmas.Slice.Eq.{bytes_eq-Decides}
-use Rattle.bg_http.specs.Elements.{Field, is_named, has_field, elements_named}
+use Rattle.bg_http.specs.Elements.{HeaderField, is_named, has_field, elements_named}
 use Rattle.bg_http.specs.RequestRules.{expects_continue}
 use Rattle.bg_http.specs.Removed.{is_of_connection, is_named_by_connection, is_removed, is_removed_from_request}
 use Rattle.bg_http.specs.Laws.{StaysHere}
 
--- no field is kept that passes a test, where each such field is removed
-none_kept : (test removed : Field → Bool) (fields : List Field) → ((f : Field) → test f ≡ true → removed f ≡ true)
+-- no field that passes a test is kept if each such field is removed
+none_kept : (test removed : HeaderField → Bool) (fields : List HeaderField) → ((f : HeaderField) → test f ≡ true → removed f ≡ true)
     → list_any test (filter (λ f. not (removed f)) fields) ≡ false
 none_kept test removed [] h = refl
 none_kept test removed (f ∷ fields) h = by_test (removed f) refl (test f) refl (none_kept test removed fields h)
@@ -22,23 +22,23 @@ none_kept test removed (f ∷ fields) h = by_test (removed f) refl (test f) refl
     by_test false e true u later = let both : true ≡ false = sym (h f u) ∙ e in cc
     by_test false e false u later = rw u later
 
--- of a name nothing goes on, where each field of the name is removed
-pub stays : (fields : List Field) (name : List ℕ) → ((f : Field) → is_named name f ≡ true → is_removed fields f ≡ true) → StaysHere fields name
+-- no field of a name is forwarded if each field of the name is removed
+pub stays : (fields : List HeaderField) (name : List ℕ) → ((f : HeaderField) → is_named name f ≡ true → is_removed fields f ≡ true) → StaysHere fields name
 stays fields name h = (
   none_kept (is_named name) (is_removed_from_request fields) fields (λ f e. or_left (is_removed fields f) (expects_continue f) (h f e)),
   none_kept (is_named name) (is_removed fields) fields h,
 )
 
--- a field of one connection stays
-pub stays_of_connection : (fields : List Field) (name : List ℕ) → ((f : Field) → is_named name f ≡ true → is_of_connection f ≡ true) → StaysHere fields name
+-- no field of a single connection is forwarded
+pub stays_of_connection : (fields : List HeaderField) (name : List ℕ) → ((f : HeaderField) → is_named name f ≡ true → is_of_connection f ≡ true) → StaysHere fields name
 stays_of_connection fields name h = stays fields name (λ f e. or_left (is_of_connection f) _ (h f e))
 
--- names that are one but for the case of their letters are one in lower case
+-- names that differ only in case are equal in lower case
 one_name : (a b : List ℕ) → str_eq_ignore_ascii_case a b ≡ true → str_to_ascii_lowercase a ≡ str_to_ascii_lowercase b
 one_name a b e = (bytes_eq-Decides (str_to_ascii_lowercase a) (str_to_ascii_lowercase b)).0 e
 
--- a field that Connection names is removed, unless it is Host
-pub removed_where_named : (fields : List Field) (name : List ℕ) (f : Field) → is_named_by_connection fields name ≡ true → str_eq_ignore_ascii_case name (codes "host") ≡ false
+-- a field that Connection names is removed unless it is Host
+pub removed_where_named : (fields : List HeaderField) (name : List ℕ) (f : HeaderField) → is_named_by_connection fields name ≡ true → str_eq_ignore_ascii_case name (codes "host") ≡ false
     → is_named name f ≡ true → is_removed fields f ≡ true
 removed_where_named fields name f named other e =
     let low = one_name f.0 name e in
@@ -54,8 +54,8 @@ removed_where_named fields name f named other e =
     both false false h k = k
     both true b h k = cc
 
--- where no field has a name, there are no elements under it
-no_elements : (name : List ℕ) (fields : List Field) → has_field name fields ≡ false → elements_named name fields ≡ []
+-- if no field has the name, there are no elements of that name
+no_elements : (name : List ℕ) (fields : List HeaderField) → has_field name fields ≡ false → elements_named name fields ≡ []
 no_elements name [] none = refl
 no_elements name (f ∷ fields) none = by_test (is_named name f) refl none (no_elements name fields)
   where
@@ -64,6 +64,6 @@ no_elements name (f ∷ fields) none = by_test (is_named name f) refl none (no_e
     by_test true e h later = cc
     by_test false e h later = rw e (later h)
 
--- where there is no Connection, nothing is named
-pub none_named : (fields : List Field) (name : List ℕ) → has_field (codes "connection") fields ≡ false → is_named_by_connection fields name ≡ false
+-- if there is no Connection field, it names no field
+pub none_named : (fields : List HeaderField) (name : List ℕ) → has_field (codes "connection") fields ≡ false → is_named_by_connection fields name ≡ false
 none_named fields name none = rw (no_elements (codes "connection") fields none) refl

@@ -1,11 +1,11 @@
--- What is seen of the codings one element at a time.
+-- What the elements say of the codings, one element at a time.
 use Rattle.std.proofs.Common.{zero-add, min, arith, suc, ◌≡◌, ℕ, Bool, false, ◌+◌, ◌≤◌, length, List, [], ◌∷◌, fold, refl, ap, ◌∙◌}
 use Rattle.std.specs.Prelude.{filter, not}
 use Rattle.bg_http.specs.declared.codings.Codings.{Codings}
 use Rattle.bg_http.specs.Codings.{is_chunked, is_empty, ends_in_chunked}
 use Rattle.bg_http.specs.Held.{add_coding, no_codings}
 
--- whether the last one is `chunked`, or what holds where there is none
+-- whether the last element is `chunked`; the first argument if there is no element
 last_of : Bool → List (List ℕ) → Bool
 last_of l [] = l
 last_of l (e ∷ es) = last_of (is_chunked e) es
@@ -15,7 +15,7 @@ unfolding last_of
 last_of_some l e [] = refl
 last_of_some l e (f ∷ es) = last_of_some (is_chunked e) f es
 
--- the elements with something in them
+-- the elements that are not empty
 abbrev pub filled : List (List ℕ) → List (List ℕ)
 filled es = filter (λ e. not (is_empty e)) es
 
@@ -37,7 +37,7 @@ unfolding last_of
 last_is_end [] = refl
 last_is_end (e ∷ es) = last_of_some false e es
 
--- how many there are, up to two, and whether the last is `chunked`
+-- the number of codings, up to two, and whether the last is `chunked`
 pub codings_found : (es : List (List ℕ)) (found : Codings) → found ≡ fold add_coding no_codings es
     → (found.count ≡ min (length (filled es)) 2) × (found.chunked_last ≡ ends_in_chunked (filled es))
 codings_found es found e =

@@ -1,4 +1,4 @@
--- A name that is not standard is none that a rule speaks of.
+-- No rule speaks of a name that is not standard.
 use Rattle.std.proofs.Common.{◌≡◌, ℕ, Bool, true, false, List, refl, sym, ◌∙◌}
 use Rattle.std.specs.Str.{str_eq_ignore_ascii_case, str_to_ascii_lowercase}
 use Rattle.std.proofs.lemmas.Slice.Eq.{bytes_eq-Decides}
@@ -8,7 +8,7 @@ use Rattle.bg_http.specs.Names.{spelled}
 use Rattle.bg_http.specs.declared.names.RuledName.{RuledName}
 use Rattle.bg_http.specs.declared.names.RuledName.TheVariants as ruled
 
--- each of the names is standard
+-- each name that a rule speaks of is standard
 is_standard : (name : RuledName) → IsStandardName (str_to_ascii_lowercase (spelled name))
 is_standard ruled.Connection = (standard.Connection, refl)
 is_standard ruled.ContentLength = (standard.ContentLength, refl)

@@ -1,4 +1,4 @@
--- A list that is split where a test holds, by the place of the first such element.
+-- A list that is split at the elements that pass a test.
 use Rattle.std.proofs.Common.{◌≡◌, ℕ, ◌+◌, ◌≤◌, Bool, true, false, cond, List, [], ◌∷◌, length, take, drop, refl, arith}
 use Rattle.std.specs.Prelude.{Some, None, nat_lt}
 use Rattle.std.specs.List.{slice_split, position, position_or_len}
@@ -6,7 +6,7 @@ use Rattle.std.proofs.lemmas.Bool.{ltb-true, ltb-false}
 use Rattle.std.proofs.lemmas.List.Splits.{slice_split_first, slice_split_none}
 use Rattle.std.proofs.lemmas.List.Sums.{fails_before_first}
 
--- where the first such element stands at n, the first part ends there, and the rest is split after it
+-- if the first such element is at n, the first part ends before it, and the rest is split after it
 pub split_at_first : (p : ℕ → Bool) (xs : List ℕ) (n : ℕ) → Some n ≡ position p xs → slice_split p xs ≡ take n xs ∷ slice_split p (drop (n + 1) xs)
 split_at_first p xs n e = by_test (nat_lt (position_or_len p xs) (length xs)) refl e
   where
@@ -16,7 +16,7 @@ split_at_first p xs n e = by_test (nat_lt (position_or_len p xs) (length xs)) re
         rw same (slice_split_first p xs 0 (ltb-true _ _ less))
     by_test false more f = cc
 
--- where there is none, the list is the only part
+-- if there is no such element, the list is the only part
 pub split_nowhere : (p : ℕ → Bool) (xs : List ℕ) → None ≡ position p xs → slice_split p xs ≡ xs ∷ []
 split_nowhere p xs e = by_test (nat_lt (position_or_len p xs) (length xs)) refl e
   where

@@ -1,4 +1,4 @@
--- Fields that stand in a text, where the text is cut off behind them or grows.
+-- The fields of a text that is cut off after them, or that grows.
 use Rattle.std.proofs.Common.{◌≡◌, ℕ, ◌+◌, ◌-◌, ◌≤◌, List, [], ◌∷◌, ◌++◌, length, take, drop, map, arith, refl, ap, ap₂, sym, subst, ◌∙◌}
 use Rattle.std.specs.Prelude.{All, slice_range, Result, Ok, Err, OnErr}
 use Rattle.std.proofs.Math.Seq.{take-append_seam, drop-append_seam, take-length}
@@ -7,8 +7,8 @@ use Rattle.std.proofs.lemmas.List.Elements.{All-head, All-push, All-tail, All-we
 use Rattle.httparse.specs.declared.spans.HeaderSpan.{HeaderSpan}
 use Rattle.httparse.specs.Spans.{IsHeaderWithin, header_bytes, span_bytes}
 use Rattle.bg_http.specs.Names.{IsRuledAs}
-use Rattle.bg_http.specs.Places.{IsPlaceIn, field_at}
-use Rattle.bg_http.specs.declared.places.Place.{Place}
+use Rattle.bg_http.specs.FieldPlaces.{IsPlaceIn, field_at}
+use Rattle.bg_http.specs.declared.field_place.FieldPlace.{FieldPlace}
 
 part_of_front : (t : List ℕ) (n a b : ℕ) → a ≤ b → b ≤ n → slice_range (take n t) a b ≡ slice_range t a b
 part_of_front t n a b ab bn =
@@ -20,13 +20,13 @@ header_of_front : (t : List ℕ) (n : ℕ) (s : HeaderSpan) → IsHeaderWithin n
 header_of_front t n s h =
     ap₂ (λ x y. (x, y)) (part_of_front t n s.name.start s.name.end h.0.0 h.0.1) (part_of_front t n s.value.start s.value.end h.1.0 h.1.1)
 
--- the fields of a text are those of its front, where they lie in that
+-- the fields of a text are those of its front if they lie in the front
 pub headers_of_front : (t : List ℕ) (n : ℕ) (ss : List HeaderSpan) → All (IsHeaderWithin n) ss → map (header_bytes (take n t)) ss ≡ map (header_bytes t) ss
 headers_of_front t n [] h = refl
 headers_of_front t n (s ∷ ss) h =
     ap₂ (λ x xs. x ∷ xs) (header_of_front t n s (All-head (IsHeaderWithin n) s ss h)) (headers_of_front t n ss (All-tail (IsHeaderWithin n) s ss h))
 
--- what lies in the first bytes lies in more
+-- a field within the first bytes is within a longer front too
 pub within_more : (m n : ℕ) → m ≤ n → (s : HeaderSpan) → IsHeaderWithin m s → IsHeaderWithin n s
 within_more m n le s h = ((h.0.0, omega arith), (h.1.0, omega arith))
 
@@ -34,18 +34,18 @@ part_of_grown : (t more : List ℕ) (a b : ℕ) → a ≤ b → b ≤ length t �
 part_of_grown t more a b ab bn =
     ap (λ x. slice_range x a b) (sym (take-append_seam t more)) ∙ part_of_front (t ++ more) (length t) a b ab bn
 
--- a place stays one, and its field the same
-place_grown : (t more : List ℕ) (p : Place) → IsPlaceIn t p → IsPlaceIn (t ++ more) p
+-- a place in a text is a place in the text with more bytes at its end
+place_grown : (t more : List ℕ) (p : FieldPlace) → IsPlaceIn t p → IsPlaceIn (t ++ more) p
 place_grown t more p h =
     let wide : length t ≤ length (t ++ more) = omega (arith, length-append t more) in
     let name = part_of_grown t more p.spans.name.start p.spans.name.end h.0.0.0 h.0.0.1 in
     let IsRuled : List ℕ → Type 0 = λ x. IsRuledAs x p.ruled in
     (within_more (length t) (length (t ++ more)) wide p.spans h.0, subst IsRuled name h.1)
 
-pub places_grown : (t more : List ℕ) (ps : List Place) → All (IsPlaceIn t) ps → All (IsPlaceIn (t ++ more)) ps
+pub places_grown : (t more : List ℕ) (ps : List FieldPlace) → All (IsPlaceIn t) ps → All (IsPlaceIn (t ++ more)) ps
 places_grown t more ps h = All-weaker (IsPlaceIn t) (IsPlaceIn (t ++ more)) (place_grown t more) ps h
 
-pub fields_grown : (t more : List ℕ) (ps : List Place) → All (IsPlaceIn t) ps → map (field_at (t ++ more)) ps ≡ map (field_at t) ps
+pub fields_grown : (t more : List ℕ) (ps : List FieldPlace) → All (IsPlaceIn t) ps → map (field_at (t ++ more)) ps ≡ map (field_at t) ps
 fields_grown t more [] h = refl
 fields_grown t more (p ∷ ps) h =
     let here = (All-head (IsPlaceIn t) p ps h).0 in
@@ -53,14 +53,14 @@ fields_grown t more (p ∷ ps) h =
     ap₂ (λ x y. (x, y)) (sym (part_of_grown t more p.spans.name.start p.spans.name.end here.0.0 here.0.1)) (sym (part_of_grown t more p.spans.value.start p.spans.value.end here.1.0 here.1.1)) in
     ap₂ (λ x xs. x ∷ xs) same (fields_grown t more ps (All-tail (IsPlaceIn t) p ps h))
 
--- what was put at the end of a text
+-- the part that was appended to a text
 pub part_at_end : (t more : List ℕ) → slice_range (t ++ more) (length t) (length (t ++ more)) ≡ more
 part_at_end t more =
     let size : length (t ++ more) - length t ≡ length more = omega (arith, length-append t more) in
     ap (λ n. take n (drop (length t) (t ++ more))) size ∙ ap (take (length more)) (drop-append_seam t more) ∙ take-length more
 
--- the field whose name and value were put at the end
-pub field_at_end : (t n v : List ℕ) (p : Place) → p.spans.name.start ≡ length t → p.spans.name.end ≡ length (t ++ n)
+-- the field whose name and value were appended
+pub field_at_end : (t n v : List ℕ) (p : FieldPlace) → p.spans.name.start ≡ length t → p.spans.name.end ≡ length (t ++ n)
     → p.spans.value.start ≡ length (t ++ n) → p.spans.value.end ≡ length ((t ++ n) ++ v) → field_at ((t ++ n) ++ v) p ≡ (n, v)
 field_at_end t n v p a b c d =
     let name : span_bytes ((t ++ n) ++ v) p.spans.name ≡ n =
@@ -69,7 +69,7 @@ field_at_end t n v p a b c d =
     ap₂ (λ x y. slice_range ((t ++ n) ++ v) x y) c d ∙ part_at_end (t ++ n) v in
     ap₂ (λ x y. (x, y)) name value
 
-pub place_at_end : (t n v : List ℕ) (p : Place) → p.spans.name.start ≡ length t → p.spans.name.end ≡ length (t ++ n)
+pub place_at_end : (t n v : List ℕ) (p : FieldPlace) → p.spans.name.start ≡ length t → p.spans.name.end ≡ length (t ++ n)
     → p.spans.value.start ≡ length (t ++ n) → p.spans.value.end ≡ length ((t ++ n) ++ v) → IsRuledAs n p.ruled → IsPlaceIn ((t ++ n) ++ v) p
 place_at_end t n v p a b c d ruled =
     let IsRuled : List ℕ → Type 0 = λ x. IsRuledAs x p.ruled in
@@ -79,23 +79,23 @@ place_at_end t n v p a b c d ruled =
     (((omega arith, omega arith), (omega arith, omega arith)), subst IsRuled (sym name) ruled)
 
 -- the fields that spans cover, in a copy of the front of the text
-pub fields_of_spans : (text copy : List ℕ) (n : ℕ) (ps : List Place) (ss : List HeaderSpan) → copy ≡ take n text → map (λ (p : Place). p.spans) ps ≡ ss
+pub fields_of_spans : (text copy : List ℕ) (n : ℕ) (ps : List FieldPlace) (ss : List HeaderSpan) → copy ≡ take n text → map (λ (p : FieldPlace). p.spans) ps ≡ ss
     → All (IsHeaderWithin n) ss → map (field_at copy) ps ≡ map (header_bytes text) ss
 fields_of_spans text copy n ps ss e f h =
     ap (λ t. map (field_at t) ps) e ∙ fields_by_spans (take n text) ps ∙ ap (map (header_bytes (take n text))) f ∙ headers_of_front text n ss h
   where
-    fields_by_spans : (t : List ℕ) (ps : List Place) → map (field_at t) ps ≡ map (header_bytes t) (map (λ (p : Place). p.spans) ps)
+    fields_by_spans : (t : List ℕ) (ps : List FieldPlace) → map (field_at t) ps ≡ map (header_bytes t) (map (λ (p : FieldPlace). p.spans) ps)
     fields_by_spans t [] = refl
     fields_by_spans t (p ∷ ps) = ap (λ xs. field_at t p ∷ xs) (fields_by_spans t ps)
 
--- what was put at the end of the text leaves the fields as they were
-pub fields_kept : (t n v : List ℕ) (ps : List Place) → All (IsPlaceIn t) ps → All (IsPlaceIn ((t ++ n) ++ v)) ps × (map (field_at ((t ++ n) ++ v)) ps ≡ map (field_at t) ps)
+-- appending to a text doesn't change its fields
+pub fields_kept : (t n v : List ℕ) (ps : List FieldPlace) → All (IsPlaceIn t) ps → All (IsPlaceIn ((t ++ n) ++ v)) ps × (map (field_at ((t ++ n) ++ v)) ps ≡ map (field_at t) ps)
 fields_kept t n v ps h =
     let here = places_grown t n ps h in
     (places_grown (t ++ n) v ps here, fields_grown (t ++ n) v ps here ∙ fields_grown t n ps h)
 
--- a name and a value that were put at the end of the text are one more field
-pub field_added : (t n v : List ℕ) (ps : List Place) (p : Place) → All (IsPlaceIn t) ps → p.spans.name.start ≡ length t → p.spans.name.end ≡ length (t ++ n)
+-- a name and a value that were appended to a text are one more field
+pub field_added : (t n v : List ℕ) (ps : List FieldPlace) (p : FieldPlace) → All (IsPlaceIn t) ps → p.spans.name.start ≡ length t → p.spans.name.end ≡ length (t ++ n)
     → p.spans.value.start ≡ length (t ++ n) → p.spans.value.end ≡ length ((t ++ n) ++ v) → IsRuledAs n p.ruled
     → All (IsPlaceIn ((t ++ n) ++ v)) (ps ++ p ∷ []) × (map (field_at ((t ++ n) ++ v)) (ps ++ p ∷ []) ≡ map (field_at t) ps ++ (n, v) ∷ [])
 field_added t n v ps p h a b c d ruled =

@@ -1,8 +1,8 @@
--- Messages whose answers were worked out by hand, by evaluation alone.
+-- Messages whose answers were worked out by hand. Evaluation alone proves each.
 use Rattle.std.proofs.Common.{◌≡◌, ℕ, Bool, true, false, List, [], ◌∷◌, refl}
 use Rattle.std.specs.Fmt.{digits}
 use Rattle.std.specs.Prelude.{Some, None, Result, Ok, Err, codes}
-use Rattle.bg_http.specs.Elements.{Field}
+use Rattle.bg_http.specs.Elements.{HeaderField}
 use Rattle.bg_http.specs.RequestRules.{request_framing, owes_continue}
 use Rattle.bg_http.specs.ResponseRules.{response_framing, length_told}
 use Rattle.bg_http.specs.Texts.{request_text, response_text, refusal_text}
@@ -18,37 +18,37 @@ use Rattle.bg_http.specs.declared.response_fault.ResponseFault.{ResponseFault}
 use Rattle.bg_http.specs.declared.response_rules.ResponseFraming.TheVariants as ending
 use Rattle.bg_http.specs.declared.response_fault.ResponseFault.TheVariants as wrong
 
-abbrev host : Field
+abbrev host : HeaderField
 host = (codes "Host", codes "x")
 
 -- the head of a request for `/p`
-abbrev head_of : List ℕ → ℕ → List Field → RequestHead
+abbrev head_of : List ℕ → ℕ → List HeaderField → RequestHead
 head_of method minor fields =
     record { method = method; target = codes "/p"; minor = minor; fields = fields }
 
--- what is judged of a POST in version 1.1 with a Host and these fields
-abbrev posted : List Field → Result Framing RequestFault
+-- the framing of a POST in version 1.1 with a Host and these fields, or the fault
+abbrev posted : List HeaderField → Result Framing RequestFault
 posted fields = request_framing (head_of (codes "POST") 1 (host ∷ fields))
 
--- a field of that name
-abbrev length_field : List ℕ → Field
+-- a Content-Length field
+abbrev length_field : List ℕ → HeaderField
 length_field value = (codes "Content-Length", value)
 
-abbrev coding_field : List ℕ → Field
+abbrev coding_field : List ℕ → HeaderField
 coding_field value = (codes "Transfer-Encoding", value)
 
--- neither field: no body
+-- a request without Content-Length and Transfer-Encoding has no body
 no_body : request_framing (head_of (codes "GET") 1 (host ∷ [])) ≡ Ok framing.NoBody
 no_body = refl
 
--- `CONNECT` isn't done, even where Host is missing; methods are compared with their case
+-- `CONNECT` is refused as `NotDone`, even without Host; methods are case-sensitive
 connect : request_framing (head_of (codes "CONNECT") 1 []) ≡ Err fault.NotDone
 connect = refl
 
 connect_in_lower_case : request_framing (head_of (codes "connect") 1 (host ∷ [])) ≡ Ok framing.NoBody
 connect_in_lower_case = refl
 
--- Host: one in version 1.1, at most one in version 1.0, in any case
+-- version 1.1 needs exactly one Host, version 1.0 takes at most one; its name is case-insensitive
 no_host : request_framing (head_of (codes "GET") 1 []) ≡ Err fault.Bad
 no_host = refl
 
@@ -61,7 +61,7 @@ two_hosts = refl
 two_hosts_in_1_0 : request_framing (head_of (codes "GET") 0 (host ∷ host ∷ [])) ≡ Err fault.Bad
 two_hosts_in_1_0 = refl
 
--- both fields are refused, whatever they say; and codings in version 1.0
+-- both fields together are refused, whatever they say; codings in version 1.0 are refused too
 both_fields : posted (length_field (codes "2") ∷ coding_field (codes "chunked") ∷ []) ≡ Err fault.Bad
 both_fields = refl
 
@@ -71,7 +71,7 @@ both_fields_and_gzip = refl
 codings_in_1_0 : request_framing (head_of (codes "POST") 0 (coding_field (codes "chunked") ∷ [])) ≡ Err fault.Bad
 codings_in_1_0 = refl
 
--- the codings: `chunked` in any case, alone, over one field or several, empty elements passed over
+-- `chunked`, in any case, is the only coding; the empty elements of all fields are skipped
 chunks : posted (coding_field (codes "chunked") ∷ []) ≡ Ok framing.Chunks
 chunks = refl
 
@@ -102,7 +102,7 @@ chunked_twice = refl
 chunked_with_a_parameter : posted (coding_field (codes "chunked;q=1") ∷ []) ≡ Err fault.Bad
 chunked_with_a_parameter = refl
 
--- the length: all elements of all fields are digits and equal once leading zeros are dropped
+-- the elements of all length fields are digits, and are equal without their leading zeros
 length_two : posted (length_field (codes "2, 02") ∷ []) ≡ Ok (framing.Length 2)
 length_two = refl
 
@@ -139,7 +139,7 @@ length_beyond_numbers = refl
 two_large_lengths : posted (length_field (codes "99999999999999999999999999, 99999999999999999999999998") ∷ []) ≡ Err fault.Bad
 two_large_lengths = refl
 
--- `100 Continue` is owed in version 1.1 alone, where it is asked for alone, and a body is to come
+-- `100 Continue` is owed only in version 1.1, if nothing else is expected and a body is to come
 abbrev expecting : List ℕ → ℕ → Framing → Bool
 expecting value minor framing =
     owes_continue (head_of (codes "POST") minor (host ∷ (codes "Expect", value) ∷ [])) framing
@@ -162,7 +162,7 @@ not_owed_in_1_0 = refl
 not_owed_for_more : expecting (codes "100-continue, x") 1 framing.Chunks ≡ false
 not_owed_for_more = refl
 
--- a request goes on without the fields that Connection names
+-- a request is forwarded without the fields that Connection names
 abbrev get_request : Request
 get_request =
     record {
@@ -177,7 +177,7 @@ get_goes_on : request_text get_request 9001
     ≡ codes "GET /a HTTP/1.1\r\nHost: x\r\nVia: 1.1 bg-switch\r\nConnection: close\r\n\r\n"
 get_goes_on = refl
 
--- a request in version 1.0 goes on with a Host of ours
+-- a request in version 1.0 without Host is forwarded with a Host that names the endpoint
 old_goes_on : request_text (record {
   method = codes "POST";
   target = codes "/p";
@@ -189,7 +189,7 @@ old_goes_on : request_text (record {
 unfolding digits
 old_goes_on = refl
 
--- chunks go on as a length, and an answered expectation doesn't
+-- a chunked body is forwarded with a length, and an answered expectation isn't forwarded
 chunks_go_on : request_text (record {
   method = codes "POST";
   target = codes "/p";
@@ -201,7 +201,7 @@ chunks_go_on : request_text (record {
 unfolding digits
 chunks_go_on = refl
 
--- removed fields in any case, Host never, Via and another expectation kept, an empty body told
+-- names in any case are removed, but never Host; Via is kept; an empty body is sent with a length
 fields_go_on : request_text (record {
   method = codes "PUT";
   target = codes "/";
@@ -215,18 +215,18 @@ fields_go_on : request_text (record {
 unfolding digits
 fields_go_on = refl
 
--- the head of a response, and what is judged of it as an answer to a GET and to a HEAD
-abbrev answer : ℕ → ℕ → List Field → ResponseHead
+-- the head of a response, and its framing as a response to a GET and to a HEAD
+abbrev answer : ℕ → ℕ → List HeaderField → ResponseHead
 answer minor code fields = record { minor = minor; code = code; reason = codes "R"; fields = fields }
 
 abbrev head_request : Request
 head_request =
     record { method = codes "HEAD"; target = codes "/a"; minor = 1; fields = host ∷ []; body = None }
 
-abbrev got : ℕ → ℕ → List Field → Result ResponseFraming ResponseFault
+abbrev got : ℕ → ℕ → List HeaderField → Result ResponseFraming ResponseFault
 got minor code fields = response_framing get_request (answer minor code fields)
 
--- codes: none below 100, no other protocol, interim ones, and those without a body
+-- a code below 100 is refused, and 101 too; other codes are interim, or have no body
 code_99 : got 1 99 [] ≡ Err wrong.Bad
 code_99 = refl
 
@@ -251,7 +251,7 @@ answer_to_head = refl
 interim_to_head : response_framing head_request (answer 1 103 []) ≡ Ok ending.Interim
 interim_to_head = refl
 
--- codings pass over a length; other codings and version 1.0 are bad
+-- codings override a length; codings other than `chunked`, and codings in version 1.0, are bad
 answer_in_chunks : got 1 200 (coding_field (codes "Chunked,") ∷ length_field (codes "x") ∷ []) ≡ Ok ending.Chunks
 answer_in_chunks = refl
 
@@ -264,7 +264,7 @@ answer_in_gzip = refl
 answer_in_no_coding : got 1 200 (coding_field [] ∷ []) ≡ Err wrong.Bad
 answer_in_no_coding = refl
 
--- a length, or all that comes
+-- a body has a length, or goes to the end of the input
 answer_by_length : got 0 200 (length_field (codes "4194304") ∷ []) ≡ Ok (ending.Length 4194304)
 answer_by_length = refl
 
@@ -277,7 +277,7 @@ answer_of_two_lengths = refl
 answer_to_the_end : got 0 200 [] ≡ Ok ending.ToTheEnd
 answer_to_the_end = refl
 
--- the length that is told where there is no body
+-- the length that is forwarded if there is no body
 told_without_zeros : length_told (answer 1 304 (length_field (codes "010") ∷ [])) ≡ Some (codes "10")
 told_without_zeros = refl
 
@@ -296,7 +296,7 @@ not_told_beside_codings = refl
 not_told_of_204 : length_told (answer 1 204 (length_field (codes "5") ∷ [])) ≡ None
 not_told_of_204 = refl
 
--- responses as they go back
+-- responses as they are forwarded
 chunks_go_back : response_text get_request (record {
   code = 200;
   reason = codes "OK";
@@ -330,7 +330,7 @@ nothing_goes_back : response_text get_request (record {
 unfolding digits
 nothing_goes_back = refl
 
--- Via and Expect of a response stay, and the space before an empty reason too
+-- Via and Expect of a response are kept, and so is the space before an empty reason
 fields_go_back : response_text get_request (record {
   code = 200;
   reason = [];

@@ -1,4 +1,4 @@
--- What the code holds while it goes over fields; cited by private functions alone.
+-- The state of the code while it goes over fields. Only private functions cite it.
 use Rattle.std.specs.Prelude.{◌≡◌, ℕ, ◌+◌, min, false, if◌then◌else◌, List, [], ◌∷◌, ◌++◌, Option, Some, None}
 use Rattle.std.specs.Borrow.{Bor}
 use Rattle.bg_http.specs.Elements.{elements, elements_named}
@@ -19,17 +19,18 @@ elements_if (Some value) = elements value.now
 abbrev pub FirstElement : List ℕ → Bor (List ℕ) × Option (Bor (List ℕ)) → Type 0
 FirstElement value (element, rest) = elements value ≡ element.now ∷ elements_if rest
 
--- the elements that are still to come
+-- the remaining elements
 abbrev pub elements_left : Elements → List (List ℕ)
 elements_left e = elements_if e.value ++ elements_named (spelled e.name) e.fields
 
--- what Content-Length fields say, as the code holds it
+-- the result of reading the Content-Length fields, as the code holds it
 abbrev pub length_held : OneLength → Length
 length_held held.Absent = absent
 length_held (held.Is digits) = is digits.now
 length_held held.Wrong = wrong
 
--- what the code has seen of the elements so far: how many, up to two, and what the last is
+-- the elements that the code has seen so far: their number, up to two, and whether the last is
+-- `chunked`
 abbrev pub add_coding : Codings → List ℕ → Codings
 add_coding seen element =
     if is_empty element then seen

@@ -4,7 +4,7 @@ pub mod Held
 pub mod Laws
 pub mod Lengths
 pub mod Names
-pub mod Places
+pub mod FieldPlaces
 pub mod Removed
 pub mod RequestRules
 pub mod ResponseRules

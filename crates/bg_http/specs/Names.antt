@@ -1,4 +1,4 @@
--- The names of fields that the rules speak of.
+-- The field names that the rules know.
 use Rattle.std.specs.Prelude.{◌≡◌, ℕ, false, List, codes, Option, Some, None}
 use Rattle.std.specs.Str.{str_eq_ignore_ascii_case, str_to_ascii_lowercase}
 use Rattle.bg_http.specs.declared.names.RuledName.{RuledName}

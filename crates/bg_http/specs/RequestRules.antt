@@ -1,22 +1,23 @@
--- The rules that a request's head has to pass, and where its body ends.
+-- The rules that a request's head has to pass, and the end of its body.
 use Rattle.std.specs.Prelude.{ℕ, Bool, true, false, not, if◌then◌else◌, ◌==◌, ◌&&◌, ◌||◌, nat_lt, List, [], ◌∷◌, length, count_by, codes, Option, Some, None, Result, Ok, Err}
 use Rattle.std.specs.Str.{bytes_eq, str_eq_ignore_ascii_case}
 use Rattle.std.specs.List.{list_any}
 use Rattle.std.specs.Result.{result_err}
-use Rattle.bg_http.specs.Elements.{Field, is_named, has_field}
+use Rattle.bg_http.specs.Elements.{HeaderField, is_named, has_field}
 use Rattle.bg_http.specs.Lengths.{Length, absent, is, wrong, content_length, number_within}
 use Rattle.bg_http.specs.Codings.{codings, ends_in_chunked}
 use Rattle.bg_http.specs.declared.request.RequestHead.{RequestHead}
 use Rattle.bg_http.specs.declared.request_rules.Framing.{Framing}
 use Rattle.bg_http.specs.declared.request_rules.Framing.TheVariants as framing
+use Rattle.bg_http.specs.declared.request_rules.TheConstants.{MOST_REQUEST_BODY}
 use Rattle.bg_http.specs.declared.request_fault.RequestFault.{RequestFault}
 use Rattle.bg_http.specs.declared.request_fault.RequestFault.TheVariants as fault
 
--- a question about a head: nothing, or the fault where the rule is broken
+-- a rule: for a head it gives nothing, or the fault if the head breaks the rule
 abbrev pub Rule : Type 0
 Rule = RequestHead → Option RequestFault
 
--- `CONNECT` isn't done (RFC 9110 section 9.3.6)
+-- `CONNECT` is not supported (RFC 9110 section 9.3.6)
 abbrev pub connect_fault : Rule
 connect_fault head =
     if bytes_eq head.method (codes "CONNECT") then Some fault.NotDone else None
@@ -27,38 +28,38 @@ host_fault head =
     let hosts = count_by (is_named (codes "host")) head.fields in
     if nat_lt 1 hosts || (hosts == 0 && not (head.minor == 0)) then Some fault.Bad else None
 
--- Transfer-Encoding stands never beside Content-Length, and never in version 1.0 (stricter than
--- RFC 9112 section 6.1, which lets the first be mended)
+-- Transfer-Encoding never comes with Content-Length, and never in version 1.0 (stricter than RFC
+-- 9112 section 6.1, which permits a repair of the first)
 abbrev pub framing_fault : Rule
 framing_fault head =
     if has_field (codes "transfer-encoding") head.fields
     && (has_field (codes "content-length") head.fields || (head.minor == 0))
     then Some fault.Bad else None
 
--- where there is Transfer-Encoding, its last coding is `chunked` (RFC 9112 section 6.3), and there
--- is no other before it
+-- if there is Transfer-Encoding, its last coding is `chunked` (RFC 9112 section 6.3), and there is
+-- no other before it
 abbrev pub coding_fault : Rule
 coding_fault head =
     if not (has_field (codes "transfer-encoding") head.fields) then None
     else (if not (ends_in_chunked (codings head.fields)) then Some fault.Bad
     else (if nat_lt 1 (length (codings head.fields)) then Some fault.NotDone else None))
 
--- a number, or that there is none because it is too large
+-- a number, or the fault that it is too large
 abbrev pub size_or_too_large : Option ℕ → Result (Option ℕ) RequestFault
 size_or_too_large None = Err fault.TooLarge
 size_or_too_large (Some size) = Ok (Some size)
 
--- the length that is given, if there is one, where it is a length and at most `most`
+-- the given length, if there is one; a fault if it is invalid or above `most`
 abbrev pub length_within : ℕ → Length → Result (Option ℕ) RequestFault
 length_within most absent = Ok None
 length_within most (is digits) = size_or_too_large (number_within most digits)
 length_within most wrong = Err fault.Bad
 
--- the length that Content-Length gives: at most 1,048,576 (RFC 9110 section 8.6)
+-- the length that Content-Length gives: at most `MOST_REQUEST_BODY` (RFC 9110 section 8.6)
 abbrev pub body_length : RequestHead → Result (Option ℕ) RequestFault
-body_length head = length_within 1048576 (content_length head.fields)
+body_length head = length_within MOST_REQUEST_BODY (content_length head.fields)
 
--- Content-Length gives one length, where it is there, and none that is too large
+-- if there is Content-Length, it gives one length, which is not too large
 abbrev pub length_fault : Rule
 length_fault head = result_err (body_length head)
 
@@ -76,13 +77,13 @@ abbrev pub first_broken : List Rule → RequestHead → Option RequestFault
 first_broken [] head = None
 first_broken (rule ∷ rules) head = or_later (rule head) (first_broken rules head)
 
--- a body of the length that is given; none where there is none
+-- a body of the given length; no body if there is no length
 abbrev pub framing_of_length : Result (Option ℕ) RequestFault → Framing
 framing_of_length (Ok None) = framing.NoBody
 framing_of_length (Ok (Some size)) = framing.Length size
 framing_of_length (Err fault) = framing.NoBody
 
--- where the body of a head that breaks no rule ends (RFC 9112 section 6.3)
+-- the framing of the body of a head that breaks no rule (RFC 9112 section 6.3)
 abbrev pub framing_of : RequestHead → Framing
 framing_of head =
     if has_field (codes "transfer-encoding") head.fields then framing.Chunks
@@ -92,24 +93,24 @@ abbrev pub unless_broken : Option RequestFault → Framing → Result Framing Re
 unless_broken None framing = Ok framing
 unless_broken (Some fault) framing = Err fault
 
--- what a request's head is judged to be: the first fault, or where the body ends
+-- the judgement of a request's head: the first fault, or the framing of the body
 abbrev pub request_framing : RequestHead → Result Framing RequestFault
 request_framing head = unless_broken (first_broken request_rules head) (framing_of head)
 
 -- the field is an Expect that is `100-continue`, in any case of its letters
-abbrev pub expects_continue : Field → Bool
+abbrev pub expects_continue : HeaderField → Bool
 expects_continue field =
     is_named (codes "expect") field
     && str_eq_ignore_ascii_case field.1 (codes "100-continue")
 
--- there is a body, and it isn't empty
+-- there is a body, and it is not empty
 abbrev pub has_body : Framing → Bool
 has_body framing.NoBody = false
 has_body framing.Chunks = true
 has_body (framing.Length size) = nat_lt 0 size
 
--- `100 Continue` is to be written before the body is read (RFC 9110 section 10.1.1): in version
--- 1.1, where it is expected and a body is to come
+-- `100 Continue` has to be written before the body is read (RFC 9110 section 10.1.1): in version
+-- 1.1, if it is expected and there is a body
 abbrev pub owes_continue : RequestHead → Framing → Bool
 owes_continue head framing =
     not (head.minor == 0) && has_body framing && list_any expects_continue head.fields

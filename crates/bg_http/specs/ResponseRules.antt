@@ -1,4 +1,4 @@
--- What a response's head is judged to be, and where its body ends.
+-- The rules by which a response's head is judged, and the end of its body.
 use Rattle.std.specs.Prelude.{ℕ, Bool, false, not, if◌then◌else◌, ◌==◌, ◌&&◌, ◌||◌, nat_lt, List, [], ◌∷◌, codes, Option, Some, None, Result, Ok, Err}
 use Rattle.std.specs.Str.{bytes_eq}
 use Rattle.bg_http.specs.Elements.{has_field}
@@ -8,14 +8,16 @@ use Rattle.bg_http.specs.declared.request.Request.{Request}
 use Rattle.bg_http.specs.declared.response.ResponseHead.{ResponseHead}
 use Rattle.bg_http.specs.declared.response_rules.ResponseFraming.{ResponseFraming}
 use Rattle.bg_http.specs.declared.response_rules.ResponseFraming.TheVariants as framing
+use Rattle.bg_http.specs.declared.response_rules.TheConstants.{MOST_RESPONSE_BODY}
 use Rattle.bg_http.specs.declared.response_fault.ResponseFault.{ResponseFault}
 use Rattle.bg_http.specs.declared.response_fault.ResponseFault.TheVariants as fault
 
--- the method was HEAD; methods are compared with their case (RFC 9110 section 9.1)
+-- the method is HEAD; methods are case-sensitive (RFC 9110 section 9.1)
 abbrev pub asks_for_head : Request → Bool
 asks_for_head request = bytes_eq request.method (codes "HEAD")
 
--- `101` isn't asked for, since Upgrade is removed, and no code is below 100 (RFC 9110 section 15)
+-- no request asks for `101`, because Upgrade is removed, and no code is below 100 (RFC 9110 section
+-- 15)
 abbrev pub is_bad_code : ℕ → Bool
 is_bad_code code = nat_lt code 100 || (code == 101)
 
@@ -33,7 +35,7 @@ is_chunked_only [] = false
 is_chunked_only (coding ∷ []) = is_chunked coding
 is_chunked_only (coding ∷ next ∷ more) = false
 
--- a body in chunks, in version 1.1 alone and under no other coding (stricter than RFC 9112 section
+-- a chunked body, only in version 1.1 and without any other coding (stricter than RFC 9112 section
 -- 6.3)
 abbrev pub framing_by_codings : ResponseHead → Result ResponseFraming ResponseFault
 framing_by_codings head =
@@ -44,14 +46,14 @@ abbrev pub or_too_large : Option ℕ → Result ResponseFraming ResponseFault
 or_too_large None = Err fault.TooLarge
 or_too_large (Some size) = Ok (framing.Length size)
 
--- a body of the length that is given, at most 4,194,304; where none is given, the body ends with
--- the input (RFC 9112 section 6.3)
+-- a body of the given length, at most `MOST_RESPONSE_BODY`; if no length is given, the body ends
+-- with the input (RFC 9112 section 6.3)
 abbrev pub framing_by_length : Length → Result ResponseFraming ResponseFault
 framing_by_length absent = Ok framing.ToTheEnd
-framing_by_length (is digits) = or_too_large (number_within 4194304 digits)
+framing_by_length (is digits) = or_too_large (number_within MOST_RESPONSE_BODY digits)
 framing_by_length wrong = Err fault.Bad
 
--- what a response's head is judged to be: the first that applies
+-- the judgement of a response's head: the first rule that applies decides
 abbrev pub response_framing : Request → ResponseHead → Result ResponseFraming ResponseFault
 response_framing request head =
     if is_bad_code head.code then Err fault.Bad
@@ -60,20 +62,20 @@ response_framing request head =
     else (if has_field (codes "transfer-encoding") head.fields then framing_by_codings head
     else framing_by_length (content_length head.fields))))
 
--- the digits of a number; `0` for zero, which has none without its zeros
+-- the digits of a number; `0` for zero, which has no digits without its leading zeros
 abbrev pub digits_or_zero : List ℕ → List ℕ
 digits_or_zero [] = codes "0"
 digits_or_zero (digit ∷ more) = digit ∷ more
 
--- the one length that is given, if there is one
+-- the one given length, if there is one
 abbrev pub valid_length : Length → Option (List ℕ)
 valid_length absent = None
 valid_length (is digits) = Some (digits_or_zero digits)
 valid_length wrong = None
 
--- the length that a response without a body tells of the body that it would have: to HEAD and in a
--- 304 the valid length of its fields where there is no Transfer-Encoding, and never in a 204 (RFC
--- 9110 section 8.6)
+-- for a response without a body, the length that its head gives for the body: to HEAD and in a 304
+-- the valid length of its fields if there is no Transfer-Encoding, and none in a 204 (RFC 9110
+-- section 8.6)
 abbrev pub length_told : ResponseHead → Option (List ℕ)
 length_told head =
     if (head.code == 204) || has_field (codes "transfer-encoding") head.fields then None

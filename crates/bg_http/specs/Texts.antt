@@ -1,22 +1,22 @@
 -- The bytes in which messages are written (RFC 9112 sections 2.1, 3, 4 and 5).
 use Rattle.std.specs.Prelude.{ℕ, not, if◌then◌else◌, ◌==◌, ◌&&◌, List, [], ◌++◌, length, flat_map, codes, Option, Some, None}
 use Rattle.std.specs.Fmt.{decimal}
-use Rattle.bg_http.specs.Elements.{Field, has_field}
+use Rattle.bg_http.specs.Elements.{HeaderField, has_field}
 use Rattle.bg_http.specs.Removed.{kept_in_request, kept_in_response}
 use Rattle.bg_http.specs.ResponseRules.{has_no_body}
 use Rattle.bg_http.specs.declared.request.Request.{Request}
 use Rattle.bg_http.specs.declared.response.Response.{Response}
 
 -- a field's line
-abbrev pub field_line : Field → List ℕ
+abbrev pub field_line : HeaderField → List ℕ
 field_line field = field.0 ++ codes ": " ++ field.1 ++ codes "\r\n"
 
--- a request is passed on as HTTP/1.1, whatever its own version
+-- a request is forwarded as HTTP/1.1, whatever its own version is
 abbrev pub request_line : Request → List ℕ
 request_line request =
     request.method ++ codes " " ++ request.target ++ codes " HTTP/1.1\r\n"
 
--- version 1.0 may come without Host, which HTTP/1.1 must have (RFC 9112 section 3.2)
+-- a request of version 1.0 may have no Host, but HTTP/1.1 requires one (RFC 9112 section 3.2)
 abbrev pub host_line : Request → ℕ → List ℕ
 host_line request port =
     if (request.minor == 0) && not (has_field (codes "host") request.fields)
@@ -27,7 +27,7 @@ abbrev pub via_line : Request → List ℕ
 via_line request =
     if request.minor == 0 then codes "Via: 1.0 bg-switch\r\n" else codes "Via: 1.1 bg-switch\r\n"
 
--- the length of a body that is there
+-- the length of a body, if there is a body
 abbrev pub size_line : Option (List ℕ) → List ℕ
 size_line None = []
 size_line (Some body) = codes "Content-Length: " ++ decimal (length body) ++ codes "\r\n"
@@ -40,7 +40,7 @@ bytes_of (Some body) = body
 abbrev pub end_of_head : List ℕ
 end_of_head = codes "Connection: close\r\n\r\n"
 
--- a request as it goes on to the port
+-- a request as it is forwarded to the port
 abbrev pub request_text : Request → ℕ → List ℕ
 request_text request port =
     request_line request ++ host_line request port
@@ -55,16 +55,16 @@ status_line response =
 abbrev pub digits_line : List ℕ → List ℕ
 digits_line digits = codes "Content-Length: " ++ digits ++ codes "\r\n"
 
--- the length that is told, if there is one
+-- the Content-Length, if there is one
 abbrev pub length_line : Option (List ℕ) → List ℕ
 length_line None = []
 length_line (Some digits) = digits_line digits
 
--- the body, but to HEAD and for 204 and 304 none
+-- the body; none to HEAD and for 204 and 304
 abbrev pub body_sent : Request → Response → List ℕ
 body_sent request response = if has_no_body request response.code then [] else response.body
 
--- a response as it goes back to the client
+-- a response as it is forwarded to the client
 abbrev pub response_text : Request → Response → List ℕ
 response_text request response =
     status_line response ++ flat_map field_line (kept_in_response response.fields)

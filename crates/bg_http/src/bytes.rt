@@ -4,7 +4,7 @@ ghost use Rattle.std.specs.Prelude.{◌≡◌, IfOk};
 use std::alloc::{AllocError, Global};
 use std::marker::Model;
 
-/// A part of a message, as a name, a value or a body, which contracts see as the list of its bytes.
+/// A part of a message: a name, a value or a body. Contracts see it as the list of its bytes.
 #[derive(Drop, Debug)]
 pub struct Bytes {
     bytes: Vec<u8>,
@@ -19,7 +19,7 @@ impl Model for Bytes {
 }
 
 impl Bytes {
-    /// Copies `bytes`; refused only where memory is.
+    /// Copies `bytes`. The only error is an allocation failure.
     pub fn new(alloc: Global, bytes: &[u8]) -> Result<Bytes, AllocError>
         ensures { IfOk result (λ b. b ≡ bytes.now) }
     {

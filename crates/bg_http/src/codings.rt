@@ -7,7 +7,7 @@ use crate::elements::{elements_named, is_same_name};
 use crate::fields::Fields;
 use crate::names::RuledName;
 
-/// How many codings there are, counted up to two, and whether the last of them is `chunked`.
+/// The number of codings, counted up to two, and whether the last of them is `chunked`.
 #[derive(Clone, Copy)]
 pub(crate) struct Codings {
     pub(crate) count: u8,

@@ -8,7 +8,7 @@ ghost use Rattle.bg_http.specs.Names.{spelled};
 use crate::fields::{FieldIter, Fields};
 use crate::names::RuledName;
 
-/// Whether both are one name (RFC 9110 section 5.1: names are compared without case).
+/// Whether both are the same name, compared without case (RFC 9110 section 5.1).
 pub(crate) fn is_same_name(one: &[u8], other: &[u8]) -> bool
     ensures { result ≡ str_eq_ignore_ascii_case one.now other.now }
 {
@@ -19,7 +19,7 @@ pub(crate) fn is_same_name(one: &[u8], other: &[u8]) -> bool
 pub(crate) fn has_field(fields: &Fields, name: RuledName) -> bool
     ensures { result ≡ has_named (spelled name) fields.now }
 {
-    fields.iter().any(|field| field.is(name))
+    fields.get().any(|field| field.is(name))
 }
 
 /// Whether the byte is a space or a tab (RFC 9110 section 5.6.3).
@@ -54,14 +54,14 @@ fn trim(text: &[u8]) -> &[u8]
     text
 }
 
-/// Where the first comma stands.
+/// The position of the first comma.
 fn first_comma(value: &[u8]) -> Option<usize>
     ensures { result ≡ position is_comma value.now }
 {
     value.iter().position(|byte| *byte == b',')
 }
 
-/// The first element of a value, and what follows the comma after it, if there is one.
+/// The first element of a value, and the text after the comma that follows it, if there is one.
 fn first_element(value: &[u8]) -> (&[u8], Option<&[u8]>)
     ensures { FirstElement value.now result }
 {
@@ -74,9 +74,9 @@ fn first_element(value: &[u8]) -> (&[u8], Option<&[u8]>)
 /// The elements of all fields that have a name, in order.
 #[derive(Drop)]
 pub(crate) struct Elements<'a> {
-    /// What is left of the value of a field that was begun.
+    /// The remaining value of the current field.
     value: Option<&'a [u8]>,
-    /// The fields that are left.
+    /// The remaining fields.
     fields: FieldIter<'a>,
     name: RuledName,
 }
@@ -87,13 +87,13 @@ pub(crate) fn elements_named(fields: &Fields, name: RuledName) -> Elements<'_>
 {
     Elements {
         value: None,
-        fields: fields.iter(),
+        fields: fields.get(),
         name,
     }
 }
 
 impl Elements<'_> {
-    /// Goes to the next field of the name, where no value is begun.
+    /// If there is no current value, goes to the next field with the name.
     fn begin_value(&mut self)
         ensures left { elements_left self.new ≡ elements_left self.old }
         ensures end { IfNone self.new.value (elements_left self.new ≡ []) }

@@ -1,27 +1,28 @@
 //! The fields of a head.
 ghost use Rattle.std.specs.Prelude.{◌≡◌, ◌≤◌, ◌++◌, ◌∷◌, [], All, length, map, slice_get, IfOk, OnOk, OnErr};
 ghost use Rattle.httparse.specs.Spans.{IsHeaderWithin, header_bytes};
-ghost use Rattle.bg_http.specs.Places.{IsPlaceIn};
-ghost use Rattle.bg_http.specs.declared.places.Place.{Place};
+ghost use Rattle.bg_http.specs.Elements.{field_lent};
+ghost use Rattle.bg_http.specs.FieldPlaces.{IsPlaceIn};
+ghost use Rattle.bg_http.specs.declared.field_place.FieldPlace.{FieldPlace};
 
-use crate::field::Field;
+use crate::field_place::FieldPlace;
+use crate::header_field::HeaderField;
 use crate::names::ruled_name;
-use crate::places::Place;
 use httparse::spans::{HeaderSpan, Span};
 use std::alloc::{AllocError, Global};
 use std::marker::Model;
 
 /// The fields of a head in the order in which they came, each a name and a value. Contracts see
-/// them as a list of pairs. All names and values stand in one text.
+/// them as a list of pairs. All names and values share one text.
 #[derive(Drop, Debug)]
 pub struct Fields {
     text: Vec<u8>,
-    places: Vec<Place>,
+    places: Vec<FieldPlace>,
 }
 
 impl Model for Fields {
     ghost use Rattle.std.specs.Prelude.{All, List, ℕ, map};
-    ghost use Rattle.bg_http.specs.Places.{IsPlaceIn, field_at};
+    ghost use Rattle.bg_http.specs.FieldPlaces.{IsPlaceIn, field_at};
 
     ghost Value = { List (List ℕ × List ℕ) };
 
@@ -30,7 +31,7 @@ impl Model for Fields {
     ghost invariant = { λ f. All (IsPlaceIn f.text.items) f.places.items };
 }
 
-/// Puts bytes at the end of a text; where they stand there.
+/// Appends bytes to a text, and gives their position in it.
 fn put(text: &mut Vec<u8>, bytes: &[u8]) -> Result<Span, AllocError>
     ensures ok { OnOk result (text.new.items ≡ text.old.items ++ bytes.now) }
     ensures start { IfOk result (λ span. span.start ≡ length text.old.items) }
@@ -43,7 +44,7 @@ fn put(text: &mut Vec<u8>, bytes: &[u8]) -> Result<Span, AllocError>
     Ok(Span { start, end })
 }
 
-/// Where the last of the spans ends.
+/// The end of the last span.
 fn end_of(text: &[u8], spans: &[HeaderSpan]) -> usize
     requires { All (IsHeaderWithin (length text.now)) spans.now }
     ensures within { All (IsHeaderWithin result) spans.now }
@@ -56,32 +57,41 @@ fn end_of(text: &[u8], spans: &[HeaderSpan]) -> usize
     end
 }
 
-/// The places of the fields that the spans cover.
-fn places_of(alloc: Global, text: &[u8], spans: &[HeaderSpan]) -> Result<Vec<Place>, AllocError>
+/// The positions of the fields that the spans cover.
+fn places_of(
+    alloc: Global,
+    text: &[u8],
+    spans: &[HeaderSpan],
+) -> Result<Vec<FieldPlace>, AllocError>
     requires { All (IsHeaderWithin (length text.now)) spans.now }
     ensures places { IfOk result (λ places. All (IsPlaceIn text.now) places.items) }
     ensures spans { IfOk result (λ places. map (λ place. place.spans) places.items ≡ spans.now) }
 {
     let mut places = Vec::with_capacity(alloc, spans.len())?;
     for span in spans {
-        places.push(Place::new(text, *span))?;
+        places.push(FieldPlace::new(text, *span))?;
     }
     Ok(places)
 }
 
 impl Fields {
-    /// No field.
-    pub fn new(alloc: Global) -> Fields
-        ensures { result ≡ [] }
+    /// Copies the pairs of a name and a value, in order. The only error is an allocation failure.
+    /// Like `add`, it does not check the bytes.
+    pub fn new(alloc: Global, pairs: &[(&[u8], &[u8])]) -> Result<Fields, AllocError>
+        ensures { IfOk result (λ f. f ≡ map field_lent pairs.now) }
     {
-        Fields {
+        let mut fields = Fields {
             text: Vec::new(alloc),
             places: Vec::new(alloc),
+        };
+        for &(name, value) in pairs {
+            fields.add(name, value)?;
         }
+        Ok(fields)
     }
 
-    /// The fields of a text that `httparse` found. The text is copied once, up to the end of the
-    /// last field; it is refused only where memory is.
+    /// The fields that `httparse` found in a text. The text is copied once, up to the end of the
+    /// last field. The only error is an allocation failure.
     pub fn of_spans(alloc: Global, text: &[u8], spans: &[HeaderSpan]) -> Result<Fields, AllocError>
         requires { All (IsHeaderWithin (length text.now)) spans.now }
         ensures { IfOk result (λ f. f ≡ map (header_bytes text.now) spans.now) }
@@ -92,25 +102,25 @@ impl Fields {
         Ok(Fields { text: copy, places })
     }
 
-    /// Adds a copy of `name` and `value` at the end. It is refused only where memory is, and then
-    /// nothing changes. The bytes aren't looked at: those of a head that was read have no end of
-    /// line.
+    /// Adds a copy of `name` and `value` at the end. The only error is an allocation failure, and
+    /// it changes nothing. The bytes are not checked; those of a head that was read contain no end
+    /// of line.
     pub fn add(&mut self, name: &[u8], value: &[u8]) -> Result<(), AllocError>
         ensures ok { OnOk result (self.new ≡ self.old ++ (name.now, value.now) ∷ []) }
         ensures err { OnErr result (self.new ≡ self.old) }
     {
         let ruled = ruled_name(name);
-        // All room is taken first, so that a refusal leaves nothing of the field behind.
+        // All memory is reserved first, so that a failure leaves no part of the field behind.
         self.places.reserve(1)?;
         self.text.reserve(name.len() + value.len())?;
         let name = put(&mut self.text, name)?;
         let value = put(&mut self.text, value)?;
         let spans = HeaderSpan { name, value };
-        self.places.push(Place { spans, ruled })?;
+        self.places.push(FieldPlace { spans, ruled })?;
         Ok(())
     }
 
-    /// How many fields there are.
+    /// The number of fields.
     pub fn len(&self) -> usize
         ensures { result ≡ length self.now }
     {
@@ -118,15 +128,15 @@ impl Fields {
     }
 
     /// The field at `place`, counted from 0.
-    pub fn at(&self, place: usize) -> Option<Field<'_>>
+    pub fn at(&self, place: usize) -> Option<HeaderField<'_>>
         ensures { result ≡ slice_get self.now place }
     {
         let place = self.places.get(place)?;
         Some(place.field_in(self.text.as_slice()))
     }
 
-    /// All fields, in order.
-    pub fn iter(&self) -> FieldIter<'_>
+    /// The fields in order.
+    pub fn get(&self) -> FieldIter<'_>
         ensures { result ≡ self.now }
     {
         FieldIter {
@@ -136,16 +146,16 @@ impl Fields {
     }
 }
 
-/// The fields of a head that are still to come, in order. Contracts see them as a list of pairs.
+/// An iterator over the fields of a head, in order. Contracts see them as a list of pairs.
 #[derive(Drop)]
 pub struct FieldIter<'a> {
     text: &'a [u8],
-    places: &'a [Place],
+    places: &'a [FieldPlace],
 }
 
 impl<'a> Model for FieldIter<'a> {
     ghost use Rattle.std.specs.Prelude.{All, List, ℕ, map};
-    ghost use Rattle.bg_http.specs.Places.{IsPlaceIn, field_at};
+    ghost use Rattle.bg_http.specs.FieldPlaces.{IsPlaceIn, field_at};
 
     ghost Value = { List (List ℕ × List ℕ) };
 
@@ -157,13 +167,13 @@ impl<'a> Model for FieldIter<'a> {
 impl<'a> Iterator for FieldIter<'a> {
     ghost use Rattle.std.specs.Iterator.{YieldsFirst, item_count};
 
-    type Item = Field<'a>;
+    type Item = HeaderField<'a>;
 
     ghost next_gives = { YieldsFirst (λ left. left) };
 
     ghost remaining = { item_count (λ left. left) };
 
-    fn next(&mut self) -> Option<Field<'a>> {
+    fn next(&mut self) -> Option<HeaderField<'a>> {
         let [place, rest @ ..] = self.places else {
             return None;
         };

@@ -9,8 +9,8 @@ use crate::elements::{Elements, elements_named};
 use crate::fields::Fields;
 use crate::names::RuledName;
 
-/// What all Content-Length fields say together. The digits are without leading zeros, so none for
-/// 0.
+/// The result of reading all Content-Length fields together. The digits have no leading zeros, so 0
+/// has no digits.
 #[derive(Clone, Copy)]
 pub(crate) enum OneLength<'a> {
     Absent,
@@ -40,14 +40,14 @@ fn without_zeros(mut digits: &[u8]) -> &[u8]
     digits
 }
 
-/// Whether the element is a number with these digits, once leading zeros are dropped.
+/// Whether the element is a number with these digits, without its leading zeros.
 fn has_digits(digits: &[u8], element: &[u8]) -> bool
     ensures { result ≡ has_digits_in digits.now element.now }
 {
     is_digits(element) && without_zeros(element) == digits
 }
 
-/// Whether each element is a number with these digits, once leading zeros are dropped.
+/// Whether each element is a number with these digits, without its leading zeros.
 fn all_have_digits(mut elements: Elements<'_>, digits: &[u8]) -> bool
     ensures { result ≡ list_all (has_digits_in digits.now) (elements_left elements.entry) }
 {
@@ -71,7 +71,7 @@ pub(crate) fn content_length(fields: &Fields) -> OneLength<'_>
     }
 }
 
-/// The number that the digits write, where it is at most `most`.
+/// The number that the digits stand for, if it is at most `most`.
 pub(crate) fn value_within(digits: &[u8], most: usize) -> Option<usize>
     requires digits { IsTrue (list_all is_ascii_digit digits.now) }
     requires most { most ≤ 2 ^ 32 }

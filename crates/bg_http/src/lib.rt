@@ -1,20 +1,20 @@
-//! HTTP/1.1 messages (RFC 9110, RFC 9112): how a request or a response is judged by its head, and
-//! the bytes in which it goes on.
+//! HTTP/1.1 messages (RFC 9110, RFC 9112): the rules by which the head of a request or a response
+//! is judged, and the bytes in which it is forwarded.
 //!
-//! The rules are a strict profile: where two readers of one message could differ on where it ends,
-//! the message is refused. docs/HTTP.md lists what is refused that others accept, and why.
+//! The rules are a strict profile: a message is refused if two readers could disagree on its end.
+//! docs/HTTP.md lists what is refused although others accept it, and why.
 #![tactic(auto)]
 
 mod bytes;
 mod codings;
 mod elements;
-mod field;
+mod field_place;
 mod fields;
+mod header_field;
 pub mod laws;
 mod lengths;
-mod memory;
+mod memory_stream;
 mod names;
-mod places;
 mod removed;
 mod request;
 mod request_fault;
@@ -26,9 +26,9 @@ mod stream;
 mod writers;
 
 pub use bytes::Bytes;
-pub use field::Field;
 pub use fields::{FieldIter, Fields};
-pub use memory::Memory;
+pub use header_field::HeaderField;
+pub use memory_stream::MemoryStream;
 pub use request::{Request, RequestHead};
 pub use request_fault::RequestFault;
 pub use request_rules::{Framing, MOST_REQUEST_BODY, judge_request, owes_continue};

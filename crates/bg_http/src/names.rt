@@ -1,9 +1,9 @@
-//! The names of fields that the rules speak of.
+//! The field names that the rules know.
 ghost use Rattle.bg_http.specs.Names.{IsRuledAs};
 
 use http_header::HeaderName;
 
-/// A name of fields that a rule speaks of, of those that are standard.
+/// A standard field name that a rule uses.
 #[derive(Clone, Copy, PartialEq, Eq, Debug, Drop)]
 pub(crate) enum RuledName {
     Connection,
@@ -16,7 +16,7 @@ pub(crate) enum RuledName {
     Upgrade,
 }
 
-/// The name that the bytes spell in any case, if a rule speaks of it. It takes no memory.
+/// The name that the bytes spell in any case, if a rule uses it. Allocates nothing.
 pub(crate) fn ruled_name(name: &[u8]) -> Option<RuledName>
     ensures { IsRuledAs name.now result }
 {

@@ -1,4 +1,4 @@
-//! The fields that go no further than one connection.
+//! The fields that are not forwarded.
 ghost use Rattle.std.specs.Prelude.{◌≡◌, codes};
 ghost use Rattle.std.specs.List.{list_any};
 ghost use Rattle.std.specs.Str.{str_eq_ignore_ascii_case};
@@ -7,14 +7,14 @@ ghost use Rattle.bg_http.specs.Held.{elements_left};
 ghost use Rattle.bg_http.specs.Removed as spec;
 
 use crate::elements::{Elements, elements_named, is_same_name};
-use crate::field::Field;
 use crate::fields::Fields;
+use crate::header_field::HeaderField;
 use crate::names::RuledName;
 use crate::request_rules::expects_continue;
 
-/// Whether the field goes no further (RFC 9110 section 7.6.1). `has_connection` says whether there
-/// is a Connection field; it is asked once a message.
-pub(crate) fn is_removed(fields: &Fields, has_connection: bool, field: &Field<'_>) -> bool
+/// Whether the field is not forwarded (RFC 9110 section 7.6.1). `has_connection` says whether there
+/// is a Connection field; the caller determines it once for each message.
+pub(crate) fn is_removed(fields: &Fields, has_connection: bool, field: &HeaderField<'_>) -> bool
     requires { has_connection ≡ has_named (codes "connection") fields.now }
     ensures { result ≡ spec.is_removed fields.now field.now }
 {
@@ -23,11 +23,11 @@ pub(crate) fn is_removed(fields: &Fields, has_connection: bool, field: &Field<'_
             && is_named_by_connection(fields, has_connection, field.name()))
 }
 
-/// Whether the field of a request goes no further.
+/// Whether the field of a request is not forwarded.
 pub(crate) fn is_removed_from_request(
     fields: &Fields,
     has_connection: bool,
-    field: &Field<'_>,
+    field: &HeaderField<'_>,
 ) -> bool
     requires { has_connection ≡ has_named (codes "connection") fields.now }
     ensures { result ≡ spec.is_removed_from_request fields.now field.now }
@@ -35,7 +35,7 @@ pub(crate) fn is_removed_from_request(
     is_removed(fields, has_connection, field) || expects_continue(field)
 }
 
-fn is_of_connection(field: &Field<'_>) -> bool
+fn is_of_connection(field: &HeaderField<'_>) -> bool
     ensures { result ≡ spec.is_of_connection field.now }
 {
     field.is(RuledName::Connection)
@@ -48,8 +48,8 @@ fn is_of_connection(field: &Field<'_>) -> bool
         || field.is(RuledName::ContentLength)
 }
 
-/// Whether an element of the Connection fields is the name. An element that is no name at all is
-/// that of no field.
+/// Whether an element of the Connection fields is the name. An element that is not a valid name
+/// matches no field.
 fn is_named_by_connection(fields: &Fields, has_connection: bool, name: &[u8]) -> bool
     requires { has_connection ≡ has_named (codes "connection") fields.now }
     ensures { result ≡ spec.is_named_by_connection fields.now name.now }

@@ -1,4 +1,4 @@
-//! The rules that a request's head has to pass, and where its body ends.
+//! The rules that a request's head has to pass, and the end of its body.
 ghost use Rattle.std.specs.Prelude.{◌≡◌, ◌&&◌, count_by};
 ghost use Rattle.std.specs.List.{list_any};
 ghost use Rattle.bg_http.specs.Elements.{is_named};
@@ -7,37 +7,37 @@ ghost use Rattle.bg_http.specs.RequestRules as spec;
 
 use crate::codings::named_codings;
 use crate::elements::{has_field, is_same_name};
-use crate::field::Field;
 use crate::fields::Fields;
+use crate::header_field::HeaderField;
 use crate::lengths::{OneLength, content_length, value_within};
 use crate::names::RuledName;
 use crate::request::RequestHead;
 use crate::request_fault::RequestFault;
 
-/// Where the body of a message ends (RFC 9112 section 6.3).
+/// The framing of a message's body (RFC 9112 section 6.3).
 #[derive(Clone, Copy, PartialEq, Eq, Debug, Drop)]
 pub enum Framing {
     /// There is no body: no length was given.
     NoBody,
-    /// The body is chunks.
+    /// The body is chunked.
     Chunks,
-    /// The body has so many bytes.
+    /// The body has this many bytes.
     Length(usize),
 }
 
 /// The most bytes that a request's body may have.
 pub const MOST_REQUEST_BODY: usize = 1_048_576;
 
-/// Judges the head of a request: where its body ends, or the fault of the first rule that it
-/// breaks, in this order.
+/// Judges the head of a request. Gives the framing of its body, or the fault of the first rule that
+/// it breaks, in this order.
 ///
 /// - NotDone: the method is `CONNECT` (RFC 9110 section 9.3.6).
 /// - Bad: there is more than one Host, or none in version 1.1 (RFC 9112 section 3.2).
-/// - Bad: Transfer-Encoding stands beside Content-Length, or in version 1.0 (RFC 9112 section 6.1).
-/// - Bad: the last coding isn't `chunked` (RFC 9112 section 6.3); then NotDone: there is another
-///   one.
-/// - Bad: the elements of Content-Length aren't all digits, or differ once leading zeros are
-///   dropped (RFC 9110 section 8.6); then TooLarge: the length is above 1,048,576.
+/// - Bad: Transfer-Encoding comes with Content-Length, or in version 1.0 (RFC 9112 section 6.1).
+/// - Bad: the last coding is not `chunked` (RFC 9112 section 6.3); then NotDone: there is another
+///   coding.
+/// - Bad: the elements of Content-Length are not all digits, or differ without their leading zeros
+///   (RFC 9110 section 8.6); then TooLarge: the length is above 1,048,576.
 pub fn judge_request(head: &RequestHead) -> Result<Framing, RequestFault>
     ensures { result ≡ spec.request_framing head.now }
 {
@@ -47,24 +47,24 @@ pub fn judge_request(head: &RequestHead) -> Result<Framing, RequestFault>
     }
 }
 
-/// Whether `100 Continue` is to be written before the body is read (RFC 9110 section 10.1.1): in
-/// version 1.1, where an Expect field is `100-continue` and a body is to come. `framing` is what
-/// `judge_request` gave for the head.
+/// Whether `100 Continue` has to be written before the body is read (RFC 9110 section 10.1.1). It
+/// has to in version 1.1, if an Expect field is `100-continue` and the request has a body.
+/// `framing` is what `judge_request` gave for the head.
 pub fn owes_continue(head: &RequestHead, framing: Framing) -> bool
     ensures { result ≡ spec.owes_continue head.now framing }
 {
     head.minor != 0 && has_body(framing) && has_expectation(&head.fields)
 }
 
-/// Whether there is an Expect that is `100-continue`.
+/// Whether there is an Expect field whose value is `100-continue`.
 fn has_expectation(fields: &Fields) -> bool
     ensures { result ≡ list_any spec.expects_continue fields.now }
 {
-    fields.iter().any(|field| expects_continue(&field))
+    fields.get().any(|field| expects_continue(&field))
 }
 
-/// Whether the field is an Expect that is `100-continue`.
-pub(crate) fn expects_continue(field: &Field<'_>) -> bool
+/// Whether the field is an Expect field whose value is `100-continue`.
+pub(crate) fn expects_continue(field: &HeaderField<'_>) -> bool
     ensures { result ≡ spec.expects_continue field.now }
 {
     field.is(RuledName::Expect) && is_same_name(field.value(), b"100-continue")
@@ -80,7 +80,7 @@ fn has_body(framing: Framing) -> bool
     }
 }
 
-/// Where the body of a head ends that breaks no rule.
+/// The framing of the body of a head that breaks no rule.
 fn framing_of(head: &RequestHead) -> Framing
     ensures { result ≡ spec.framing_of head.now }
 {
@@ -123,11 +123,11 @@ fn host_fault(head: &RequestHead) -> Option<RequestFault>
     None
 }
 
-/// How many fields have the name.
+/// The number of fields with the name.
 fn count_named(fields: &Fields, name: RuledName) -> usize
     ensures { result ≡ count_by (is_named (spelled name)) fields.now }
 {
-    fields.iter().filter(|field| field.is(name)).count()
+    fields.get().filter(|field| field.is(name)).count()
 }
 
 fn framing_fault(head: &RequestHead) -> Option<RequestFault>

@@ -6,29 +6,29 @@ use crate::fields::Fields;
 /// The head of a response: its first line and its fields (RFC 9112 sections 4 and 5).
 #[derive(Drop, Debug)]
 pub struct ResponseHead {
-    /// The minor version, 0 for HTTP/1.0. Any other counts as HTTP/1.1.
+    /// The minor version, 0 for HTTP/1.0. Any other is treated as HTTP/1.1.
     pub minor: u8,
     /// The status code.
     pub code: u16,
     /// The reason phrase, which may be empty.
     pub reason: Bytes,
-    /// The fields, their values without spaces and tabs at both ends.
+    /// The fields. Their values have no spaces and tabs at either end.
     pub fields: Fields,
 }
 
-/// A response, with its body whole.
+/// A response with its whole body.
 #[derive(Drop, Debug)]
 pub struct Response {
     /// The status code.
     pub code: u16,
     /// The reason phrase, which may be empty.
     pub reason: Bytes,
-    /// The fields as they were received, their values without spaces and tabs at both ends.
+    /// The fields as they were received. Their values have no spaces and tabs at either end.
     pub fields: Fields,
-    /// The digits of the Content-Length to write; none where none is written. Where there is no
-    /// body because of the request's method or the code, it may still be the length that a body
-    /// would have.
+    /// The digits of the Content-Length to write; `None` if none is written. If there is no body
+    /// because of the request's method or the code, it may still be the length that a body would
+    /// have.
     pub length: Option<Bytes>,
-    /// The body, empty where there is none.
+    /// The body; empty if there is none.
     pub body: Bytes,
 }

@@ -1,4 +1,4 @@
-//! What a response's head is judged to be, and where its body ends.
+//! The rules by which a response's head is judged, and the end of its body.
 ghost use Rattle.std.specs.Prelude.{◌≡◌, ◌&&◌, ◌∷◌, [], option_copied};
 ghost use Rattle.bg_http.specs.Lengths.{content_length as content_length_of};
 ghost use Rattle.bg_http.specs.ResponseRules as spec;
@@ -11,33 +11,34 @@ use crate::request::Request;
 use crate::response::ResponseHead;
 use crate::response_fault::ResponseFault;
 
-/// Where a response ends (RFC 9112 section 6.3).
+/// The framing of a response (RFC 9112 section 6.3).
 #[derive(Clone, Copy, PartialEq, Eq, Debug, Drop)]
 pub enum ResponseFraming {
     /// It is interim: it has no body, and another response comes after it.
     Interim,
     /// There is no body, whatever the fields say.
     NoBody,
-    /// The body is chunks.
+    /// The body is chunked.
     Chunks,
-    /// The body has so many bytes.
+    /// The body has this many bytes.
     Length(usize),
-    /// The body is all that comes before the end of the input.
+    /// The body is everything before the end of the input.
     ToTheEnd,
 }
 
 /// The most bytes that a response's body may have.
 pub const MOST_RESPONSE_BODY: usize = 4_194_304;
 
-/// Judges the head of a response to `request`, by the first that applies.
+/// Judges the head of a response to `request`. The first of these rules that applies decides.
 ///
-/// - A code below 100, and 101: Bad. Nobody asked for another protocol (RFC 9110 section 15.2.2).
+/// - A code below 100, and 101: Bad. The request asked for no other protocol (RFC 9110 section
+///   15.2.2).
 /// - A code below 200 is interim (RFC 9110 section 15.2).
-/// - HEAD was asked, or the code is 204 or 304: no body (RFC 9112 section 6.3).
-/// - Transfer-Encoding: chunks, where version 1.1 names `chunked` and no other coding; otherwise
-///   Bad. A Content-Length beside it is passed over (RFC 9112 section 6.3).
-/// - Content-Length: as long as it says, where its elements are all digits and equal once leading
-///   zeros are dropped; otherwise Bad; above 4,194,304 TooLarge.
+/// - The method is HEAD, or the code is 204 or 304: no body (RFC 9112 section 6.3).
+/// - Transfer-Encoding: chunked, if version 1.1 names `chunked` and no other coding; otherwise Bad.
+///   A Content-Length that comes with it is ignored (RFC 9112 section 6.3).
+/// - Content-Length: this length, if its elements are all digits and equal without their leading
+///   zeros; otherwise Bad. TooLarge if it is above 4,194,304.
 /// - Otherwise the body goes to the end of the input.
 pub fn judge_response(
     request: &Request,
@@ -60,10 +61,10 @@ pub fn judge_response(
     framing_by_length(head)
 }
 
-/// The digits of the length that a response without a body tells of the body that it would have:
-/// where HEAD was asked and in a 304 the one length that the Content-Length fields give, without
-/// leading zeros, of any size; none where there is Transfer-Encoding, and none in a 204 (RFC 9110
-/// section 8.6).
+/// For a response without a body, the digits of the length that its head gives for the body. For
+/// the method HEAD and in a 304 this is the one length that the Content-Length fields give, without
+/// leading zeros, of any size. `None` if there is Transfer-Encoding, and in a 204 (RFC 9110 section
+/// 8.6).
 pub fn length_told(head: &ResponseHead) -> Option<&[u8]>
     ensures { option_copied result ≡ spec.length_told head.now }
 {
@@ -92,7 +93,7 @@ fn is_bad_code(code: u16) -> bool
     code < 100 || code == 101
 }
 
-/// Whether HEAD was asked.
+/// Whether the method is HEAD.
 fn asks_for_head(request: &Request) -> bool
     ensures { result ≡ spec.asks_for_head request.now }
 {

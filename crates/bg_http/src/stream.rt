@@ -1,18 +1,18 @@
-//! A stream that is read and written, as a client's connection is.
+//! A stream that is read and written, for example a client's connection.
 ghost use Rattle.std.specs.Prelude.{OnOk};
 ghost use Rattle.std.specs.Io.KnownBytes.{Appends, Keeps, ReadConsumes};
 
 use std::io;
 use std::io::{Read, Write};
 
-/// After so many turns a loop over a stream gives up.
+/// The number of turns after which a loop over a stream gives up.
 pub const MOST_TURNS: u32 = 1 << 24;
 
-/// A stream of which reading leaves alone what was written to it, and writing what is still to be
-/// read. Neither `Read` nor `Write` promises that of the other side, so a caller who does both
-/// could know the whole of neither.
+/// A stream whose reads do not change what was written to it, and whose writes do not change what
+/// is still to be read. `Read` and `Write` promise nothing about the other side, so a caller who
+/// does both could know neither side in full.
 pub trait Duplex: Read + Write {
-    /// Reads some bytes into the front of `buf`, as `read` does, and says how many.
+    /// Reads some bytes into the front of `buf`, as `read` does, and gives their number.
     fn receive(&mut self, buf: &mut [u8]) -> io::Result<usize>
         ensures bytes { ReadConsumes (Self.remaining self.old) (Self.remaining self.new) result
             buf.new }

@@ -1,7 +1,7 @@
 //! Writing messages.
 //!
-//! No writer takes memory. Each writes line by line, so put a `BufWriter` before a socket. Where a
-//! write fails, a part of the text may be written.
+//! No writer allocates. Each writes line by line, so put a `BufWriter` before a socket. If a write
+//! fails, a part of the text may have been written.
 ghost use Rattle.std.specs.Prelude.{◌≡◌, OnOk, IsTrue, flat_map};
 ghost use Rattle.std.specs.Io.KnownBytes.{Appends};
 ghost use Rattle.bg_http.specs.Removed.{kept_in_request, kept_in_response};
@@ -10,8 +10,8 @@ ghost use Rattle.bg_http.specs.Texts as spec;
 
 use crate::bytes::Bytes;
 use crate::elements::has_field;
-use crate::field::Field;
 use crate::fields::Fields;
+use crate::header_field::HeaderField;
 use crate::names::RuledName;
 use crate::removed::{is_removed, is_removed_from_request};
 use crate::request::Request;
@@ -20,13 +20,13 @@ use crate::response_rules::has_no_body;
 use std::io;
 use std::io::Write;
 
-/// Writes a request as it goes on to 127.0.0.1 at `port`: its first line in version 1.1; a Host
-/// where version 1.0 has none; the fields that aren't removed, in order; Via with the version that
-/// was received; Content-Length where there is a body; `Connection: close`; the body (RFC 9110
-/// section 7.6, RFC 9112 section 3.2). On Ok exactly this is written.
+/// Writes a request as it is forwarded to 127.0.0.1 at `port`: its first line in version 1.1; a
+/// Host if a request of version 1.0 has none; the fields that are not removed, in order; Via with
+/// the version that was received; Content-Length if there is a body; `Connection: close`; the body
+/// (RFC 9110 section 7.6, RFC 9112 section 3.2). On Ok it has written exactly this.
 ///
-/// Removed are Connection and each field that it names, but for Host; Keep-Alive, Proxy-Connection,
-/// TE, Transfer-Encoding, Upgrade, Trailer and Content-Length; and an Expect that is
+/// It removes Connection and each field that it names, except Host; Keep-Alive, Proxy-Connection,
+/// TE, Transfer-Encoding, Upgrade, Trailer and Content-Length; and an Expect whose value is
 /// `100-continue`.
 pub fn write_request<W: Write>(request: &Request, port: u16, writer: &mut W) -> io::Result<()>
     ensures { OnOk result (Appends (W.contents writer.old) (W.contents writer.new)
@@ -51,7 +51,7 @@ fn write_request_line<W: Write>(request: &Request, writer: &mut W) -> io::Result
     writer.write_all(b" HTTP/1.1\r\n")
 }
 
-/// Writes a Host where version 1.0 has none.
+/// Writes a Host if a request of version 1.0 has none.
 fn write_host<W: Write>(request: &Request, port: u16, writer: &mut W) -> io::Result<()>
     ensures { OnOk result (Appends (W.contents writer.old) (W.contents writer.new)
         (spec.host_line request.now port)) }
@@ -73,7 +73,7 @@ fn write_via<W: Write>(request: &Request, writer: &mut W) -> io::Result<()>
     }
 }
 
-fn write_field<W: Write>(field: &Field<'_>, writer: &mut W) -> io::Result<()>
+fn write_field<W: Write>(field: &HeaderField<'_>, writer: &mut W) -> io::Result<()>
     ensures { OnOk result (Appends (W.contents writer.old) (W.contents writer.new)
         (spec.field_line field.now)) }
 {
@@ -83,13 +83,13 @@ fn write_field<W: Write>(field: &Field<'_>, writer: &mut W) -> io::Result<()>
     writer.write_all(b"\r\n")
 }
 
-/// Writes the fields of a request that go on.
+/// Writes the fields of a request that are forwarded.
 fn write_request_fields<W: Write>(fields: &Fields, writer: &mut W) -> io::Result<()>
     ensures { OnOk result (Appends (W.contents writer.old) (W.contents writer.new)
         (flat_map spec.field_line (kept_in_request fields.now))) }
 {
     let has_connection = has_field(fields, RuledName::Connection);
-    for field in fields.iter() {
+    for field in fields.get() {
         if !is_removed_from_request(fields, has_connection, &field) {
             write_field(&field, writer)?;
         }
@@ -97,7 +97,7 @@ fn write_request_fields<W: Write>(fields: &Fields, writer: &mut W) -> io::Result
     Ok(())
 }
 
-/// Writes the length of a request's body, where there is one.
+/// Writes the length of a request's body, if there is a body.
 fn write_size<W: Write>(body: &Option<Bytes>, writer: &mut W) -> io::Result<()>
     ensures { OnOk result (Appends (W.contents writer.old) (W.contents writer.new)
         (spec.size_line body.now)) }
@@ -108,7 +108,7 @@ fn write_size<W: Write>(body: &Option<Bytes>, writer: &mut W) -> io::Result<()>
     }
 }
 
-/// Writes a request's body, where there is one.
+/// Writes a request's body, if there is one.
 fn write_given<W: Write>(body: &Option<Bytes>, writer: &mut W) -> io::Result<()>
     ensures { OnOk result (Appends (W.contents writer.old) (W.contents writer.new)
         (spec.bytes_of body.now)) }
@@ -119,12 +119,12 @@ fn write_given<W: Write>(body: &Option<Bytes>, writer: &mut W) -> io::Result<()>
     }
 }
 
-/// Writes the response to a request as it goes back to the client: its first line in version 1.1;
-/// the fields that aren't removed, in order; Content-Length where `length` tells one; `Connection:
-/// close`; the body, but none where HEAD was asked or the code is 204 or 304 (RFC 9110 section 7.6,
-/// RFC 9112 section 6.3). On Ok exactly this is written.
+/// Writes the response to a request as it is forwarded to the client: its first line in version
+/// 1.1; the fields that are not removed, in order; Content-Length if `length` gives one;
+/// `Connection: close`; the body, unless the method is HEAD or the code is 204 or 304 (RFC 9110
+/// section 7.6, RFC 9112 section 6.3). On Ok it has written exactly this.
 ///
-/// Removed are Connection and each field that it names, but for Host; Keep-Alive, Proxy-Connection,
+/// It removes Connection and each field that it names, except Host; Keep-Alive, Proxy-Connection,
 /// TE, Transfer-Encoding, Upgrade, Trailer and Content-Length.
 pub fn write_response<W: Write>(
     request: &Request,
@@ -150,13 +150,13 @@ fn write_status_line<W: Write>(response: &Response, writer: &mut W) -> io::Resul
     writer.write_all(b"\r\n")
 }
 
-/// Writes the fields of a response that go on.
+/// Writes the fields of a response that are forwarded.
 fn write_response_fields<W: Write>(fields: &Fields, writer: &mut W) -> io::Result<()>
     ensures { OnOk result (Appends (W.contents writer.old) (W.contents writer.new)
         (flat_map spec.field_line (kept_in_response fields.now))) }
 {
     let has_connection = has_field(fields, RuledName::Connection);
-    for field in fields.iter() {
+    for field in fields.get() {
         if !is_removed(fields, has_connection, &field) {
             write_field(&field, writer)?;
         }
@@ -164,7 +164,7 @@ fn write_response_fields<W: Write>(fields: &Fields, writer: &mut W) -> io::Resul
     Ok(())
 }
 
-/// Writes the length that is told, if there is one.
+/// Writes the Content-Length, if there is one.
 fn write_length<W: Write>(length: &Option<Bytes>, writer: &mut W) -> io::Result<()>
     ensures { OnOk result (Appends (W.contents writer.old) (W.contents writer.new)
         (spec.length_line length.now)) }
@@ -184,7 +184,7 @@ fn write_digits<W: Write>(digits: &[u8], writer: &mut W) -> io::Result<()>
     writer.write_all(b"\r\n")
 }
 
-/// Writes the body, where the response may have one.
+/// Writes the body, if the response may have one.
 fn write_sent<W: Write>(request: &Request, response: &Response, writer: &mut W) -> io::Result<()>
     ensures { OnOk result (Appends (W.contents writer.old) (W.contents writer.new)
         (spec.body_sent request.now response.now)) }
@@ -195,9 +195,9 @@ fn write_sent<W: Write>(request: &Request, response: &Response, writer: &mut W) 
     writer.write_all(response.body.get())
 }
 
-/// Writes a refusal with an empty body, after which the connection is closed. `status` is 400, 413,
-/// 431, 501, 502 or 503; the reason is that of RFC 9110 section 15 (431: RFC 6585 section 5). On Ok
-/// exactly this is written.
+/// Writes a refusal with an empty body and `Connection: close`. `status` is 400, 413, 431, 501, 502
+/// or 503; the reason is that of RFC 9110 section 15 (431: RFC 6585 section 5). On Ok it has
+/// written exactly this.
 pub fn write_refusal<W: Write>(status: u16, writer: &mut W) -> io::Result<()>
     requires { IsTrue (is_refusal status) }
     ensures { OnOk result (Appends (W.contents writer.old) (W.contents writer.new)

@@ -15,7 +15,7 @@ follows_itself body bytes = record {
   ends = λ e. e;
 }
 
--- what follows one state follows those before it
+-- a state that follows another one follows those before it too
 pub follows_both : (one other next : Body) (first bytes now : List ℕ)
     → Follows one first other bytes → Follows other bytes next now → Follows one first next now
 follows_both one other next first bytes now h k = record {
@@ -24,7 +24,7 @@ follows_both one other next first bytes now h k = record {
   ends = λ to_end. h.ends (k.ends to_end);
 }
 
--- more bytes come
+-- the same after more bytes came
 pub follows_behind : (one other : Body) (first bytes more : List ℕ)
     → Follows one first other bytes → Follows one (first ++ more) other (bytes ++ more)
 follows_behind one other first bytes more h = record {
@@ -39,7 +39,7 @@ follows_behind one other first bytes more h = record {
   ends = λ to_end. h.ends to_end;
 }
 
--- where no more is taken, what the last state needs, the first one does
+-- if no more bytes are taken and the body is not complete, the input of the first state is cut off
 pub wants_first : (one other next : Body) (first bytes : List ℕ) (count : ℕ)
     → Follows one first other bytes → Takes other next bytes count → count ≡ 0
     → IsFalse (can_end next.stage) → Fails one cut first
@@ -47,7 +47,7 @@ wants_first one other next first bytes count h t none wanting =
     subst (Fails one cut) (append-nil first)
     (h.fails cut [] (subst (Fails other cut) (sym (append-nil bytes)) (t.1.wants none wanting)))
 
--- nothing is missing: what is left is the rest
+-- if the body is complete, the input that is left is the rest
 pub whole_reads : (s : Stage) (done input : List ℕ) → is_whole s ≡ true → ReadsOn s done input done input
 whole_reads (stage.Length left) done input h = record {
   bytes = [];

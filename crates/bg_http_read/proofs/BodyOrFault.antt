@@ -1,4 +1,4 @@
--- Where a body is at the front, it doesn't fail.
+-- An input that begins with a body has no fault of a body.
 use Rattle.std.proofs.Common.{◌≡◌, ℕ, ◌≤◌, ◌+◌, List, [], ◌∷◌, ◌++◌, length, take, drop, refl, ap, sym, ◌∙◌, arith, take-append-drop, subst, inl, inr}
 use Rattle.std.proofs.lemmas.List.{append-nil, length-append, length-take, append_cancel_left}
 use Rattle.std.proofs.Math.Seq.{drop-append_seam}
@@ -9,7 +9,7 @@ use Rattle.bg_http_read.specs.Chunks.{ReadsLine, ReadsChunk, ReadsTrailers, Lead
 use Rattle.bg_http_read.proofs.Fronts.{prefix_of, equal_front}
 use Rattle.bg_http_read.proofs.ChunkLines.{one_line}
 
--- what fits in the first bytes stands at the front of them
+-- a text that begins the input and fits in its first bytes begins them too
 pub text_in_front : (most : ℕ) (input text after : List ℕ) → input ≡ text ++ after
     → length text ≤ most → take most input ≡ text ++ drop (length text) (take most input)
 text_in_front most input text after whole short =

@@ -1,4 +1,4 @@
--- Lines of chunks at the front of bytes.
+-- The line of a chunk at the beginning of bytes.
 use Rattle.std.proofs.Common.{◌≡◌, ℕ, ◌<◌, ◌≤◌, List, [], ◌++◌, length, take, drop, refl, ap, sym, ◌∙◌, arith, append_assoc, take-append-drop, take_all, min, subst, inl, inr}
 use Rattle.std.proofs.lemmas.List.{append-nil, length-take, length-append, take-append-le}
 use Rattle.httparse.specs.Ascii.{crlf_bytes}
@@ -22,7 +22,7 @@ line_some line =
     let long = length-append (line.digits ++ line.pad ++ print_extension line.extension) crlf_bytes in
     omega (arith, long, ap length text_is)
 
--- the line at the front of the first bytes is one at the front of all
+-- the line that begins the first bytes begins all bytes
 pub line_front : (bytes : List ℕ) (m n size : ℕ) (l : ChunkLine) → m ≤ 1024
     → IsChunkLineAt (take m bytes) n size l
     → ReadsLine bytes size (drop n bytes) × ((0 < n) × (n ≤ length bytes))
@@ -47,24 +47,24 @@ line_front bytes m n size l few at =
       (omega (arith, some, at.len_is), omega (arith, fits, at.len_is)),
     )
 
--- where the first bytes can't become a line, none comes
+-- if the first bytes can't become a line, no line comes
 pub never_line : (bytes : List ℕ) (m : ℕ) → m ≡ min (length bytes) 1024
     → NeverHasChunkLine (take m bytes) → LineFails malformed bytes
 never_line bytes m e h = inl (subst NeverHasChunkLine (front_is bytes m 1024 e) h)
 
--- where 1,024 bytes hold no line, none comes
+-- if 1,024 bytes have no complete line, no line comes
 pub full_line : (bytes : List ℕ) (m : ℕ) → m ≡ min (length bytes) 1024 → 1024 ≤ length bytes
     → HasNoChunkLine (take m bytes) → LineFails malformed bytes
 full_line bytes m e full h = inr (full, subst HasNoChunkLine (front_is bytes m 1024 e) h)
 
--- where fewer bytes hold no line, one may come
+-- if fewer bytes have no complete line, one may come
 pub open_line : (bytes : List ℕ) (m : ℕ) → m ≡ min (length bytes) 1024 → length bytes < 1024
     → HasNoChunkLine (take m bytes) → MayBecomeChunkLine (take m bytes) → LineFails cut bytes
 open_line bytes m e few none may =
     let same : take m bytes ≡ bytes = take_all m bytes (omega (arith, e, few)) in
     (few, subst HasNoChunkLine same none, subst MayBecomeChunkLine same may)
 
--- where none comes, none does whatever follows
+-- if no line comes, none comes in any continuation
 pub malformed_line_more : (bytes more : List ℕ) → LineFails malformed bytes
     → LineFails malformed (bytes ++ more)
 malformed_line_more bytes more (inl h) =
@@ -76,7 +76,7 @@ malformed_line_more bytes more (inr (full, none)) =
       subst HasNoChunkLine (sym (take-append-le 1024 bytes more full)) none,
     )
 
--- two lines at one front are one
+-- an input begins with at most one line
 pub one_line : (input : List ℕ) (s t : ℕ) (a b : List ℕ) → ReadsLine input s a → ReadsLine input t b
     → (s ≡ t) × (a ≡ b)
 one_line input s t a b p q =
@@ -84,7 +84,7 @@ one_line input s t a b p q =
     (p.is.valid, p.input_is) (q.is.valid, q.input_is) in
     (p.is.size_is ∙ ap chunk_size same.0 ∙ sym q.is.size_is, same.1)
 
--- a line stays one, whatever follows
+-- an input that begins with a line does so in every continuation
 pub line_more : (input more : List ℕ) (size : ℕ) (after : List ℕ) → ReadsLine input size after
     → ReadsLine (input ++ more) size (after ++ more)
 line_more input more size after p = record {

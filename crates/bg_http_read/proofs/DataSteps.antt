@@ -1,4 +1,4 @@
--- What taking a body's bytes leaves to be read.
+-- The input that is still to be read after bytes of a body were taken.
 use Rattle.std.proofs.Common.{◌≡◌, ℕ, zero, suc, ◌<◌, ◌≤◌, ◌+◌, ◌-◌, List, [], ◌∷◌, ◌++◌, length, take, drop, refl, ap, sym, ◌∙◌, arith, append_assoc, min, subst, IsFalse, true, ◌==◌, inl, inr, drop_of_length-le, get_or}
 use Rattle.std.proofs.lemmas.List.{append-nil, length-append, length-take}
 use Rattle.std.proofs.Math.Seq.{drop-append-add}
@@ -14,7 +14,7 @@ use Rattle.bg_http_read.proofs.TrailersFound.{trailers_more}
 no_false : IsFalse true → ⊥
 no_false e = cc
 
--- nothing is taken
+-- no byte is taken
 pub takes_nothing : (limit : ℕ) (s : Stage) (done bytes : List ℕ)
     → (IsFalse (can_end s) → FailsOn cut limit s (length done) bytes)
     → (s ≡ stage.ToTheEnd → bytes ≡ []) → TakesOn limit s done s done bytes 0
@@ -75,7 +75,7 @@ data_fails_before failure limit sum left count t tail size fits (inr h) = inr (r
   fails = subst (λ n. ChunksFail failure limit n h.after) (omega (arith, fits)) h.fails;
 })
 
--- as many bytes of a length are taken as there are
+-- the bytes that are there are taken, up to the length
 pub takes_length : (limit left count : ℕ) (done bytes : List ℕ) → count ≡ min (length bytes) left
     → TakesOn limit (stage.Length left) done (stage.Length (left - count))
     (done ++ take count bytes) bytes count
@@ -104,19 +104,19 @@ takes_length limit left count done bytes e =
     other_stage : stage.Length (left - count) ≡ stage.ToTheEnd → ⊥
     other_stage e = cc
 
--- a list without an element is empty
+-- a list of length 0 is empty
 no_bytes : (bytes : List ℕ) → length bytes ≡ 0 → bytes ≡ []
 no_bytes [] e = refl
 no_bytes (x ∷ bytes) e = absurd (omega (arith, e))
 
--- the end of a line of which nothing is there is cut
+-- the end of a line is cut off if no byte of it is there
 line_end_missing : (size : ℕ) (input : List ℕ) → length input ≤ size
     → LineEndFails cut (drop size input)
 line_end_missing size input short =
     let none = drop_of_length-le input short in
     (crlf_bytes, omega arith, ap (λ l. l ++ crlf_bytes) none)
 
--- as many bytes of a chunk's data are taken as there are
+-- the bytes that are there are taken, up to the size of the chunk
 pub takes_data : (limit left count : ℕ) (done bytes : List ℕ) → 0 < left
     → count ≡ min (length bytes) left
     → TakesOn limit (stage.Data left) done (stage.Data (left - count))
@@ -173,7 +173,7 @@ takes_line_end limit done after = record {
   ends = λ e. cc;
 }
 
--- nothing of CR LF is there, or CR alone
+-- no byte of CR LF is there, or only CR
 pub nothing_there : (bytes : List ℕ) → length bytes < 1 → LineEndFails cut bytes
 nothing_there [] few = (crlf_bytes, omega arith, refl)
 nothing_there (x ∷ bytes) few = absurd (omega (arith, few))
@@ -184,7 +184,7 @@ cr_alone [] some few is = absurd (omega (arith, some))
 cr_alone (x ∷ []) some few is = (10 ∷ [], omega arith, ap (λ b. b ∷ 10 ∷ []) is)
 cr_alone (x ∷ y ∷ bytes) some few is = absurd (omega (arith, few))
 
--- the CR LF isn't whole
+-- the CR LF is not complete
 pub takes_no_line_end : (limit : ℕ) (done bytes : List ℕ) → LineEndFails cut bytes
     → TakesOn limit (stage.Data 0) done (stage.Data 0) done bytes 0
 takes_no_line_end limit done bytes h =
@@ -209,7 +209,7 @@ takes_trailers limit done bytes count took fits found = record {
   ends = λ e. cc;
 }
 
--- no trailers are there yet
+-- the trailers are not complete
 pub takes_no_trailers : (limit : ℕ) (done bytes : List ℕ) → TrailersFail cut bytes
     → TakesOn limit stage.Trailers done stage.Trailers done bytes 0
 takes_no_trailers limit done bytes h =

@@ -1,4 +1,4 @@
--- What fails but for being cut fails whatever follows.
+-- A failure other than a cut holds for every continuation of the input.
 use Rattle.std.proofs.Common.{◌≡◌, ◌⊎◌, ℕ, ◌<◌, ◌≤◌, List, [], ◌∷◌, ◌++◌, length, drop, refl, ap, sym, ◌∙◌, arith, append_assoc, drop_of_length-le, inl, inr}
 use Rattle.std.proofs.lemmas.List.{append-nil, drop-append-le}
 use Rattle.httparse.specs.Ascii.{crlf_bytes}
@@ -28,7 +28,7 @@ trailers_stay malformed input more whole h = malformed_trailers_more input more 
 trailers_stay large input more whole h = absurd h
 trailers_stay cut input more whole h = absurd (whole refl)
 
--- other bytes behind data stay other bytes
+-- a malformed end of a chunk's data is malformed in every continuation
 other_end_stays : (size : ℕ) (after more : List ℕ) → LineEndFails malformed (drop size after)
     → LineEndFails malformed (drop size (after ++ more))
 other_end_stays size after more h = by_order (compare size (length after))

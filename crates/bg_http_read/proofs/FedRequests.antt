@@ -1,4 +1,4 @@
--- What a request's parser answers, by what it was fed.
+-- The answers of a request's parser, by the bytes that it was fed.
 use Rattle.std.proofs.Common.{◌≡◌, Bool, true, false, ℕ, ◌+◌, ◌≤◌, List, [], ◌++◌, drop, length, refl, ap, sym, ◌∙◌, arith, subst, inl, inr, Result, Ok, Err, IsErrAnd}
 use Rattle.std.proofs.lemmas.List.{append-nil}
 use Rattle.httparse.specs.Grammar.{HasNoRequest}
@@ -38,13 +38,13 @@ use Rattle.bg_http_read.proofs.HeadsOver.{after_bytes-append, no_request_yet}
 use Rattle.bg_http_read.proofs.RequestHeadsFound.{request_head_fails_more, request_head_more}
 use Rattle.bg_http_read.proofs.RequestOrFault.{request_or_fault}
 
--- a head that is judged stays so, whatever follows
+-- a head that passes the rules does so in every continuation
 pub judged_more : (input more : List ℕ) (head : RequestHead) (named : Framing) (after : List ℕ)
     → JudgedHead input head named after → JudgedHead (input ++ more) head named (after ++ more)
 judged_more input more head named after h =
     record { reads = request_head_more input more head after h.reads; judged = h.judged }
 
--- the head was found, and nothing of the body was taken
+-- the head was found, and no byte of the body was taken
 pub fed_head : (head : RequestHead) (named : Framing) (p : RequestBody) (waits seen : List ℕ)
     → JudgedHead seen head named waits → p.head ≡ head → p.framing ≡ named
     → StartsBody named p.body → IsFedBody p waits seen
@@ -90,13 +90,13 @@ pub fed_added : (s : RequestStage) (waits now seen bytes : List ℕ) → IsFedSt
 fed_added s waits now seen bytes h added =
     subst (λ w. IsFedStage s w (seen ++ bytes)) (sym added) (fed_behind s waits seen bytes h)
 
--- bytes were fed where none wait
+-- bytes were fed, and none waited
 pub fed_first : (s : RequestStage) (waits seen bytes : List ℕ) → IsFedStage s waits seen
     → waits ≡ [] → IsFedStage s bytes (seen ++ bytes)
 fed_first s waits seen bytes h none =
     fed_added s waits bytes seen bytes h (ap (λ l. l ++ bytes) (sym none))
 
--- bytes came straight into the body, where none wait
+-- bytes were read directly into the body, and none waited
 pub fed_straight : (p : RequestBody) (next : Body) (seen came now : List ℕ) → IsFedBody p [] seen
     → now ≡ seen ++ came → Follows p.body came next [] → next.limit ≡ p.body.limit
     → IsFedBody (record p { body = next }) [] now
@@ -104,7 +104,7 @@ fed_straight p next seen came now h is follows limit =
     subst (IsFedBody (record p { body = next }) []) (sym is)
     (fed_taken p next came [] (seen ++ came) (fed_behind (part.Body p) [] seen came h) follows limit)
 
--- nothing is missing of the body
+-- the body is complete
 pub fed_whole : (p : RequestBody) (waits seen : List ℕ) (request : Request) (asked : Bool)
     → IsFedBody p waits seen → KeepsLimit p.body → HasParts request p
     → is_whole p.body.stage ≡ true → owes_continue p.head p.framing ≡ asked
@@ -136,7 +136,7 @@ fed_whole p waits seen request asked h within parts whole owes more = (
         framed_reads p.framing h.start h.starts (h.after ++ more) p.body.bytes.items (waits ++ more)
         small (h.follows.read more p.body.bytes.items (waits ++ more) reads)
 
--- what fails of the bytes that wait and those that follow fails of the input
+-- a failure of the bytes that wait, and of those that follow, is one of the input
 fed_fails : (p : RequestBody) (waits seen more : List ℕ) (e : RequestFault) (asked : Bool)
     → (h : IsFedBody p waits seen) → owes_continue p.head p.framing ≡ asked
     → RequestBodyFails p.framing (h.after ++ more) e → FailsAsked asked (seen ++ more) e
@@ -199,7 +199,7 @@ rule_refused seen after head e reads broken more = inl (
 pub head_cut_off : (seen : List ℕ) → RequestHeadIsCut seen → FailsAsked false seen fault.Closed
 head_cut_off seen h = inl (inr h, refl)
 
--- of memory nothing is said
+-- nothing is said about an allocation failure
 no_memory : (input : List ℕ) → FailsAsked false input fault.OutOfMemory
 no_memory input = inl (inr tt, refl)
 
@@ -213,7 +213,7 @@ memory_refused (part.Body p) waits seen h more =
     unsaid named = tt
 memory_refused part.Done waits seen h more = absurd h
 
--- the head is owed `100 Continue`
+-- `100 Continue` is owed to the head
 pub owes : (seen after : List ℕ) (head : RequestHead) (named : Framing)
     → JudgedHead seen head named after → owes_continue head named ≡ true → OwesContinue seen
 owes seen after head named h owed more = record {
@@ -224,7 +224,7 @@ owes seen after head named h owed more = record {
   holds = owed;
 }
 
--- a fault that is asked for is one of the input
+-- a fault is one of the input whether or not `100 Continue` was asked for
 pub fails_at_all : (asked : Bool) (input : List ℕ) (e : RequestFault) → FailsAsked asked input e
     → RequestFails input e
 fails_at_all asked input e (inl (h, none)) = inl h
@@ -236,7 +236,7 @@ fails_at_all asked input e (inr h) = inr (inl (record {
   holds = h.holds.0;
 }))
 
--- where the request is cut off, none is whole
+-- if the request is cut off, it is not complete
 pub cut_off_lacks : (asked : Bool) (seen : List ℕ) → FailsAsked asked seen fault.Closed
     → LacksRequest seen
 cut_off_lacks asked seen fails request rest reads =
@@ -260,7 +260,7 @@ awaits_more (part.Head end) waits seen h sees awaits = (
 awaits_more (part.Body p) waits seen h sees awaits = absurd awaits
 awaits_more part.Done waits seen h sees awaits = absurd awaits
 
--- more bytes wait
+-- more bytes were fed, and they wait
 pub seen_behind : (s : RequestStage) (waits now bytes : List ℕ) → IsSeen s waits
     → now ≡ waits ++ bytes → IsSeen (stage_seen s bytes) now
 seen_behind (part.Head end) waits now bytes sees added =
@@ -295,7 +295,7 @@ nothing_fed s e = subst (λ t. IsAt t [] []) (sym e) (record {
   lacks = no_request_yet [] refl;
 })
 
--- a fault that is known is what is answered
+-- the answer is the fault that is known
 pub advances_err : (old : RequestStage) (seen bytes : List ℕ) (new : RequestStage)
     (r : Result RequestAdvance RequestFault) (e : RequestFault) → IsErrAnd r (λ f. f ≡ e)
     → IsRefusedAsked (was_asked old) e seen → Advances old seen bytes r new
@@ -303,7 +303,7 @@ advances_err old seen bytes new (Ok advance) e is refused = absurd is
 advances_err old seen bytes new (Err f) e is refused =
     subst (λ f. IsRefusedAsked (was_asked old) f seen) (sym is) refused
 
--- where a whole head is among those that wait, it is no stage that looks for one
+-- `100 Continue` is not owed at a stage that looks for the head
 pub no_continue_here : (s : RequestStage) (waits seen : List ℕ) → IsAt s waits seen
     → is_head s ≡ true → OwesContinue seen → ⊥
 no_continue_here (part.Head end) waits seen h head owed =
@@ -313,7 +313,7 @@ no_continue_here (part.Head end) waits seen h head owed =
 no_continue_here (part.Body p) waits seen h head owed = cc
 no_continue_here part.Done waits seen h head owed = cc
 
--- the body of a request doesn't go to the end of the input
+-- no body of a request goes to the end of the input
 never_to_the_end : (named : Framing) → first_stage named ≡ stage.ToTheEnd → ⊥
 never_to_the_end framing.NoBody e = cc
 never_to_the_end framing.Chunks e = cc
@@ -339,7 +339,7 @@ pub judged : (seen after : List ℕ) (head : RequestHead) (named : Framing)
     → JudgedHead seen head named after
 judged seen after head named reads rules = record { reads = reads; judged = rules }
 
--- at its start a body keeps its limit
+-- a body is within its limit before its first byte
 pub body_starts : (named : Framing) (body : Body) → StartsBody named body → KeepsLimit body
 body_starts named body h =
     subst (λ n. length body.bytes.items + announced body.stage ≤ n) (sym h.limit_is)
@@ -351,7 +351,7 @@ body_starts named body h =
     fits framing.Chunks = omega arith
     fits (framing.Length size) = omega arith
 
--- what came of a stage that looks for the head
+-- the result of a stage that looks for the head
 pub head_advances : (end : HeadEnd) (seen bytes : List ℕ) (other : HeadEnd) (old : RequestStage)
     (r : Result RequestAdvance RequestFault) (new : RequestStage) → old ≡ part.Head end
     → IsFedStage old bytes seen → Advances (part.Head other) bytes bytes r new

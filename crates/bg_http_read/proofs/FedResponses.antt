@@ -1,5 +1,5 @@
--- What a response's parser answers, by what it was fed.
-use Rattle.std.proofs.Common.{◌≡◌, ◌⊎◌, Bool, true, false, ℕ, ◌==◌, ◌≤◌, List, [], ◌++◌, length, refl, ap, sym, ◌∙◌, arith, subst, inl, inr, Option, Some, None, Result, Ok, Err, IfNone, IfOk, IfSome, IsErrAnd}
+-- The bytes that a response's parser was fed, and what is read from them.
+use Rattle.std.proofs.Common.{◌≡◌, ◌⊎◌, Bool, true, false, ℕ, ◌==◌, ◌≤◌, List, [], ◌++◌, length, refl, ap, sym, ◌∙◌, arith, subst, inl, inr}
 use Rattle.std.proofs.lemmas.List.{append-nil}
 use Rattle.bg_http.specs.declared.request.Request.{Request}
 use Rattle.bg_http.specs.declared.response.Response.{Response}
@@ -11,9 +11,8 @@ use Rattle.bg_http.specs.declared.response_rules.ResponseFraming.TheVariants as 
 use Rattle.bg_http_read.specs.Bodies.{Follows, KeepsLimit, Reads, Fails, Refuses, can_end, is_whole}
 use Rattle.bg_http_read.specs.BodyFaults.{Failure, malformed, large, cut}
 use Rattle.bg_http_read.specs.Responses.{AfterInterim, IsFinalHead, SkipsInterim, FramedResponseBodyFails, ReadsResponse, ReadsResponseBody, ResponseBodyFails, ResponseFails, length_of_response, most_response_body, no_body}
-use Rattle.bg_http_read.specs.ResponsesFed.{Advances, AdvancesTo, AwaitsHead, IsSeen, Starts, stage_seen, HasParts, IsFed, IsFedBody, IsFedStage, IsOpen, IsOpenStage, StartsBody, WantsBody, WantsStage, first_stage, most_of}
-use Rattle.bg_http_read.specs.ResponseStates.{LacksResponse, GoesToTheEnd, IsRead, IsRefused, NeedsMore, ResponseState, asks_more}
-use Rattle.bg_http_read.specs.Streams.{waiting}
+use Rattle.bg_http_read.specs.ResponsesFed.{AwaitsHead, IsSeen, Starts, stage_seen, HasParts, IsFedBody, IsFedStage, IsOpenStage, StartsBody, WantsBody, WantsStage, first_stage, most_of}
+use Rattle.bg_http_read.specs.ResponseStates.{LacksResponse, GoesToTheEnd, IsRead, IsRefused, NeedsMore}
 use Rattle.bg_http_read.specs.declared.body.Body.{Body}
 use Rattle.bg_http_read.specs.declared.body.Stage.{Stage}
 use Rattle.bg_http_read.specs.declared.body.Stage.TheVariants as stage
@@ -21,8 +20,6 @@ use Rattle.bg_http_read.specs.MessageFaults.{as_response}
 use Rattle.bg_http_read.specs.declared.message_fault.MessageFault.{MessageFault}
 use Rattle.bg_http_read.specs.declared.message_fault.MessageFault.TheVariants as message_fault
 use Rattle.bg_http_read.specs.declared.response_body.ResponseBody.{ResponseBody}
-use Rattle.bg_http_read.specs.declared.response_feed.ResponseFeed.{ResponseFeed}
-use Rattle.bg_http_read.specs.declared.response_progress.Advance.{Advance}
 use Rattle.bg_http_read.specs.HeadEnds.{after_bytes, is_over}
 use Rattle.bg_http_read.specs.declared.head_end.HeadEnd.TheVariants as head_end
 use Rattle.bg_http_read.specs.ResponseHeads.{ReadsResponseHead}
@@ -30,14 +27,13 @@ use Rattle.httparse.specs.Grammar.{HasNoResponse}
 use Rattle.bg_http_read.proofs.HeadsOver.{after_bytes-append, no_response_yet}
 use Rattle.bg_http_read.proofs.InterimOrder.{IsInterim, in_order, final_or_interim}
 use Rattle.bg_http_read.proofs.ResponseOrFault.{response_or_fault}
-use Rattle.bg_http_read.proofs.States.{response_state, same_response}
 use Rattle.bg_http_read.specs.declared.response_progress.ResponseStage.{ResponseStage}
 use Rattle.bg_http_read.specs.declared.response_progress.ResponseStage.TheVariants as part
 use Rattle.bg_http_read.proofs.BodyLoop.{end_reads, follows_behind, follows_both, follows_itself, whole_reads}
 use Rattle.bg_http_read.proofs.InterimTaken.{final_behind, memory_refuses, skips_behind}
 use Rattle.bg_http_read.proofs.ResponseBodies.{end_of, framed_fails, framed_reads}
 
--- the head was found, and nothing of the body was taken
+-- the head was found, and no byte of the body was taken
 pub fed_head : (asked request : Request) (head : ResponseHead) (named : ResponseFraming)
     (p : ResponseBody) (waits seen : List ℕ) → asked ≡ request
     → AfterInterim asked seen (IsFinalHead asked head named waits) → p.head ≡ head
@@ -88,13 +84,13 @@ fed_added request s waits now seen bytes h added =
     subst (λ w. IsFedStage request s w (seen ++ bytes)) (sym added)
     (fed_behind request s waits seen bytes h)
 
--- bytes were fed where none wait
+-- bytes were fed, and none waited
 pub fed_first : (request : Request) (s : ResponseStage) (waits seen bytes : List ℕ)
     → IsFedStage request s waits seen → waits ≡ [] → IsFedStage request s bytes (seen ++ bytes)
 fed_first request s waits seen bytes h none =
     fed_added request s waits bytes seen bytes h (ap (λ l. l ++ bytes) (sym none))
 
--- bytes came straight into the body, where none wait
+-- bytes were read directly into the body, and none waited
 pub fed_straight : (request : Request) (p : ResponseBody) (next : Body) (seen came now : List ℕ)
     → IsFedBody request p [] seen → now ≡ seen ++ came → Follows p.body came next []
     → next.limit ≡ p.body.limit → IsFedBody request (record p { body = next }) [] now
@@ -103,7 +99,7 @@ fed_straight request p next seen came now h is follows limit =
     (fed_taken request p next came [] (seen ++ came)
     (fed_behind request (part.Body p) [] seen came h) follows limit)
 
--- what is read of the bytes that wait and those that follow is a response
+-- what is read from the bytes that wait, and from those that follow, is the response
 fed_reads : (request : Request) (p : ResponseBody) (waits seen more rest : List ℕ)
     (response : Response) → IsFedBody request p waits seen → KeepsLimit p.body
     → HasParts response p → Reads p.body (waits ++ more) p.body.bytes.items rest
@@ -141,7 +137,7 @@ fed_reads request p waits seen more rest response h within parts reads = record 
         framed_reads p.framing h.start h.starts h.found.holds.1 (h.after ++ more)
         p.body.bytes.items rest small (h.follows.read more p.body.bytes.items rest reads)
 
--- nothing is missing of the body
+-- the body is complete
 pub fed_whole : (request : Request) (p : ResponseBody) (waits seen : List ℕ) (response : Response)
     → IsFedBody request p waits seen → KeepsLimit p.body → HasParts response p
     → is_whole p.body.stage ≡ true → IsRead request response seen
@@ -160,7 +156,7 @@ fed_end request p waits seen response h within parts ends empty =
     (subst (λ l. Reads p.body l p.body.bytes.items waits) (sym (append-nil waits))
     (end_reads p.body.stage p.body.bytes.items waits ends empty)))
 
--- what fails of the bytes that wait and those that follow fails of the input
+-- a failure of the bytes that wait, and of those that follow, is one of the input
 fed_fails : (request : Request) (p : ResponseBody) (waits seen more : List ℕ) (e : ResponseFault)
     → (h : IsFedBody request p waits seen) → ResponseBodyFails p.framing (h.after ++ more) e
     → ResponseFails request (seen ++ more) e
@@ -203,7 +199,7 @@ fed_cut_off request p waits seen h fails =
     (fed_fails request p waits seen [] fault.Closed h
     (framed request p waits seen [] cut h (subst (Fails p.body cut) (sym (append-nil waits)) fails)))
 
--- where a body may end and isn't whole, it goes to the end of the input
+-- a body that may end and is not complete goes to the end of the input
 to_the_end : (s : Stage) → can_end s ≡ true → is_whole s ≡ false → s ≡ stage.ToTheEnd
 to_the_end (stage.Length left) ends missing = absurd (both left ends missing)
   where
@@ -260,7 +256,7 @@ fed_to_the_end request p waits seen h within wants is = record {
     few : length h.after ≤ most_response_body
     few = omega (arith, ap length (all ∙ append-nil h.after), within, h.limit, limit)
 
--- where the response is cut off, none is whole
+-- if the response is cut off, it is not complete
 cut_off_lacks : (request : Request) (seen : List ℕ) → ResponseFails request seen fault.Closed
     → LacksResponse request seen
 cut_off_lacks request seen fails response reads =
@@ -269,7 +265,7 @@ cut_off_lacks request seen fails response reads =
     no_fault : false ≡ true → ⊥
     no_fault e = cc
 
--- where the next head isn't whole, neither is the response
+-- if the next head is not complete, the response is not complete
 head_lacks : (request : Request) (count : ℕ) (seen waits : List ℕ)
     → SkipsInterim request count seen waits → HasNoResponse waits → LacksResponse request seen
 head_lacks request count seen waits skips none response h =
@@ -292,7 +288,7 @@ awaits_more request (part.Heads search) waits seen h sees awaits =
 awaits_more request (part.Body p) waits seen h sees awaits = absurd awaits
 awaits_more request part.Done waits seen h sees awaits = absurd awaits
 
--- more bytes wait
+-- more bytes were fed, and they wait
 pub seen_behind : (s : ResponseStage) (waits now bytes : List ℕ) → IsSeen s waits
     → now ≡ waits ++ bytes → IsSeen (stage_seen s bytes) now
 seen_behind (part.Heads search) waits now bytes sees added =
@@ -313,7 +309,7 @@ open_seen (part.Heads search) bytes h = h
 open_seen (part.Body p) bytes h = h
 open_seen part.Done bytes h = h
 
--- nothing was fed
+-- no byte was fed
 pub starts_fed : (request : Request) (s : ResponseStage) → Starts s
     → IsFedStage request s [] [] × (IsOpenStage s × IsSeen s [])
 starts_fed request (part.Heads search) (none, blank) = (
@@ -323,7 +319,7 @@ starts_fed request (part.Heads search) (none, blank) = (
 starts_fed request (part.Body p) h = absurd h
 starts_fed request part.Done h = absurd h
 
--- a parser that took all that it can needs more
+-- a parser that has taken all bytes that it can needs more
 pub fed_needs_more : (request : Request) (s : ResponseStage) (waits seen : List ℕ)
     → IsFedStage request s waits seen → IsOpenStage s → WantsStage request s waits seen
     → NeedsMore request seen
@@ -337,66 +333,3 @@ fed_needs_more request (part.Body p) waits seen h goes_on wants = by_end (can_en
         inr (fed_to_the_end request p waits seen h goes_on wants
         (to_the_end p.body.stage e wants.missing))
 fed_needs_more request part.Done waits seen h goes_on wants = absurd h
-
--- a fault that is known is what is answered
-pub advances_err : (request : Request) (seen bytes : List ℕ) (s : ResponseStage)
-    (r : Result Advance ResponseFault) (e : ResponseFault) → IsErrAnd r (λ f. f ≡ e)
-    → IsRefused request e seen → Advances request seen bytes r s
-advances_err request seen bytes s (Ok advance) e is refused = absurd is
-advances_err request seen bytes s (Err f) e is refused =
-    subst (λ f. IsRefused request f seen) (sym is) refused
-
--- what the parts of an answer say
-pub advanced_response : (request : Request) (seen left : List ℕ) (s : ResponseStage)
-    (found : Option Response) → AdvancesTo request seen left found s
-    → IfSome found (λ response. IsRead request response seen)
-advanced_response request seen left s (Some response) h = h
-advanced_response request seen left s None h = tt
-
-pub advanced_none_at : (request : Request) (seen left : List ℕ) (parser : ResponseFeed)
-    (found : Option Response) → parser.progress.request.now ≡ request
-    → AdvancesTo request seen left found parser.progress.stage
-    → IfNone found (IsOpenStage parser.progress.stage) → waiting parser.intake ≡ left
-    → IfNone found (IsFed parser request seen × NeedsMore request seen)
-advanced_none_at request seen left parser (Some response) asked h goes_on waits = tt
-advanced_none_at request seen left parser None asked h goes_on waits = (
-  record {
-    request_is = asked;
-    stage_is = subst (λ w. IsFedStage request parser.progress.stage w seen) (sym waits) h.0;
-  },
-  fed_needs_more request parser.progress.stage left seen h.0 goes_on h.1,
-)
-
-pub advanced_open : (left : List ℕ) (parser : ResponseFeed) (found : Option Response)
-    → IfNone found (IsOpenStage parser.progress.stage)
-    → IfNone found (IsSeen parser.progress.stage left) → waiting parser.intake ≡ left
-    → IfNone found (IsOpen parser)
-advanced_open left parser (Some response) goes_on sees waits = tt
-advanced_open left parser None goes_on sees waits =
-    (goes_on, subst (IsSeen parser.progress.stage) (sym waits) sees)
-
--- what is so whatever follows is so where nothing does
-pub refused_here : (request : Request) (e : ResponseFault) (seen : List ℕ)
-    → IsRefused request e seen → ResponseFails request seen e
-refused_here request e seen h =
-    subst (λ l. ResponseFails request l e) (append-nil seen) (h [])
-
-pub read_here : (request : Request) (response : Response) (seen : List ℕ)
-    → IsRead request response seen → ReadsResponse request response seen
-read_here request response seen h =
-    subst (ReadsResponse request response) (append-nil seen) (h [])
-
--- where more is needed, only more bytes came
-pub fed_more : (state : ResponseState) (seen came : List ℕ)
-    (r : Result (Option Response) ResponseFault) (feed : ResponseFeed) (is_open : Bool)
-    → came ≡ seen → is_open ≡ asks_more r → state.is_open ≡ true
-    → IfOk r (λ found. IfNone found (IsFed feed state.request seen × NeedsMore state.request seen))
-    → IfOk r (λ found. IfNone found
-    ((response_state feed.progress.request.now came is_open ≡ record state { seen = seen })
-    × NeedsMore state.request seen))
-fed_more state seen came (Ok None) feed is_open same goes was h = (
-  same_response feed.progress.request.now state.request came seen is_open state.is_open h.0.request_is same (goes ∙ sym was),
-  h.1,
-)
-fed_more state seen came (Ok (Some response)) feed is_open same goes was h = tt
-fed_more state seen came (Err e) feed is_open same goes was h = tt

@@ -1,4 +1,4 @@
--- The body of a request, from its start on.
+-- The body of a request, read from its start.
 use Rattle.std.proofs.Common.{ℕ, ◌≤◌, List, ◌++◌, length, refl, ap, ◌∙◌, subst}
 use Rattle.bg_http.specs.declared.request_rules.Framing.{Framing}
 use Rattle.bg_http.specs.declared.request_rules.Framing.TheVariants as framing
@@ -10,7 +10,7 @@ use Rattle.bg_http_read.specs.RequestsFed.{StartsBody, framed_body}
 use Rattle.bg_http_read.proofs.RequestBodies.{chunks_of, length_of, failed_chunks, failed_length}
 use Rattle.bg_http_read.proofs.ResponseBodies.{no_bytes, no_length}
 
--- what is read from the start of a body is the body that the framing names
+-- reading from the start of a body reads the body that the framing names
 pub framed_reads : (named : Framing) (b : Body) → StartsBody named b → (i x r : List ℕ)
     → length x ≤ b.limit → Reads b i x r → ReadsRequestBody named i (framed_body named x) r
 framed_reads framing.NoBody b start i x r small h =
@@ -26,7 +26,7 @@ framed_reads (framing.Length size) b start i x r small h =
     let l = length_of b start.none size start.stage_is i x r h in
     (x, refl, l.0, l.1)
 
--- what fails from the start of a body is the body that the framing names
+-- a failure from the start of a body is one of the body that the framing names
 pub framed_fails : (named : Framing) (b : Body) → StartsBody named b → (failure : Failure)
     (i : List ℕ) → Fails b failure i → FramedBodyFails failure named i
 framed_fails framing.NoBody b start failure i h =

@@ -1,16 +1,16 @@
--- How long heads are at least.
+-- The minimum length of a head.
 use Rattle.std.proofs.Common.{◌≡◌, ℕ, suc, ◌≤◌, ◌+◌, ◌*◌, List, [], ◌∷◌, ◌++◌, length, All, arith}
 use Rattle.std.proofs.lemmas.List.{length-append}
 use Rattle.std.specs.List.{flat_map}
 use Rattle.httparse.specs.Ascii.{colon, space}
 use Rattle.httparse.specs.Grammar.{Field, IsField, LineEnd, crlf, lf, print_end, print_field, print_section, print_blank, print_version, RequestHead, print_request, ResponseHead, print_response, print_reason}
 
--- the end of a line has a byte
+-- the end of a line has at least one byte
 end_long : (end : LineEnd) → 1 ≤ length (print_end end)
 end_long crlf = omega arith
 end_long lf = omega arith
 
--- a list is as long as its end
+-- a list is at least as long as its end
 tail_long : (front tail : List ℕ) → length tail ≤ length (front ++ tail)
 tail_long front tail = omega (arith, length-append front tail)
 
@@ -43,7 +43,7 @@ section_long fields last all =
     = length-append (flat_map print_field fields) (print_end last) in
     omega (arith, long, whole)
 
--- a head has three bytes a field
+-- a head has at least three bytes for each field
 pub request_long : (h : RequestHead) → All IsField h.fields
     → 3 * length h.fields ≤ length (print_request h)
 unfolding print_request

@@ -1,4 +1,4 @@
--- A head ends only where an empty line has come.
+-- A head is complete only after an empty line.
 use Rattle.std.proofs.Common.{◌≡◌, ◌<◌, add-one, drop, drop-cons, get_or, ◌+◌, codes, ℕ, true, false, Bool, ◌==◌, ◌||◌, if◌then◌else◌, List, [], ◌∷◌, ◌++◌, length, refl, ap, sym, ◌∙◌, subst, append_assoc, arith}
 use Rattle.httparse.specs.Grammar.{LineEnd, crlf, lf, print_end, Field, print_field, print_section, print_blank, print_version, RequestHead, print_request, ReadsRequest, HasNoRequest, ResponseHead, print_response, print_reason, ReadsResponse, HasNoResponse, is_token_byte}
 use Rattle.std.specs.List.{All, flat_map}
@@ -12,7 +12,7 @@ pub after_bytes-append : (e : HeadEnd) (xs ys : List ℕ)
 after_bytes-append e [] ys = refl
 after_bytes-append e (x ∷ xs) ys = after_bytes-append (after_byte e x) xs ys
 
--- a byte other than those of a line's end has come
+-- a byte has come that isn't one of a line end
 abbrev pub has_begun : HeadEnd → Bool
 has_begun end.Blank = false
 has_begun end.Inside = true
@@ -20,7 +20,7 @@ has_begun end.LineStart = true
 has_begun end.AfterCr = true
 has_begun end.Over = true
 
--- a line is at its start, or an empty line has come
+-- a line begins here, or an empty line has come
 abbrev pub is_at_line : HeadEnd → Bool
 is_at_line end.Blank = false
 is_at_line end.Inside = false
@@ -53,7 +53,7 @@ begun : (e : HeadEnd) (xs : List ℕ) → has_begun e ≡ true → has_begun (af
 begun e [] h = h
 begun e (x ∷ xs) h = begun (after_byte e x) xs (begun_byte e x h)
 
--- after a line's end a line is at its start
+-- a line begins after a line end
 at_line : (e : HeadEnd) (n : LineEnd) → has_begun e ≡ true
     → is_at_line (after_bytes e (print_end n)) ≡ true
 at_line end.Blank n h = cc
@@ -73,7 +73,7 @@ line_begun end.LineStart h = refl
 line_begun end.AfterCr h = cc
 line_begun end.Over h = refl
 
--- an empty line there is the last
+-- an empty line ends the head if a line begins here
 ends_there : (e : HeadEnd) (n : LineEnd) → is_at_line e ≡ true
     → after_bytes e (print_end n) ≡ end.Over
 ends_there end.Blank n h = cc
@@ -93,7 +93,7 @@ blank_stays [] = refl
 blank_stays (crlf ∷ es) = blank_stays es
 blank_stays (lf ∷ es) = blank_stays es
 
--- a line's text and its end
+-- a line begins after the text and the end of a line
 after_line : (e : HeadEnd) (text : List ℕ) (n : LineEnd) → has_begun e ≡ true
     → is_at_line (after_bytes e (text ++ print_end n)) ≡ true
 after_line e text n h =
@@ -117,7 +117,7 @@ after_section e fields last h =
     after_bytes-append e (flat_map print_field fields) (print_end last)
     ∙ ends_there (after_bytes e (flat_map print_field fields)) last (after_fields e fields h)
 
--- empty lines, a first line that has a byte, and a section
+-- empty lines, a first line with a byte, and a section end with an empty line
 over : (blank : List LineEnd) (first : ℕ) (text : List ℕ) (n : LineEnd) (fields : List Field)
     (last : LineEnd) (rest : List ℕ) → ((first == 10) || (first == 13)) ≡ false
     → after_bytes end.Blank
@@ -140,7 +140,7 @@ over blank first text n fields last rest other =
     ∙ after_section (after_bytes end.Blank line) fields last lined)
     ∙ over_stays rest
 
--- a response begins with a letter
+-- an empty line ends the head of a response, which begins with a letter
 pub response_over : (buf : List ℕ) (h : ResponseHead) (rest : List ℕ) → ReadsResponse buf h rest
     → after_bytes end.Blank buf ≡ end.Over
 unfolding print_response
@@ -160,7 +160,7 @@ pub after_next : (e all : HeadEnd) (bytes : List ℕ) (i : ℕ) → i < length b
 after_next e all bytes i fits h =
     rw add-one (ap (after_bytes e) (sym (drop-cons bytes i 0 fits)) ∙ h)
 
--- where no empty line has come, there is no head
+-- if no empty line has come, there is no complete head
 pub no_response_yet : (buf : List ℕ) → is_over (after_bytes end.Blank buf) ≡ false
     → HasNoResponse buf
 no_response_yet buf h head rest reads =
@@ -169,7 +169,7 @@ no_response_yet buf h head rest reads =
     differ : true ≡ false → ⊥
     differ e = cc
 
--- a token begins with no byte of a line's end
+-- a token doesn't begin with a byte of a line end
 token_begins : (b : ℕ) → is_token_byte b ≡ true → ((b == 10) || (b == 13)) ≡ false
 unfolding is_token_byte
 token_begins b h = either (b == 10) (b == 13) refl refl
@@ -183,12 +183,12 @@ token_begins b h = either (b == 10) (b == 13) refl refl
         cc
     either false false e f = refl
 
--- the parts of a request's first line are one line
+-- the parts of a request's first line as one line
 regroup : (blank m a b e s : List ℕ)
     → blank ++ m ++ a ++ b ++ e ++ s ≡ (blank ++ ((m ++ (a ++ b)) ++ e)) ++ s
 regroup blank m a b e s = simp append_assoc
 
--- a request begins with its method
+-- a request's text after its empty lines begins with its method
 request_text : (h : RequestHead) (first : ℕ) (more : List ℕ) → h.method ≡ first ∷ more
     → print_request h
     ≡ (print_blank h.blank ++ (((first ∷ more) ++ (32 ∷ (h.target ++ (32 ∷ print_version h.minor))))
@@ -213,7 +213,7 @@ request_over buf h rest reads = by_method h.method refl reads.0.method.0 reads.0
         (ap (λ l. l ++ rest) (sym (request_text h first more e)) ∙ sym reads.1)
         (over h.blank first text h.line_end h.fields h.last rest (token_begins first (tokens 0 0 (omega arith))))
 
--- where no empty line has come, there is no head
+-- if no empty line has come, there is no complete head
 pub no_request_yet : (buf : List ℕ) → is_over (after_bytes end.Blank buf) ≡ false
     → HasNoRequest buf
 no_request_yet buf h head rest reads =

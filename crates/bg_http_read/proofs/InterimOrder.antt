@@ -1,4 +1,4 @@
--- Of two places behind interim responses, one comes first.
+-- Two places after interim responses, in order.
 use Rattle.std.proofs.Common.{◌≡◌, ◌⊎◌, ℕ, zero, suc, ◌<◌, ◌≤◌, true, IsFalse, List, refl, ap, sym, ◌∙◌, arith, subst, Ok, inl, inr}
 use Rattle.std.proofs.Math.Nat.{eq-or-lt_of_le}
 use Rattle.httparse.proofs.GrammarLemmas.{response_unique}
@@ -10,12 +10,12 @@ use Rattle.bg_http.specs.declared.response_rules.ResponseFraming.TheVariants as 
 use Rattle.bg_http_read.specs.ResponseHeads.{response_parts, ReadsResponseHead}
 use Rattle.bg_http_read.specs.Responses.{JudgedResponse, SkipsInterim, names_another}
 
--- an interim response is there
+-- the input begins with an interim response
 abbrev pub IsInterim : Request → List ℕ → Type 0
 IsInterim request input =
     (head : ResponseHead) × (next : List ℕ) × JudgedResponse request input head framing.Interim next
 
--- two heads at one front are one
+-- an input begins with at most one head
 pub one_response_head : (input : List ℕ) (one other : ResponseHead) (a b : List ℕ)
     → ReadsResponseHead input one a → ReadsResponseHead input other b → (one ≡ other) × (a ≡ b)
 one_response_head input one other a b h k =
@@ -30,7 +30,7 @@ one_place request (suc count) input a b (before, head, skips, judged) (other, se
     (one_response_head before head second a b judged.reads
     (subst (λ l. ReadsResponseHead l second b) (sym same) found.reads)).1
 
--- before the last of more interim responses there is one after each smaller count
+-- after any smaller number of interim responses there is another one
 earlier : (request : Request) (few many : ℕ) (input b : List ℕ) → few < many
     → SkipsInterim request many input b
     → (a : List ℕ) × SkipsInterim request few input a × IsInterim request a
@@ -66,7 +66,7 @@ interim_earlier request few many input a b less h k =
     let at = earlier request few many input b less k in
     subst (IsInterim request) (one_place request few input at.0 a at.1 h) at.2
 
--- two places are one, or an interim response is at the one that comes first
+-- two places are equal, or the first of them has an interim response
 pub in_order : (request : Request) (one other : ℕ) (input a b : List ℕ)
     → SkipsInterim request one input a → SkipsInterim request other input b
     → (a ≡ b) ⊎ (IsInterim request a ⊎ IsInterim request b)
@@ -82,7 +82,7 @@ in_order request one other input a b h k = by_order (compare one other)
     by_order (inr (inr less)) =
         inr (inr (interim_earlier request other one input b a less k h))
 
--- a head that isn't interim is none
+-- an input that begins with a final response's head doesn't begin with an interim response
 pub final_or_interim : (request : Request) (input : List ℕ) (head : ResponseHead)
     (named : ResponseFraming) (after : List ℕ) → JudgedResponse request input head named after
     → IsFalse (names_another named) → IsInterim request input → ⊥

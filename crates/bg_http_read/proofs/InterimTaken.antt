@@ -1,4 +1,4 @@
--- Interim responses and the head after them, at the front of bytes.
+-- Interim responses and the head after them, at the beginning of bytes.
 use Rattle.std.proofs.Common.{◌≡◌, true, ℕ, zero, suc, ◌≤◌, List, ◌++◌, refl, ap, ◌∙◌, arith, Ok, Err, Option, Some, None, IfSome, IsFalse}
 use Rattle.bg_http.specs.ResponseRules.{response_framing}
 use Rattle.bg_http.specs.declared.request.Request.{Request}
@@ -15,7 +15,7 @@ use Rattle.bg_http_read.specs.ResponseStates.{IsRefused}
 use Rattle.bg_http_read.specs.declared.message_fault.MessageFault.{MessageFault}
 use Rattle.bg_http_read.proofs.ResponseHeadsFound.{response_head_more, response_head_fails_more}
 
--- a head that is judged stays so, whatever follows
+-- a head that passes the rules does so in every continuation
 judged_more : (request : Request) (input more : List ℕ) (head : ResponseHead)
     (named : ResponseFraming) (after : List ℕ) → JudgedResponse request input head named after
     → JudgedResponse request (input ++ more) head named (after ++ more)
@@ -44,7 +44,7 @@ final_behind request input after more head named h = record {
   holds = (judged_more request h.after more head named after h.holds.0, h.holds.1);
 }
 
--- one more interim response
+-- one more interim response was skipped
 pub skips_next : (request : Request) (count : ℕ) (input before after : List ℕ)
     (head : ResponseHead) (named : ResponseFraming) → SkipsInterim request count input before
     → ReadsResponseHead before head after → response_framing request head ≡ Ok named
@@ -59,7 +59,7 @@ skips_next request count input before after head named skips reads judged anothe
     only (framing.Length size) t = cc
     only framing.ToTheEnd t = cc
 
--- a head that isn't interim
+-- the head of a final response was found
 pub final_found : (request : Request) (count : ℕ) (input before after : List ℕ)
     (head : ResponseHead) (named : ResponseFraming) → count ≤ 16
     → SkipsInterim request count input before → ReadsResponseHead before head after
@@ -104,7 +104,7 @@ pub many_refuse : (request : Request) (input before : List ℕ)
 many_refuse request input before skips more =
     many_interim refl (before ++ more, skips_behind request 17 input before more skips)
 
--- of memory nothing is said
+-- nothing is said about an allocation failure
 pub memory_fails : (request : Request) (input : List ℕ)
     → ResponseFails request input fault.OutOfMemory
 memory_fails request input =
@@ -114,13 +114,13 @@ pub memory_refuses : (request : Request) (input : List ℕ)
     → IsRefused request fault.OutOfMemory input
 memory_refuses request input more = memory_fails request (input ++ more)
 
--- nor of reading
+-- nothing is said about a failed read
 pub reading_fails : (request : Request) (input : List ℕ)
     → ResponseFails request input fault.ReadFailed
 reading_fails request input =
     no_head (record { count = 0; few = omega arith; after = input; skips = refl; holds = tt })
 
--- where a read failed, nothing is said of the input
+-- if a read failed, nothing is said about the input
 pub machine_reading : (request : Request) (first : Option (List ℕ))
     → IfSome first (λ i. ResponseFails request i fault.ReadFailed)
 machine_reading request None = tt

@@ -24,6 +24,7 @@ pub mod RequestsRead
 pub mod RequestBodies
 pub mod ResponseBodies
 pub mod ResponseOrFault
+pub mod ResponseSteps
 pub mod Pieces
 pub mod ResponseHeadsFound
 pub mod RuleFaults

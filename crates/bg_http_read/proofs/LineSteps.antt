@@ -1,4 +1,4 @@
--- What taking a chunk's line leaves to be read.
+-- The input that is still to be read after a chunk's line was taken.
 use Rattle.std.proofs.Common.{◌≡◌, ◌⊎◌, ℕ, ◌<◌, ◌≤◌, ◌+◌, List, [], ◌∷◌, ◌++◌, length, drop, refl, ap, sym, ◌∙◌, arith, append_assoc, subst, inl, inr}
 use Rattle.std.proofs.lemmas.List.{append-nil, length-append}
 use Rattle.bg_http_read.specs.BodyFaults.{Failure, large, cut, malformed, LineFails, LineEndFails, FailsAt, at_line, at_size, after_data, at_trailers, ChunksFail}
@@ -43,7 +43,7 @@ end_of input after done body rest line h = record {
   body_is = h.1 ∙ sym (append-nil done);
 }
 
--- chunks fail where the next fails
+-- chunks fail if the next chunk fails
 pub fails_next : (failure : Failure) (limit sum : ℕ) (input : List ℕ) → sum ≤ limit
     → FailsAt failure limit sum input → ChunksFail failure limit sum input
 fails_next failure limit sum input fits h = record {
@@ -52,7 +52,7 @@ fails_next failure limit sum input fits h = record {
   leads = subst (λ n. FailsAt failure limit n input) (omega arith) h;
 }
 
--- what fails behind the line of a chunk fails with it
+-- a failure after the line of a chunk is a failure of the chunks
 pub fails_with : (failure : Failure) (limit sum : ℕ) (input : List ℕ) (size : ℕ) (after : List ℕ)
     → ReadsLine input size after → 0 < size → sum + size ≤ limit
     → LineEndFails failure (drop size after) ⊎ FailsAfterData failure limit sum size after
@@ -115,7 +115,7 @@ takes_end limit done bytes count took fits line within = record {
   ends = λ e. cc;
 }
 
--- no line is there yet
+-- the line is not complete
 pub takes_no_line : (limit : ℕ) (done bytes : List ℕ) → LineFails cut bytes
     → length done ≤ limit → TakesOn limit stage.Line done stage.Line done bytes 0
 takes_no_line limit done bytes h within =
@@ -125,14 +125,14 @@ takes_no_line limit done bytes h within =
     other : stage.Line ≡ stage.ToTheEnd → ⊥
     other e = cc
 
--- where no line comes, the body is malformed, whatever follows
+-- if no line comes, the body is malformed in every continuation
 pub never_without_line : (limit sum : ℕ) (bytes more : List ℕ) → LineFails malformed bytes
     → sum ≤ limit → ChunksFail malformed limit sum (bytes ++ more)
 never_without_line limit sum bytes more h within =
     fails_next malformed limit sum (bytes ++ more) within
     (at_line (malformed_line_more bytes more h))
 
--- a line that announces too much does so whatever follows
+-- a line that announces too many bytes does so in every continuation
 pub large_by_line : (limit sum : ℕ) (bytes more : List ℕ) (count size : ℕ)
     → ReadsLine bytes size (drop count bytes) → limit < sum + size → sum ≤ limit
     → ChunksFail large limit sum (bytes ++ more)

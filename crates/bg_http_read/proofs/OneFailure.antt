@@ -1,4 +1,4 @@
--- A body fails in one way.
+-- A body fails in at most one way.
 use Rattle.std.proofs.Common.{◌≡◌, ◌⊎◌, ℕ, ◌≤◌, ◌+◌, List, [], ◌∷◌, ◌++◌, length, take, drop, refl, ap, sym, ◌∙◌, arith, subst, take_all, inl, inr}
 use Rattle.std.proofs.lemmas.List.{append-nil, length-append, append_cancel_left}
 use Rattle.httparse.specs.Ascii.{crlf_bytes}
@@ -11,7 +11,7 @@ use Rattle.bg_http_read.proofs.Fronts.{equal_front}
 use Rattle.bg_http_read.proofs.ChunkLines.{one_line}
 use Rattle.bg_http_read.proofs.BodyOrFault.{line_or_fault, chunk_or_fault}
 
--- what can become a line isn't malformed
+-- the beginning of a line is not malformed
 line_malformed_or_cut : (input : List ℕ) → LineFails malformed input → LineFails cut input → ⊥
 line_malformed_or_cut input (inl never) (few, none, may) =
     let same = take_all 1024 input (omega (arith, few)) in
@@ -42,7 +42,7 @@ one_end_failure cut malformed input h k = absurd (end_malformed_or_cut input k h
 one_end_failure cut large input h k = absurd k
 one_end_failure cut cut input h k = refl
 
--- trailers that are malformed and cut are more than 64
+-- trailers that are both malformed and cut off have more than 64 fields
 many_trailers : (input : List ℕ) → TrailersFail malformed input → TrailersFail cut input
     → SectionOverflows 64 (take 16384 input) × MayBecomeSection input
 many_trailers input (inl many) (few, none, may) = (many, may)
@@ -59,7 +59,7 @@ one_trailers_failure cut malformed input h k = inr (many_trailers input k h)
 one_trailers_failure cut large input h k = absurd k
 one_trailers_failure cut cut input h k = inl refl
 
--- at one chunk there is one failure
+-- a chunk fails in at most one way
 one_failure_at : (one other : Failure) (limit sum : ℕ) (input : List ℕ) → sum ≤ limit
     → FailsAt one limit sum input → FailsAt other limit sum input
     → (one ≡ other) ⊎ EndsInManyTrailers input
@@ -111,7 +111,7 @@ one_failure_at one other limit sum input fits (at_trailers after line h) (at_tra
     by_trailers (inl e) = inl e
     by_trailers (inr (many, may)) = inr ([], (after, line, many, may))
 
--- chunks fail in one way
+-- chunks fail in at most one way
 one_chunks_failure : (one other : Failure) (limit before : ℕ) (first second : ℕ) (input : List ℕ)
     (chunks others : List (List ℕ)) → Leads (FailsAt one limit first) chunks input
     → Leads (FailsAt other limit second) others input → first ≡ before + length (joined chunks)

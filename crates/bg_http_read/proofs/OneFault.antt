@@ -1,4 +1,4 @@
--- An input has one fault of a request.
+-- An input has at most one fault of a request.
 use Rattle.std.proofs.Common.{◌≡◌, ◌⊎◌, ℕ, true, false, List, [], take, refl, ap, sym, ◌∙◌, arith, subst, take_all, Ok, Err, inl, inr}
 use Rattle.std.proofs.lemmas.List.{append-nil}
 use Rattle.httparse.specs.Grammar as grammar
@@ -21,7 +21,7 @@ of_both e is isnt = absurd (differ (sym is ∙ isnt))
     differ : true ≡ false → ⊥
     differ h = cc
 
--- what can become a head isn't malformed, but where it ends in its target
+-- the beginning of a head is not malformed unless it ends within its target
 malformed_or_begun : (bytes : List ℕ) → grammar.NeverHasRequest bytes → grammar.MayBecomeRequest bytes
     → EndsInWrongTarget bytes
 malformed_or_begun bytes never (inl (more, head, reads)) = absurd (never more head [] reads)
@@ -93,7 +93,7 @@ fault_of malformed = fault.Bad
 fault_of large = fault.TooLarge
 fault_of cut = fault.Closed
 
--- a fault of a body that isn't the machine's is a failure of the body
+-- a fault of a body that isn't one of the machine is a failure of the body
 body_failure : (named : Framing) (input : List ℕ) (e : RequestFault)
     → RequestBodyFails named input e → is_of_machine e ≡ false
     → (failure : Failure) × FramedBodyFails failure named input × (e ≡ fault_of failure)
@@ -120,7 +120,7 @@ one_body_fault named input one other h k isnt neither =
     same a b (inl e) = inl (a ∙ ap fault_of e ∙ sym b)
     same a b (inr ends) = inr ends
 
--- two faults of which each is of a head
+-- two faults of a head
 one_refused : (input : List ℕ) (one other : RequestFault) → HeadRefused input one
     → HeadRefused input other → is_of_machine one ≡ false → is_of_machine other ≡ false
     → (one ≡ other) ⊎ IsUndecided input
@@ -141,7 +141,7 @@ one_refused input one other (inr fails) (inr lacks) isnt neither =
     by_head (inl e) = inl e
     by_head (inr ends) = inr (inl ends)
 
--- a head isn't refused where its body is
+-- a head is not refused if its body is
 refused_or_body : (input : List ℕ) (one other : RequestFault) → HeadRefused input one
     → BodyRefused input other → is_of_machine one ≡ false → ⊥
 refused_or_body input one other (inl h) k isnt =

@@ -1,4 +1,4 @@
--- An input has one fault of a response.
+-- An input has at most one fault of a response.
 use Rattle.std.proofs.Common.{◌≡◌, ◌⊎◌, ℕ, true, false, List, [], take, refl, ap, sym, ◌∙◌, arith, subst, take_all, Ok, Err, inl, inr}
 use Rattle.std.proofs.lemmas.List.{append-nil}
 use Rattle.httparse.specs.Grammar as grammar
@@ -90,7 +90,7 @@ fault_of malformed = fault.Bad
 fault_of large = fault.TooLarge
 fault_of cut = fault.Closed
 
--- a fault of a body that isn't the machine's is a failure of the body
+-- a fault of a body that isn't one of the machine is a failure of the body
 body_failure : (named : ResponseFraming) (input : List ℕ) (e : ResponseFault)
     → ResponseBodyFails named input e → is_of_reading e ≡ false
     → (failure : Failure) × FramedResponseBodyFails failure named input × (e ≡ fault_of failure)
@@ -115,14 +115,14 @@ one_body_fault named input one other h k isnt neither =
     same a b (inl e) = inl (a ∙ ap fault_of e ∙ sym b)
     same a b (inr ends) = inr ends
 
--- what a fault says at one place behind interim responses
+-- what a fault says at a place after interim responses
 data Stops (request : Request) (e : ResponseFault) (place : List ℕ) : Type 0 where
   by_rule : BreaksResponseRule request e place → Stops request e place
   by_head : ResponseHeadFails place e → Stops request e place
   by_body : FinalHeadThen request (λ named after. ResponseBodyFails named after e) place
       → Stops request e place
 
--- where it stops, no interim response is
+-- a place with a fault that isn't one of reading has no interim response
 stops_or_interim : (request : Request) (e : ResponseFault) (place : List ℕ) → Stops request e place
     → IsInterim request place → is_of_reading e ≡ true
 stops_or_interim request e place (by_rule (head, after, reads, broken)) (other, next, judged) =
@@ -135,7 +135,7 @@ stops_or_interim request e place (by_head fails) (other, next, judged) =
 stops_or_interim request e place (by_body (head, named, after, final, fails)) interim =
     absurd (final_or_interim request place head named after final.0 final.1 interim)
 
--- at one place one fault stops it
+-- a place has at most one fault
 one_stop : (request : Request) (one other : ResponseFault) (place : List ℕ)
     → Stops request one place → Stops request other place → is_of_reading one ≡ false
     → is_of_reading other ≡ false
@@ -179,7 +179,7 @@ one_stop request one other place (by_body (head, named, after, final, fails)) (b
     found (inl e) = inl e
     found (inr ends) = inr (head, named, after, final, ends)
 
--- two faults at places behind interim responses
+-- two faults at places after interim responses
 one_stop_of_two : (request : Request) (input : List ℕ) (one other : ResponseFault)
     → AfterInterim request input (Stops request one)
     → AfterInterim request input (Stops request other) → is_of_reading one ≡ false
@@ -208,7 +208,7 @@ one_stop_of_two request input one other h k isnt neither =
     by_order (inr (inr interim)) =
         of_both other (stops_or_interim request other k.after k.holds interim) neither
 
--- a fault stops at a place, or there are too many interim responses
+-- a fault is at a place after interim responses, or there are too many of them
 stopped : (request : Request) (input : List ℕ) (e : ResponseFault) → ResponseFails request input e
     → AfterInterim request input (Stops request e) ⊎ ((e ≡ fault.Bad) × HasManyInterim request input)
 stopped request input e (breaks_rule f) =

@@ -1,4 +1,4 @@
--- The body of a request, by what its parser read.
+-- The body of a request, by the bytes that its parser read.
 use Rattle.std.proofs.Common.{◌≡◌, ℕ, List, [], ◌++◌, length, ap, sym, ◌∙◌, subst}
 use Rattle.bg_http_read.specs.declared.body.Body.{Body}
 use Rattle.bg_http_read.specs.declared.body.Stage.TheVariants as stage
@@ -8,13 +8,13 @@ use Rattle.bg_http_read.specs.Bodies.{ReadsOn, FailsOn, Reads, Fails, ReadsMoreC
 use Rattle.bg_http_read.specs.Requests.{most_body}
 
 module _ (b : Body) (none : b.bytes.items ≡ []) where
-  -- what the parser of chunks has to read are chunks
+  -- the input that a parser of chunks has still to read is chunks
   pub chunks_of : b.stage ≡ stage.Line → (i x r : List ℕ) → Reads b i x r → ReadsChunks i x r
   chunks_of s i x r h =
       let more = subst (λ d. ReadsMoreChunks d i x r) none (subst (λ t. ReadsOn t b.bytes.items i x r) s h) in
       subst (λ l. ReadsChunks i l r) (sym more.body_is) more.chunks
 
-  -- what the parser of a length has to read are so many bytes
+  -- the input that a parser of a length has still to read begins with that many bytes
   pub length_of : (n : ℕ) → b.stage ≡ stage.Length n → (i x r : List ℕ) → Reads b i x r
       → (length x ≡ n) × (i ≡ x ++ r)
   length_of n s i x r h =

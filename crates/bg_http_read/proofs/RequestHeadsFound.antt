@@ -1,4 +1,4 @@
--- What the bytes so far tell of the head of a request.
+-- What the bytes that came say about the head of a request.
 use Rattle.std.proofs.Common.{◌≡◌, ℕ, ◌<◌, ◌≤◌, List, [], ◌++◌, length, take, drop, map, ap, sym, ◌∙◌, arith, append_assoc, take-append-drop, take_all, min, subst, inl, inr, Result, Ok, Err, OnErr}
 use Rattle.std.proofs.lemmas.List.{length-map, length-take, length-append, drop-append-le, take-append-le}
 use Rattle.httparse.specs.Grammar as grammar
@@ -18,7 +18,7 @@ use Rattle.bg_http_read.specs.declared.message_fault.MessageFault.TheVariants as
 use Rattle.bg_http_read.proofs.Fronts.{front_is, front_grows}
 use Rattle.bg_http_read.proofs.HeadLengths.{request_long}
 
--- as many fields were found as the head has
+-- the number of fields that were found is that of the head
 pub request_fields : (buf : List ℕ) (headers : List HeaderSpan) (r : RequestSpans)
     (h : grammar.RequestHead) → IsRequestWithin buf headers r → IsRequestAt buf headers r h
     → length h.fields ≡ r.headers
@@ -55,7 +55,7 @@ whole_request_head buf headers r within h size few method target fields m t f =
       head_is = cc;
     }
 
--- a head stays one, whatever follows
+-- an input that begins with a head does so in every continuation
 pub request_head_more : (buf more : List ℕ) (head : RequestHead) (rest : List ℕ)
     → ReadsRequestHead buf head rest → ReadsRequestHead (buf ++ more) head (rest ++ more)
 request_head_more buf more head rest h = record {
@@ -66,7 +66,7 @@ request_head_more buf more head rest h = record {
   head_is = h.head_is;
 }
 
--- a head of many fields is too large
+-- a head of more than 64 fields is too large
 pub many_request_fields : (buf : List ℕ) (h : grammar.RequestHead) (rest : List ℕ)
     → grammar.ReadsRequest buf h rest → 64 < length h.fields → length buf ≤ 16384
     → RequestHeadIsLarge buf
@@ -74,13 +74,13 @@ many_request_fields buf h rest reads many short =
     let same = take_all 16384 buf short in
     inl (h, rest, subst (λ l. grammar.ReadsRequest l h rest) (sym same) reads, many)
 
--- few bytes that can become no head are none
+-- bytes that can't become a head are malformed if they are within the limit
 pub malformed_request_head : (buf : List ℕ) → length buf ≤ 16384 → grammar.NeverHasRequest buf
     → RequestHeadIsMalformed buf
 malformed_request_head buf short h =
     subst grammar.NeverHasRequest (sym (take_all 16384 buf short)) h
 
--- so few bytes have no head of so many fields
+-- bytes within the limit have no head with more fields than the room
 pub no_crowded_request : (buf : List ℕ) (room : ℕ) → length buf ≤ 16384 → 5461 ≤ room
     → RequestExceeds room buf → ⊥
 no_crowded_request buf room short many (front, rest, whole, h, reads, above) =
@@ -91,7 +91,7 @@ no_crowded_request buf room short many (front, rest, whole, h, reads, above) =
     let front_fits = length-append front rest in
     omega (arith, text, printed, ends, all, front_fits, ap length whole, short, many, above)
 
--- in a room for each field that fits, an error says that the bytes are no head
+-- if the room is large enough for every field, an error says that the bytes can't become a head
 pub refused_request : (buf : List ℕ) (room : ℕ)
     (parsed : Result (Status RequestSpans) Error) → length buf ≤ 16384 → 5461 ≤ room
     → OnInvalid parsed (grammar.NeverHasRequest buf)
@@ -101,7 +101,7 @@ refused_request buf room (Ok found) short many invalid crowded = tt
 refused_request buf room (Err e) short many invalid crowded =
     invalid (λ same. no_crowded_request buf room short many (crowded (ap Err same)))
 
--- where 16,384 bytes are the beginning of a head and hold none, it is too large
+-- if 16,384 bytes are the beginning of a head and have no complete one, it is too large
 pub full_request_head : (bytes : List ℕ) (m : ℕ) → m ≡ min (length bytes) 16384
     → 16384 ≤ length bytes
     → grammar.HasNoRequest (take m bytes) × grammar.MayBecomeRequest (take m bytes)
@@ -110,7 +110,7 @@ full_request_head bytes m e full h =
     let same = front_is bytes m 16384 e in
     inr (full, subst grammar.HasNoRequest same h.0, subst grammar.MayBecomeRequest same h.1)
 
--- where there are fewer, it is cut
+-- if there are fewer bytes, the head is cut off
 pub open_request_head : (bytes : List ℕ) (m : ℕ) → m ≡ min (length bytes) 16384
     → length bytes < 16384
     → grammar.HasNoRequest (take m bytes) × grammar.MayBecomeRequest (take m bytes)
@@ -119,7 +119,7 @@ open_request_head bytes m e few h =
     let same : take m bytes ≡ bytes = take_all m bytes (omega (arith, e, few)) in
     (few, subst grammar.HasNoRequest same h.0, subst grammar.MayBecomeRequest same h.1)
 
--- a head that fails does so whatever follows
+-- a head that fails does so in every continuation
 pub request_head_fails_more : (buf more : List ℕ) (e : MessageFault) → RequestHeadFails buf (as_request e)
     → RequestHeadFails (buf ++ more) (as_request e)
 request_head_fails_more buf more message_fault.Bad h =
@@ -144,7 +144,7 @@ request_head_fails_more buf more message_fault.HeadTooLarge (inr (full, none, ma
 request_head_fails_more buf more message_fault.TooLarge h = h
 request_head_fails_more buf more message_fault.OutOfMemory h = tt
 
--- a head of the first bytes is one of all
+-- a head that begins the first bytes begins all bytes
 pub front_request_head : (bytes : List ℕ) (m n : ℕ) (head : RequestHead) → n ≤ length (take m bytes)
     → ReadsRequestHead (take m bytes) head (drop n (take m bytes))
     → ReadsRequestHead bytes head (drop n bytes)

@@ -1,4 +1,4 @@
--- Where a request is at the front, no fault of the input stands.
+-- An input that begins with a request has no fault of the input.
 use Rattle.std.proofs.Common.{◌≡◌, ℕ, true, List, [], length, take, drop, refl, ap, sym, ◌∙◌, arith, subst, Option, Ok, Err, inl, inr}
 use Rattle.std.proofs.lemmas.List.{append-nil}
 use Rattle.httparse.specs.Grammar as grammar
@@ -17,7 +17,7 @@ use Rattle.bg_http_read.specs.RequestHeads.{request_parts, ReadsRequestHead}
 use Rattle.bg_http_read.specs.Requests.{ReadsRequest, ReadsRequestBody, FramedBodyFails, RequestBodyFails, RequestFails}
 use Rattle.bg_http_read.proofs.BodyOrFault.{text_in_front, body_or_fault, length_or_fault}
 
--- two heads at one front are one
+-- an input begins with at most one head
 pub one_request_head : (input : List ℕ) (one other : RequestHead) (a b : List ℕ)
     → ReadsRequestHead input one a → ReadsRequestHead input other b → (one ≡ other) × (a ≡ b)
 one_request_head input one other a b h k =

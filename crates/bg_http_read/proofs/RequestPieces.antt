@@ -15,14 +15,14 @@ use Rattle.bg_http_read.proofs.FedRequests.{fails_at_all, judged_more}
 use Rattle.bg_http_read.proofs.Pieces.{Came, ended_input, whole_input}
 use Rattle.bg_http_read.proofs.RequestsRead.{continue_kept, wrote_for}
 
--- what is owed stays owed
+-- `100 Continue` stays owed if more bytes come
 pub owes_more : (asked : Bool) (seen bytes : List ℕ) → OwesIf asked seen
     → OwesIf asked (seen ++ bytes)
 owes_more asked seen bytes h is more =
     subst (λ l. AfterHead l (λ head framing after. owes_continue head framing ≡ true))
     (sym (append_assoc seen bytes more)) (h is (bytes ++ more))
 
--- what was asked for and written is what the head is owed
+-- what was asked for and written is what is owed to the head
 pub wrote_fault : (asked : Bool) (seen : List ℕ) (input old new : Option (List ℕ))
     (e : RequestFault) → FailsAsked asked seen e → IfSome input (λ i. FailsAsked asked i e)
     → WritesContinue asked old new → WroteFor input old new (Err e)
@@ -80,7 +80,7 @@ pub fault_of : (asked : Bool) (input : Option (List ℕ)) (e : RequestFault)
 fault_of asked None e h = tt
 fault_of asked (Some i) e h = fails_at_all asked i e h
 
--- where reading failed, nothing is said of the input
+-- if a read failed, nothing is said about the input
 pub no_reading : (input : Option (List ℕ)) → IfSome input (λ i. RequestFails i fault.ReadFailed)
 no_reading None = tt
 no_reading (Some i) = inl (inr tt)
@@ -114,7 +114,7 @@ wrote_reading true seen first left old new came owed wrote =
               (subst (λ l. JudgedHead l at.head at.framing at.after) (append-nil seen) at.begins)),
         )
 
--- what the head is owed could not be written
+-- what is owed to the head could not be written
 pub no_writing : (seen : List ℕ) (first left : Option (List ℕ)) (e : RequestFault)
     → Leaves (Came seen) first left → e ≡ fault.WriteFailed → OwesContinue seen
     → IfSome first (λ i. RequestFails i e)
@@ -125,7 +125,7 @@ pub wrote_unsaid : (first old new : Option (List ℕ)) (e : RequestFault)
     → e ≡ fault.WriteFailed → WroteFor first old new (Err e)
 wrote_unsaid first old new e is = subst (λ f. WroteFor first old new (Err f)) (sym is) tt
 
--- what is owed was written, and the body is gone on with
+-- what is owed was written, and reading the body goes on
 pub went_on : (seen : List ℕ) (first now : Option (List ℕ))
     (r : Result (Option Request) RequestFault) (old new : RequestState) → old.seen ≡ seen
     → IsTrue old.is_open → old.asked ≡ true → OwesContinue seen → WritesContinue true first now
@@ -143,7 +143,7 @@ went_on seen first now (Ok None) old new same is_open asked owed wrote read more
 went_on seen first now (Err e) old new same is_open asked owed wrote read more refused =
     inl (true, subst (IsRefusedAsked true e) same refused, wrote)
 
--- what came of the end of the input
+-- the result of the end of the input
 pub ended_wrote : (asked : Bool) (seen : List ℕ) (first left old new : Option (List ℕ))
     (r : Result Request RequestFault) → Leaves (Came seen) first left → IsAtEnd left
     → WritesContinue asked old new → IfOk r (λ request. ReadsAsked asked request seen)
@@ -164,7 +164,7 @@ ended_fault asked seen first left (Err e) came end refused =
     fault_of asked first e
     (ended_input (λ i. FailsAsked asked i e) seen first left came end refused)
 
--- what came of a piece that brought a fault
+-- the result of a piece with a fault
 pub piece_fault : (seen : List ℕ) (first left old new : Option (List ℕ)) (e : RequestFault)
     (state : RequestState) → Leaves (Came seen) first left → PieceTo seen old new (Err e) state
     → IfSome first (λ i. RequestFails i e)
@@ -182,13 +182,13 @@ piece_wrote seen first left old new e state came (inl (asked, refused, wrote)) =
 piece_wrote seen first left old new e state came (inr (is, owed)) =
     wrote_unsaid first old new e is
 
--- what was written is still all
+-- nothing more was written
 pub writes_kept : (asked : Bool) (old new last : Option (List ℕ)) → WritesContinue asked old new
     → Keeps new last → WritesContinue asked old last
 writes_kept asked old new last wrote kept =
     continue_kept asked old old new last (Keeps-refl old) wrote kept
 
--- where bytes went straight into a body, what was written is still all, and what is owed stays owed
+-- after a read directly into a body nothing more was written, and what is owed stays owed
 pub wrote_straight : (was now : RequestState) (came : List ℕ) (old new last : Option (List ℕ))
     → now ≡ record was { seen = was.seen ++ came } → WritesContinue was.asked old new
     → Keeps new last → WritesContinue now.asked old last

@@ -14,7 +14,7 @@ use Rattle.bg_http_read.specs.declared.request_step.RequestStep.TheVariants as s
 use Rattle.bg_http_read.proofs.FedRequests.{cut_off_lacks}
 use Rattle.bg_http_read.proofs.States.{request_state, same_request}
 
--- a fault that is known is what is answered
+-- the answer is the fault that is known
 pub fed_err : (asked : Bool) (seen : List ℕ) (r : Result RequestStep RequestFault)
     (feed : RequestFeed) (e : RequestFault) → IsErrAnd r (λ f. f ≡ e)
     → IsRefusedAsked asked e seen → FedTo asked seen r feed
@@ -22,18 +22,18 @@ fed_err asked seen (Ok at) feed e is refused = absurd is
 fed_err asked seen (Err f) feed e is refused =
     subst (λ f. IsRefusedAsked asked f seen) (sym is) refused
 
--- what is asked for is the same
+-- whether `100 Continue` was asked for is the same
 pub fed_asked : (one other : Bool) (seen : List ℕ) (r : Result RequestStep RequestFault)
     (feed : RequestFeed) → one ≡ other → FedTo one seen r feed → FedTo other seen r feed
 fed_asked one other seen r feed same h = subst (λ asked. FedTo asked seen r feed) same h
 
--- a head that is looked for was not owed anything yet
+-- nothing was asked for while the head is looked for
 head_unasked : (old : RequestStage) → is_head old ≡ true → was_asked old ≡ false
 head_unasked (part.Head end) h = refl
 head_unasked (part.Body p) h = cc
 head_unasked part.Done h = cc
 
--- what came of the bytes that wait is what came of all that was fed
+-- the result of the bytes that wait is the result of all bytes that were fed
 pub advanced : (old : RequestStage) (seen left : List ℕ) (at : RequestStep) (feed : RequestFeed)
     → waiting feed.intake ≡ left → AdvancesTo old seen left at feed.progress.stage
     → FedTo (was_asked old) seen (Ok at) feed
@@ -50,7 +50,7 @@ advanced old seen left step.More feed waits (cut, at, asked) = (
   asked,
 )
 
--- what holds whatever follows holds where nothing does
+-- a fact about every continuation of the bytes holds for the bytes alone
 pub read_here : (asked : Bool) (request : Request) (seen : List ℕ)
     → IsReadAsked asked request seen → ReadsAsked asked request seen
 read_here asked request seen h = subst (ReadsAsked asked request) (append-nil seen) (h [])
@@ -73,7 +73,7 @@ advanced_whole old seen left step.More feed new whole h = cc
 advanced_whole old seen left step.Continue feed new whole h = cc
 advanced_whole old seen left (step.Whole request) feed new whole h = h
 
--- what came of an input that ends, by its parts
+-- the result of an input that ends, by its parts
 pub ends_read : (asked : Bool) (seen : List ℕ) (r : Result Request RequestFault)
     → EndsTo asked seen r → IfOk r (λ request. ReadsAsked asked request seen)
 ends_read asked seen (Ok request) h = h
@@ -84,7 +84,7 @@ pub ends_refused : (asked : Bool) (seen : List ℕ) (r : Result Request RequestF
 ends_refused asked seen (Ok request) h = tt
 ends_refused asked seen (Err e) h = h
 
--- a request that is whole is read
+-- a complete request was read
 pub fed_whole : (asked : Bool) (seen : List ℕ) (r : Result RequestStep RequestFault)
     (feed : RequestFeed) → FedTo asked seen r feed
     → IfOk r (λ at. IfWhole at (λ request. IsReadAsked asked request seen))
@@ -93,7 +93,7 @@ fed_whole asked seen (Ok step.Continue) feed h = tt
 fed_whole asked seen (Ok (step.Whole request)) feed h = h
 fed_whole asked seen (Err e) feed h = tt
 
--- where more is needed, only more bytes came
+-- if more bytes are needed, only the bytes that came have changed
 pub fed_more : (state : RequestState) (seen came : List ℕ) (r : Result RequestStep RequestFault)
     (feed : RequestFeed) (is_open : Bool) → came ≡ seen → is_open ≡ goes_on r
     → state.is_open ≡ true → FedTo state.asked seen r feed

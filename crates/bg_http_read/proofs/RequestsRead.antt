@@ -1,4 +1,4 @@
--- What is written while a request is read.
+-- The bytes that are written while a request is read.
 use Rattle.std.proofs.Common.{Bool, true, false, ℕ, List, ◌++◌, ap, ◌∙◌, Option, Some, None, Err}
 use Rattle.std.proofs.KnownBytes.{Appends-kept, Keeps-trans}
 use Rattle.std.specs.Io.KnownBytes.{Appends, Keeps}
@@ -6,7 +6,7 @@ use Rattle.bg_http.specs.declared.request_fault.RequestFault.{RequestFault}
 use Rattle.bg_http.specs.declared.request_fault.RequestFault.TheVariants as fault
 use Rattle.bg_http_read.specs.Requests.{WroteOnFault, continue_text, WritesContinue, WroteFor}
 
--- on a fault nothing was written, or what the head is owed
+-- on a fault nothing was written, or what is owed to the head was written
 pub wrote_for : (input old new : Option (List ℕ)) (e : RequestFault)
     → WroteOnFault input old new e → WroteFor input old new (Err e)
 wrote_for input old new fault.ReadFailed h = h

@@ -1,4 +1,4 @@
--- What the bytes so far tell of the head of a response.
+-- What the bytes that came say about the head of a response.
 use Rattle.std.proofs.Common.{◌≡◌, ℕ, ◌<◌, ◌≤◌, List, [], ◌++◌, length, take, drop, map, ap, sym, ◌∙◌, arith, append_assoc, take-append-drop, take_all, min, subst, inl, inr, Result, Ok, Err, OnErr}
 use Rattle.std.proofs.lemmas.List.{length-map, length-take, length-append, drop-append-le, take-append-le}
 use Rattle.httparse.specs.Grammar as grammar
@@ -18,7 +18,7 @@ use Rattle.bg_http_read.specs.declared.message_fault.MessageFault.TheVariants as
 use Rattle.bg_http_read.proofs.Fronts.{front_is, front_grows}
 use Rattle.bg_http_read.proofs.HeadLengths.{response_long}
 
--- as many fields were found as the head has
+-- the number of fields that were found is that of the head
 pub response_fields : (buf : List ℕ) (headers : List HeaderSpan) (r : ResponseSpans)
     (h : grammar.ResponseHead) → IsResponseWithin buf headers r → IsResponseAt buf headers r h
     → length h.fields ≡ r.headers
@@ -54,7 +54,7 @@ whole_response_head buf headers r within h size few reason fields m f =
       head_is = cc;
     }
 
--- a head stays one, whatever follows
+-- an input that begins with a head does so in every continuation
 pub response_head_more : (buf more : List ℕ) (head : ResponseHead) (rest : List ℕ)
     → ReadsResponseHead buf head rest → ReadsResponseHead (buf ++ more) head (rest ++ more)
 response_head_more buf more head rest h = record {
@@ -65,7 +65,7 @@ response_head_more buf more head rest h = record {
   head_is = h.head_is;
 }
 
--- a head of many fields is too large
+-- a head of more than 64 fields is too large
 pub many_response_fields : (buf : List ℕ) (h : grammar.ResponseHead) (rest : List ℕ)
     → grammar.ReadsResponse buf h rest → 64 < length h.fields → length buf ≤ 16384
     → ResponseHeadIsLarge buf
@@ -73,13 +73,13 @@ many_response_fields buf h rest reads many short =
     let same = take_all 16384 buf short in
     inl (h, rest, subst (λ l. grammar.ReadsResponse l h rest) (sym same) reads, many)
 
--- few bytes that can become no head are none
+-- bytes that can't become a head are malformed if they are within the limit
 pub malformed_response_head : (buf : List ℕ) → length buf ≤ 16384 → grammar.NeverHasResponse buf
     → ResponseHeadIsMalformed buf
 malformed_response_head buf short h =
     subst grammar.NeverHasResponse (sym (take_all 16384 buf short)) h
 
--- so few bytes have no head of so many fields
+-- bytes within the limit have no head with more fields than the room
 pub no_crowded_response : (buf : List ℕ) (room : ℕ) → length buf ≤ 16384 → 5461 ≤ room
     → ResponseExceeds room buf → ⊥
 no_crowded_response buf room short many (front, rest, whole, h, reads, above) =
@@ -90,7 +90,7 @@ no_crowded_response buf room short many (front, rest, whole, h, reads, above) =
     let front_fits = length-append front rest in
     omega (arith, text, printed, ends, all, front_fits, ap length whole, short, many, above)
 
--- in a room for each field that fits, an error says that the bytes are no head
+-- if the room is large enough for every field, an error says that the bytes can't become a head
 pub refused_response : (buf : List ℕ) (room : ℕ)
     (parsed : Result (Status ResponseSpans) Error) → length buf ≤ 16384 → 5461 ≤ room
     → OnInvalid parsed (grammar.NeverHasResponse buf)
@@ -100,7 +100,7 @@ refused_response buf room (Ok found) short many invalid crowded = tt
 refused_response buf room (Err e) short many invalid crowded =
     invalid (λ same. no_crowded_response buf room short many (crowded (ap Err same)))
 
--- where 16,384 bytes are the beginning of a head and hold none, it is too large
+-- if 16,384 bytes are the beginning of a head and have no complete one, it is too large
 pub full_response_head : (bytes : List ℕ) (m : ℕ) → m ≡ min (length bytes) 16384
     → 16384 ≤ length bytes
     → grammar.HasNoResponse (take m bytes) × grammar.MayBecomeResponse (take m bytes)
@@ -109,7 +109,7 @@ full_response_head bytes m e full h =
     let same = front_is bytes m 16384 e in
     inr (full, subst grammar.HasNoResponse same h.0, subst grammar.MayBecomeResponse same h.1)
 
--- where there are fewer, it is cut
+-- if there are fewer bytes, the head is cut off
 pub open_response_head : (bytes : List ℕ) (m : ℕ) → m ≡ min (length bytes) 16384
     → length bytes < 16384
     → grammar.HasNoResponse (take m bytes) × grammar.MayBecomeResponse (take m bytes)
@@ -118,7 +118,7 @@ open_response_head bytes m e few h =
     let same : take m bytes ≡ bytes = take_all m bytes (omega (arith, e, few)) in
     (few, subst grammar.HasNoResponse same h.0, subst grammar.MayBecomeResponse same h.1)
 
--- a head that fails does so whatever follows
+-- a head that fails does so in every continuation
 pub response_head_fails_more : (buf more : List ℕ) (e : MessageFault) → ResponseHeadFails buf (as_response e)
     → ResponseHeadFails (buf ++ more) (as_response e)
 response_head_fails_more buf more message_fault.Bad h =
@@ -143,7 +143,7 @@ response_head_fails_more buf more message_fault.HeadTooLarge (inr (full, none, m
 response_head_fails_more buf more message_fault.TooLarge h = h
 response_head_fails_more buf more message_fault.OutOfMemory h = tt
 
--- a head of the first bytes is one of all
+-- a head that begins the first bytes begins all bytes
 pub front_response_head : (bytes : List ℕ) (m n : ℕ) (head : ResponseHead) → n ≤ length (take m bytes)
     → ReadsResponseHead (take m bytes) head (drop n (take m bytes))
     → ReadsResponseHead bytes head (drop n bytes)

@@ -1,4 +1,4 @@
--- Where a response is at the front, no fault of the input stands.
+-- An input that begins with a response has no fault of the input.
 use Rattle.std.proofs.Common.{◌≡◌, ◌⊎◌, ℕ, ◌≤◌, true, List, [], length, take, drop, refl, ap, sym, ◌∙◌, arith, subst, Ok, Err, inl, inr}
 use Rattle.std.proofs.lemmas.List.{append-nil}
 use Rattle.httparse.specs.Grammar as grammar

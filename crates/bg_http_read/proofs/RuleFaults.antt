@@ -1,4 +1,4 @@
--- The rules of a request's head give no fault of a stream.
+-- The rules of a request's head give no fault of the stream.
 use Rattle.std.proofs.Common.{◌≡◌, Bool, true, false, if◌then◌else◌, not, ◌&&◌, ◌||◌, ◌==◌, codes, length, nat_lt, IsFalse, ℕ, Option, Some, None, Err, IfErr, IfSome, refl, subst}
 use Rattle.std.specs.Prelude.{count_by}
 use Rattle.std.specs.Result.{result_err}

@@ -1,4 +1,4 @@
--- What the parsers stand for, by its parts.
+-- The states of the parsers, by their parts.
 use Rattle.std.proofs.Common.{◌≡◌, Bool, ℕ, List, [], ◌++◌, refl}
 use Rattle.std.proofs.lemmas.List.{append-nil}
 use Rattle.bg_http.specs.declared.request.Request.{Request}
@@ -22,7 +22,7 @@ pub same_request : (seen came : List ℕ) (asked owed : Bool) (is_open was : Boo
     → request_state seen asked is_open ≡ request_state came owed was
 same_request seen came asked owed is_open was h k e = cc
 
--- where nothing came, nothing changes
+-- if no byte came, nothing changes
 pub request_as_it_was : (state : RequestState)
     → request_state (state.seen ++ []) state.asked state.is_open ≡ state
 request_as_it_was state =

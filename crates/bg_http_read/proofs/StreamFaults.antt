@@ -1,4 +1,4 @@
--- Which faults are those of a stream.
+-- The faults that are faults of the stream.
 use Rattle.std.proofs.Common.{◌≡◌, Bool, true, false, if◌then◌else◌, not, ◌&&◌, ◌==◌, codes, IsFalse, ℕ, Option, Some, None, Result, Ok, Err, IfErr, refl, subst, sym}
 use Rattle.std.specs.Result.{IsErrAnd}
 use Rattle.bg_http.specs.Codings.{codings}
@@ -13,7 +13,7 @@ use Rattle.bg_http.specs.declared.response_rules.ResponseFraming.{ResponseFramin
 use Rattle.bg_http.specs.declared.response_rules.ResponseFraming.TheVariants as framing
 use Rattle.bg_http_read.specs.ResponseStates.{is_of_stream}
 
--- what holds of the fault that is known holds of the fault of an answer
+-- a fact about the fault that is known holds for the fault of the answer
 pub if_err_is : {T E : Type 0} (P : E → Type 0) (r : Result T E) (e : E)
     → IsErrAnd r (λ f. f ≡ e) → P e → IfErr r P
 if_err_is P (Ok x) e h p = tt
@@ -53,7 +53,7 @@ judged request head =
     (by_coding (not (head.minor == 0) && is_chunked_only (codings head.fields)))
     (by_length (content_length head.fields))
 
--- the rules of heads give none of a stream
+-- the rules of heads give no fault of the stream
 pub judged_of_bytes : (request : Request) (head : ResponseHead) (e : ResponseFault)
     → response_framing request head ≡ Err e → IsFalse (is_of_stream e)
 judged_of_bytes request head e h = subst IsOfBytes h (judged request head)

@@ -1,4 +1,4 @@
--- Trailers at the front of bytes.
+-- Trailers at the beginning of bytes.
 use Rattle.std.proofs.Common.{◌≡◌, ℕ, ◌<◌, ◌≤◌, List, [], ◌++◌, length, take, drop, ap, sym, ◌∙◌, arith, append_assoc, take-append-drop, take_all, min, subst, inl, inr}
 use Rattle.std.proofs.lemmas.List.{append-nil, length-take, length-append, length-map, take-append-le}
 use Rattle.std.specs.List.{flat_map}
@@ -21,7 +21,7 @@ section_some fields last =
     end_some crlf = omega arith
     end_some lf = omega arith
 
--- the trailers at the front of the first bytes are those at the front of all
+-- the trailers that begin the first bytes begin all bytes
 pub trailers_front : (bytes : List ℕ) (m : ℕ) (headers : List HeaderSpan) (n count : ℕ)
     (fields : List Field) (last : LineEnd) → m ≤ 16384 → count ≤ length headers
     → length headers ≡ 64 → IsSectionAt (take m bytes) 0 headers n count fields last
@@ -53,17 +53,17 @@ trailers_front bytes m headers n count fields last few fits_count room at =
       (omega (arith, some, len_is), omega (arith, fits, len_is)),
     )
 
--- where the first bytes can't become trailers of few fields, none come
+-- if the first bytes can't become trailers of at most 64 fields, no trailers come
 pub never_trailers : (bytes : List ℕ) (m : ℕ) → m ≡ min (length bytes) 16384
     → SectionOverflows 64 (take m bytes) → TrailersFail malformed bytes
 never_trailers bytes m e h = inl (subst (SectionOverflows 64) (front_is bytes m 16384 e) h)
 
--- where 16,384 bytes hold no trailers, none come
+-- if 16,384 bytes have no complete trailers, no trailers come
 pub full_trailers : (bytes : List ℕ) (m : ℕ) → m ≡ min (length bytes) 16384
     → 16384 ≤ length bytes → HasNoSection (take m bytes) → TrailersFail malformed bytes
 full_trailers bytes m e full h = inr (full, subst HasNoSection (front_is bytes m 16384 e) h)
 
--- where fewer bytes hold no trailers, some may come
+-- if fewer bytes have no complete trailers, trailers may come
 pub open_trailers : (bytes : List ℕ) (m : ℕ) → m ≡ min (length bytes) 16384
     → length bytes < 16384 → HasNoSection (take m bytes) → MayBecomeSection (take m bytes)
     → TrailersFail cut bytes
@@ -71,7 +71,7 @@ open_trailers bytes m e few none may =
     let same : take m bytes ≡ bytes = take_all m bytes (omega (arith, e, few)) in
     (few, subst HasNoSection same none, subst MayBecomeSection same may)
 
--- where none come, none do whatever follows
+-- if no trailers come, none come in any continuation
 pub malformed_trailers_more : (bytes more : List ℕ) → TrailersFail malformed bytes
     → TrailersFail malformed (bytes ++ more)
 malformed_trailers_more bytes more (inl h) =
@@ -83,12 +83,12 @@ malformed_trailers_more bytes more (inr (full, none)) =
       subst HasNoSection (sym (take-append-le 16384 bytes more full)) none,
     )
 
--- two sections at one front are one
+-- an input begins with at most one section of trailers
 pub one_section : (input a b : List ℕ) → ReadsTrailers input a → ReadsTrailers input b → a ≡ b
 one_section input a b p q =
     (section_unique input p.fields q.fields p.last q.last a b p.reads q.reads).2
 
--- trailers stay what they are, whatever follows
+-- an input that begins with trailers does so in every continuation
 pub trailers_more : (input more rest : List ℕ) → ReadsTrailers input rest
     → ReadsTrailers (input ++ more) (rest ++ more)
 trailers_more input more rest p = record {

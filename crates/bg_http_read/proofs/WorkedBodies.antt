@@ -1,4 +1,4 @@
--- Worked bodies: each place at which the text of a body ends or fails.
+-- Worked bodies, one for each place at which the text of a body ends or fails.
 use Rattle.std.proofs.Common.{◌≡◌, ℕ, ◌++◌, List, [], ◌∷◌, length, codes, IsTrue, None, refl, arith, ap}
 use Rattle.std.proofs.lemmas.List.{length-append}
 use Rattle.std.proofs.lemmas.List.Elements.{All-nil, All-cons}
@@ -9,7 +9,7 @@ use Rattle.bg_http_read.specs.BodyFaults.{malformed, large, cut, at_line, at_siz
 use Rattle.bg_http_read.specs.Chunks.{ReadsLine, ReadsChunk, ReadsChunks}
 use Rattle.bg_http_read.proofs.ChunkLines.{line_some}
 
--- the line of a chunk of two bytes, and that of the last chunk
+-- the line of a chunk of two bytes, and the line of the last chunk
 abbrev two : ChunkLine
 two = record { digits = codes "2"; pad = []; extension = None }
 
@@ -54,7 +54,7 @@ chunk_then rest = record {
   bytes_are = refl;
 }
 
--- a body of one chunk without trailers, and what comes after it
+-- a body of one chunk without trailers, and the bytes after it
 whole_body : ReadsChunks (codes "2\r\nab\r\n0\r\n\r\nGET") (codes "ab") (codes "GET")
 whole_body = record {
   chunks = codes "ab" ∷ [];
@@ -76,7 +76,7 @@ whole_body = record {
   body_is = refl;
 }
 
--- the line brings the body above the limit, at the first chunk and at the second
+-- the line of the first chunk, or of the second, brings the body above the limit
 above_at_once : ChunksFail large 1 0 (codes "2\r\n")
 above_at_once = record {
   chunks = [];
@@ -91,7 +91,7 @@ above_later = record {
   leads = (codes "2\r\n", chunk_then (codes "2\r\n"), at_size 2 [] (two_then []) refl (omega arith));
 }
 
--- at the limit a chunk fits, and what is missing is cut
+-- a chunk at the limit fits, and a body with missing bytes is cut off
 cut_in_data : ChunksFail cut 2 0 (codes "2\r\na")
 cut_in_data = record {
   chunks = [];
@@ -108,7 +108,7 @@ cut_after_data = record {
       (codes "\n", omega arith, refl);
 }
 
--- what isn't CR LF after the data is malformed
+-- bytes other than CR LF after the data are malformed
 wrong_after_data : ChunksFail malformed 2 0 (codes "2\r\nabc")
 wrong_after_data = record {
   chunks = [];
@@ -120,7 +120,7 @@ wrong_after_data = record {
     other : (more after : List ℕ) → codes "c" ++ more ≡ codes "\r\n" ++ after → ⊥
     other more after e = cc
 
--- where nothing comes, the line is cut
+-- the line is cut off if no byte comes
 no_line : HasNoChunkLine []
 no_line line rest reads =
     let some = line_some line in
@@ -134,7 +134,7 @@ cut_at_once = record {
   leads = at_line (omega arith, no_line, (codes "2\r\n", two, (is_two, refl)));
 }
 
--- lengths and ends
+-- bodies of a length, and bodies that go to the end of the input
 cut_length : LengthFails cut 3 (codes "ab")
 cut_length = omega arith
 

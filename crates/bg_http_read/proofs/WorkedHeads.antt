@@ -1,4 +1,4 @@
--- Worked heads of responses: a whole one, one that is cut, and one that is malformed.
+-- Worked heads of responses: one complete, one cut off, and one malformed.
 use Rattle.std.proofs.Common.{◌≡◌, ℕ, ◌++◌, List, [], ◌∷◌, length, codes, Some, get_or, refl, arith, ap}
 use Rattle.std.proofs.lemmas.List.{length-append}
 use Rattle.std.proofs.lemmas.List.Elements.{All-nil}
@@ -40,7 +40,7 @@ plain_head = record {
   head_is = refl;
 }
 
--- without its empty line it is cut
+-- a head without its empty line is cut off
 abbrev begun : List ℕ
 begun = codes "HTTP/1.1 200 OK\r\n"
 
@@ -62,7 +62,7 @@ cut_head = (omega arith, none, (codes "\r\n", plain, (is_plain, whole)))
         let printed = length-append (grammar.print_response head) rest in
         omega (arith, long, size_of_plain, printed, ap length reads.1)
 
--- a head begins with an end of a line, or with its version
+-- bytes that begin neither with a line end nor with a version are malformed
 malformed_head : ResponseHeadIsMalformed (codes "x")
 unfolding httparse_on_literals
 malformed_head more head rest reads = other head.blank reads.1

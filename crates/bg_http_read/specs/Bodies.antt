@@ -1,4 +1,4 @@
--- What a body's parser has still to read.
+-- The input that a body's parser has still to read.
 use Rattle.std.specs.Prelude.{◌≡◌, ◌⊎◌, ℕ, ◌≤◌, ◌+◌, ◌-◌, Bool, true, false, ◌==◌, IsFalse, List, [], ◌++◌, length, drop, ⊤}
 use Rattle.httparse.specs.Ascii.{crlf_bytes}
 use Rattle.bg_http_read.specs.BodyFaults.{Failure, malformed, large, cut, ChunksFail, LengthFails, LineEndFails, TrailersFail, EndFails}
@@ -9,20 +9,20 @@ use Rattle.bg_http_read.specs.declared.body.Body.{Body}
 use Rattle.bg_http_read.specs.declared.message_fault.MessageFault.{MessageFault}
 use Rattle.bg_http_read.specs.declared.message_fault.MessageFault.TheVariants as fault
 
--- the input begins with so many bytes, which end the body, and then comes the rest
+-- the input is `size` bytes, which are the rest of the body, and then `rest`
 pub record ReadsLength (size : ℕ) (done input body rest : List ℕ) : Type 0 where
   pub bytes : List ℕ
   pub size_is : length bytes ≡ size
   pub input_is : input ≡ bytes ++ rest
   pub body_is : body ≡ done ++ bytes
 
--- the input begins with chunks, their end and trailers, which end the body, and then comes the rest
+-- the input is chunks, their end and trailers, which are the rest of the body, and then `rest`
 pub record ReadsMoreChunks (done input body rest : List ℕ) : Type 0 where
   pub bytes : List ℕ
   pub chunks : ReadsChunks input bytes rest
   pub body_is : body ≡ done ++ bytes
 
--- the input begins with so many bytes of a chunk and the end of its line; then come chunks
+-- the input begins with `size` bytes of a chunk and a line end; chunks follow
 pub record ReadsData (size : ℕ) (done input body rest : List ℕ) : Type 0 where
   pub bytes : List ℕ
   pub after : List ℕ
@@ -30,8 +30,8 @@ pub record ReadsData (size : ℕ) (done input body rest : List ℕ) : Type 0 whe
   pub input_is : input ≡ bytes ++ (crlf_bytes ++ after)
   pub chunks : ReadsMoreChunks (done ++ bytes) after body rest
 
--- from a stage on, after the bytes `done`, the input is the rest of the body `body` and what comes
--- after it
+-- at a stage, after the bytes `done`, the input is the rest of the body `body` and the bytes after
+-- it
 abbrev pub ReadsOn : Stage → List ℕ → List ℕ → List ℕ → List ℕ → Type 0
 ReadsOn (stage.Length left) done input body rest = ReadsLength left done input body rest
 ReadsOn stage.Line done input body rest = ReadsMoreChunks done input body rest
@@ -40,7 +40,7 @@ ReadsOn stage.Trailers done input body rest = ReadsTrailers input rest × (body 
 ReadsOn stage.ToTheEnd done input body rest = (rest ≡ []) × (body ≡ done ++ input)
 ReadsOn stage.Whole done input body rest = (input ≡ rest) × (body ≡ done)
 
--- so many bytes of a chunk come and the end of its line, and then the chunks fail
+-- the input begins with `size` bytes of a chunk and a line end, and then the chunks fail
 pub record FailsAfterData (failure : Failure) (limit sum size : ℕ) (input : List ℕ) : Type 0 where
   pub bytes : List ℕ
   pub after : List ℕ
@@ -48,7 +48,7 @@ pub record FailsAfterData (failure : Failure) (limit sum size : ℕ) (input : Li
   pub input_is : input ≡ bytes ++ (crlf_bytes ++ after)
   pub fails : ChunksFail failure limit (sum + size) after
 
--- from a stage on, after so many bytes, the input fails so
+-- at a stage, after this many bytes, the input fails with this failure
 abbrev pub FailsOn : Failure → ℕ → Stage → ℕ → List ℕ → Type 0
 FailsOn failure limit (stage.Length left) sum input = LengthFails failure left input
 FailsOn failure limit stage.Line sum input = ChunksFail failure limit sum input
@@ -58,7 +58,7 @@ FailsOn failure limit stage.Trailers sum input = TrailersFail failure input
 FailsOn failure limit stage.ToTheEnd sum input = EndFails failure (limit - sum) input
 FailsOn failure limit stage.Whole sum input = ⊥
 
--- nothing is missing
+-- the body is complete
 abbrev pub is_whole : Stage → Bool
 is_whole (stage.Length left) = left == 0
 is_whole stage.Line = false
@@ -67,7 +67,7 @@ is_whole stage.Trailers = false
 is_whole stage.ToTheEnd = false
 is_whole stage.Whole = true
 
--- the body may end where the input does
+-- the body may end at the end of the input
 abbrev pub can_end : Stage → Bool
 can_end (stage.Length left) = left == 0
 can_end stage.Line = false
@@ -76,7 +76,7 @@ can_end stage.Trailers = false
 can_end stage.ToTheEnd = true
 can_end stage.Whole = true
 
--- how many bytes are known to come
+-- the number of bytes that are known to come
 abbrev pub announced : Stage → ℕ
 announced (stage.Length left) = left
 announced stage.Line = 0
@@ -85,19 +85,20 @@ announced stage.Trailers = 0
 announced stage.ToTheEnd = 0
 announced stage.Whole = 0
 
--- the limit isn't passed, and won't be by what is known to come
+-- the bytes so far and those that are known to come do not exceed the limit
 abbrev pub KeepsLimit : Body → Type 0
 KeepsLimit parser = length parser.bytes.items + announced parser.stage ≤ parser.limit
 
--- nothing that a body is read by has changed
+-- the state that decides how a body is read has not changed
 pub record Unchanged (old new : Body) : Type 0 where
   pub limit : new.limit ≡ old.limit
   pub stage : new.stage ≡ old.stage
   pub bytes : new.bytes.items ≡ old.bytes.items
 
--- of the limit, two stages with the bytes before them, and bytes: the first bytes were taken, and
--- what was to be read of all, whatever follows, is what is still to be read of the others; where
--- none was taken, more are needed. Only what went to the end of the input does so
+-- for a limit, two stages with the bytes before them, and bytes: the first bytes were taken, and
+-- for every continuation, reading all bytes at the first stage is reading the others at the second
+-- stage. If none were taken, more are needed. The second stage goes to the end of the input only if
+-- the first does
 pub record TakesOn
     (limit : ℕ) (before : Stage) (done : List ℕ) (next : Stage) (now bytes : List ℕ) (count : ℕ)
     : Type 0 where
@@ -117,7 +118,7 @@ Takes old new bytes count =
     (new.limit ≡ old.limit)
     × TakesOn old.limit old.stage old.bytes.items new.stage new.bytes.items bytes count
 
--- what the parser has still to read
+-- the input that the parser has still to read
 abbrev pub Reads : Body → List ℕ → List ℕ → List ℕ → Type 0
 Reads parser input body rest = ReadsOn parser.stage parser.bytes.items input body rest
 
@@ -126,8 +127,8 @@ abbrev pub Fails : Body → Failure → List ℕ → Type 0
 Fails parser failure input =
     FailsOn failure parser.limit parser.stage (length parser.bytes.items) input
 
--- whatever follows, what a parser has to read of bytes is what another has to read of others, and
--- so it fails
+-- for every continuation, a parser reads the first bytes as the other parser reads the second
+-- bytes, and fails in the same way
 pub record Follows (one : Body) (first : List ℕ) (other : Body) (second : List ℕ) : Type 0 where
   pub read : (more body rest : List ℕ) → Reads other (second ++ more) body rest
       → Reads one (first ++ more) body rest
@@ -135,7 +136,7 @@ pub record Follows (one : Body) (first : List ℕ) (other : Body) (second : List
       → Fails one failure (first ++ more)
   pub ends : other.stage ≡ stage.ToTheEnd → one.stage ≡ stage.ToTheEnd
 
--- what a fault says of bytes, whatever follows them
+-- what a fault says about every continuation of bytes
 abbrev pub RefusesOn : ℕ → Stage → List ℕ → List ℕ → MessageFault → Type 0
 RefusesOn limit before done bytes fault.Bad =
     (more : List ℕ) → FailsOn malformed limit before (length done) (bytes ++ more)

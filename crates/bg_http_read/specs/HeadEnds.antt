@@ -1,9 +1,9 @@
--- Where a head may end: at the first empty line after a line with a byte in it.
+-- Where a head may end: at the first empty line after a line that is not empty.
 use Rattle.std.specs.Prelude.{ℕ, Bool, true, false, if◌then◌else◌, ◌==◌, ◌||◌, List, [], ◌∷◌}
 use Rattle.bg_http_read.specs.declared.head_end.HeadEnd.{HeadEnd}
 use Rattle.bg_http_read.specs.declared.head_end.HeadEnd.TheVariants.{Blank, Inside, LineStart, AfterCr, Over}
 
--- what one more byte makes of it
+-- the position after one more byte
 abbrev pub after_byte : HeadEnd → ℕ → HeadEnd
 after_byte Blank byte = if (byte == 10) || (byte == 13) then Blank else Inside
 after_byte Inside byte = if byte == 10 then LineStart else Inside
@@ -12,12 +12,12 @@ after_byte LineStart byte =
 after_byte AfterCr byte = if byte == 10 then Over else Inside
 after_byte Over byte = Over
 
--- what more bytes make of it
+-- the position after more bytes
 abbrev pub after_bytes : HeadEnd → List ℕ → HeadEnd
 after_bytes end [] = end
 after_bytes end (byte ∷ more) = after_bytes (after_byte end byte) more
 
--- an empty line came after a line with a byte in it
+-- an empty line came after a line that is not empty
 abbrev pub is_over : HeadEnd → Bool
 is_over Blank = false
 is_over Inside = false

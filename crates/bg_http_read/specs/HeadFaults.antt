@@ -1,4 +1,4 @@
--- What a fault says of an input that has no head.
+-- What a fault says about an input that has no head.
 use Rattle.std.specs.Prelude.{ℕ, List, ⊤}
 use Rattle.bg_http.specs.declared.request_fault.RequestFault.{RequestFault}
 use Rattle.bg_http.specs.declared.request_fault.RequestFault.TheVariants as request_fault
@@ -7,7 +7,7 @@ use Rattle.bg_http.specs.declared.response_fault.ResponseFault.TheVariants as re
 use Rattle.bg_http_read.specs.RequestHeads.{RequestHeadIsMalformed, RequestHeadIsLarge, RequestHeadIsCut}
 use Rattle.bg_http_read.specs.ResponseHeads.{ResponseHeadIsMalformed, ResponseHeadIsLarge, ResponseHeadIsCut}
 
--- what a fault says of an input that is to begin with the head of a request
+-- what a fault says about an input that should begin with the head of a request
 abbrev pub RequestHeadFails : List ℕ → RequestFault → Type 0
 RequestHeadFails input request_fault.ReadFailed = ⊤
 RequestHeadFails input request_fault.WriteFailed = ⊥

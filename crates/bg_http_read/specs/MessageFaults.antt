@@ -1,4 +1,4 @@
--- The fault of a message as one of a request, and as one of a response.
+-- The fault of a message, as a fault of a request and as a fault of a response.
 use Rattle.bg_http.specs.declared.request_fault.RequestFault.{RequestFault}
 use Rattle.bg_http.specs.declared.request_fault.RequestFault.TheVariants as request_fault
 use Rattle.bg_http.specs.declared.response_fault.ResponseFault.{ResponseFault}

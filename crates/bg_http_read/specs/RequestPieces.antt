@@ -1,4 +1,4 @@
--- What comes of a piece of a request, with what was written.
+-- The result of a piece of a request, and the bytes that were written.
 use Rattle.std.specs.Prelude.{◌≡◌, ◌⊎◌, Bool, IsTrue, List, ℕ, Option, Some, None, Result, Ok, Err}
 use Rattle.bg_http.specs.declared.request.Request.{Request}
 use Rattle.bg_http.specs.declared.request_fault.RequestFault.{RequestFault}
@@ -6,12 +6,12 @@ use Rattle.bg_http.specs.declared.request_fault.RequestFault.TheVariants as faul
 use Rattle.bg_http_read.specs.Requests.{WritesContinue}
 use Rattle.bg_http_read.specs.RequestStates.{IsReadAsked, IsRefusedAsked, OwesContinue, RequestState}
 
--- where `100 Continue` was asked for, it is owed
+-- if `100 Continue` was asked for, it is owed
 abbrev pub OwesIf : Bool → List ℕ → Type 0
 OwesIf asked seen = IsTrue asked → OwesContinue seen
 
--- of these bytes in all a request came, or a fault, or more is needed; what is owed was written
--- behind what was written first, unless that failed
+-- all these bytes give a request or a fault, or more bytes are needed; unless writing failed, what
+-- is owed was appended to what was written before
 abbrev pub PieceTo
     : List ℕ → Option (List ℕ) → Option (List ℕ) → Result (Option Request) RequestFault
     → RequestState → Type 0

@@ -1,4 +1,4 @@
--- A request that is read whole.
+-- A complete request.
 use Rattle.std.specs.Prelude.{◌≡◌, ◌⊎◌, ℕ, ◌≤◌, Bool, true, false, IfSome, List, [], ◌∷◌, ◌++◌, length, codes, Option, Some, None, Result, Ok, Err, ⊤}
 use Rattle.std.specs.Io.KnownBytes.{Appends, Keeps}
 use Rattle.bg_http.specs.RequestRules.{request_framing, owes_continue}
@@ -6,6 +6,7 @@ use Rattle.bg_http.specs.declared.request.Request.{Request}
 use Rattle.bg_http.specs.declared.request.RequestHead.{RequestHead}
 use Rattle.bg_http.specs.declared.request_rules.Framing.{Framing}
 use Rattle.bg_http.specs.declared.request_rules.Framing.TheVariants as framing
+use Rattle.bg_http.specs.declared.request_rules.TheConstants.{MOST_REQUEST_BODY}
 use Rattle.bg_http.specs.declared.request_fault.RequestFault.{RequestFault}
 use Rattle.bg_http.specs.declared.request_fault.RequestFault.TheVariants as fault
 use Rattle.bg_http_read.specs.BodyFaults.{Failure, malformed, large, cut, ChunksFail, LengthFails}
@@ -15,9 +16,9 @@ use Rattle.bg_http_read.specs.RequestHeads.{ReadsRequestHead}
 
 -- the most bytes that a request's body may have
 abbrev pub most_body : ℕ
-most_body = 1048576
+most_body = MOST_REQUEST_BODY
 
--- the input begins with the body that the framing names, and then comes the rest
+-- the input is the body that the framing names, and then `rest`
 abbrev pub ReadsRequestBody : Framing → List ℕ → Option (List ℕ) → List ℕ → Type 0
 ReadsRequestBody framing.NoBody input body rest = (body ≡ None) × (input ≡ rest)
 ReadsRequestBody framing.Chunks input body rest =
@@ -32,7 +33,7 @@ pub record JudgedHead (input : List ℕ) (head : RequestHead) (framing : Framing
   pub reads : ReadsRequestHead input head after
   pub judged : request_framing head ≡ Ok framing
 
--- the input begins with the request, and then comes the rest
+-- the input is the request, and then `rest`
 pub record ReadsRequest (input : List ℕ) (request : Request) (rest : List ℕ) : Type 0 where
   pub head : RequestHead
   pub framing : Framing
@@ -51,13 +52,14 @@ pub record BreaksRule (input : List ℕ) (fault : RequestFault) : Type 0 where
   pub reads : ReadsRequestHead input head after
   pub judged : request_framing head ≡ Err fault
 
--- what a fault says of an input that is to begin with a head: it begins with one that breaks a
--- rule, with this fault of the first; or it begins with none. Of the faults of the machine nothing
--- is said
+-- what a fault says about an input that should begin with a head: it begins with a head that breaks
+-- a rule, and this is the fault of the first rule that it breaks; or it does not begin with a head.
+-- Nothing is said about the faults of the machine
 abbrev pub HeadRefused : List ℕ → RequestFault → Type 0
 HeadRefused input fault = BreaksRule input fault ⊎ RequestHeadFails input fault
 
--- the input begins with a head that passes all rules, and of it and what comes after it this holds
+-- the input begins with a head that passes all rules, and `P` holds for the head and the bytes
+-- after it
 pub record AfterHead (input : List ℕ) (P : RequestHead → Framing → List ℕ → Type 0) : Type 0 where
   pub head : RequestHead
   pub framing : Framing
@@ -71,7 +73,7 @@ FramedBodyFails failure framing.NoBody input = ⊥
 FramedBodyFails failure framing.Chunks input = ChunksFail failure most_body 0 input
 FramedBodyFails failure (framing.Length size) input = LengthFails failure size input
 
--- what a fault says of the input of a body
+-- what a fault says about the input of a body
 abbrev pub RequestBodyFails : Framing → List ℕ → RequestFault → Type 0
 RequestBodyFails named input fault.ReadFailed = ⊤
 RequestBodyFails named input fault.WriteFailed = ⊥
@@ -87,13 +89,13 @@ abbrev pub BodyRefused : List ℕ → RequestFault → Type 0
 BodyRefused input fault =
     AfterHead input (λ head framing after. RequestBodyFails framing after fault)
 
--- the head passes all rules, and `100 Continue`, which it is owed, could not be written
+-- the head passes all rules, and `100 Continue`, which is owed to it, could not be written
 abbrev pub ContinueFails : List ℕ → RequestFault → Type 0
 ContinueFails input named =
     (named ≡ fault.WriteFailed)
     × AfterHead input (λ head framing after. owes_continue head framing ≡ true)
 
--- what a fault says of the input
+-- what a fault says about the input
 abbrev pub RequestFails : List ℕ → RequestFault → Type 0
 RequestFails input fault =
     HeadRefused input fault ⊎ (BodyRefused input fault ⊎ ContinueFails input fault)
@@ -102,25 +104,25 @@ RequestFails input fault =
 abbrev pub continue_text : List ℕ
 continue_text = codes "HTTP/1.1 100 Continue" ++ 13 ∷ 10 ∷ 13 ∷ 10 ∷ []
 
--- what is written where it is owed, and where it isn't
+-- what is written if it is owed, and if it is not
 abbrev pub WritesContinue : Bool → Option (List ℕ) → Option (List ℕ) → Type 0
 WritesContinue true old new = Appends old new continue_text
 WritesContinue false old new = Keeps old new
 
--- a head that passes all rules was read, and what it is owed was written
+-- a head that passes all rules was read, and what is owed to it was written
 pub record AnswersHead (input old new : Option (List ℕ)) : Type 0 where
   pub head : RequestHead
   pub framing : Framing
   pub begins : IfSome input (λ i. (after : List ℕ) × JudgedHead i head framing after)
   pub wrote : WritesContinue (owes_continue head framing) old new
 
--- on a fault nothing was written, where the head is refused, and otherwise what it is owed
+-- what was written on a fault: nothing if the head is refused, and otherwise what is owed to it
 abbrev pub WroteOnFault
     : Option (List ℕ) → Option (List ℕ) → Option (List ℕ) → RequestFault → Type 0
 WroteOnFault input old new fault =
     (Keeps old new × IfSome input (λ i. HeadRefused i fault)) ⊎ AnswersHead input old new
 
--- what was written; where writing failed, nothing is said
+-- what was written; nothing is said if writing failed
 abbrev pub WroteFor
     : Option (List ℕ) → Option (List ℕ) → Option (List ℕ) → Result Request RequestFault → Type 0
 WroteFor input old new (Ok request) = AnswersHead input old new

@@ -1,4 +1,4 @@
--- What was fed of a request, and what is still to be read of it.
+-- The bytes of a request that were fed, and those that are still to be read.
 use Rattle.std.specs.Prelude.{◌≡◌, Bool, true, false, ℕ, List, [], drop, Option, Some, None, Result, Ok, Err, ⊤}
 use Rattle.httparse.specs.Grammar.{HasNoRequest}
 use Rattle.bg_http.specs.RequestRules.{owes_continue}
@@ -24,26 +24,26 @@ use Rattle.bg_http_read.specs.declared.request_progress.RequestStage.TheVariants
 use Rattle.bg_http_read.specs.declared.request_step.RequestStep.{RequestStep}
 use Rattle.bg_http_read.specs.declared.request_step.RequestStep.TheVariants as step
 
--- what comes first of a body
+-- the first stage of a body
 abbrev pub first_stage : Framing → Stage
 first_stage framing.NoBody = stage.Length 0
 first_stage framing.Chunks = stage.Line
 first_stage (framing.Length size) = stage.Length size
 
--- how many bytes a body may have
+-- the maximum number of bytes of a body
 abbrev pub most_of : Framing → ℕ
 most_of framing.NoBody = 0
 most_of framing.Chunks = most_body
 most_of (framing.Length size) = size
 
--- nothing of the body that the framing names is there
+-- the state before the first byte of the body that the framing names
 pub record StartsBody (named : Framing) (body : Body) : Type 0 where
   pub stage_is : body.stage ≡ first_stage named
   pub none : body.bytes.items ≡ []
   pub limit_is : body.limit ≡ most_of named
 
--- the head was found in the bytes, and what was to be read of those after it is what the body has
--- still to read of those that wait
+-- the head was found in the bytes, and reading the body from the bytes after the head is reading
+-- its rest from the bytes that wait
 pub record IsFedBody (request : RequestBody) (waits seen : List ℕ) : Type 0 where
   pub after : List ℕ
   pub found : JudgedHead seen request.head request.framing after
@@ -62,32 +62,32 @@ IsOpenStage (part.Head end) = ⊤
 IsOpenStage (part.Body request) = KeepsLimit request.body
 IsOpenStage part.Done = ⊥
 
--- what waits for the end of the head was seen
+-- the bytes that wait for the end of the head were seen
 abbrev pub IsSeen : RequestStage → List ℕ → Type 0
 IsSeen (part.Head end) waits = end ≡ after_bytes head_end.Blank waits
 IsSeen (part.Body request) waits = ⊤
 IsSeen part.Done waits = ⊤
 
--- no head is whole of those that are looked for
+-- there is no complete head at a stage that waits for one
 abbrev pub LacksHead : RequestStage → List ℕ → Type 0
 LacksHead (part.Head end) waits = HasNoRequest waits
 LacksHead (part.Body request) waits = ⊤
 LacksHead part.Done waits = ⊤
 
--- these bytes were fed, of which some wait
+-- the bytes `seen` were fed, and the bytes `waits` of them wait
 pub record IsAt (at : RequestStage) (waits seen : List ℕ) : Type 0 where
   pub fed : IsFedStage at waits seen
   pub ready : IsOpenStage at
   pub sees : IsSeen at waits
   pub lacks : LacksHead at waits
 
--- bytes wait behind those that wait for the end of the head
+-- more bytes wait after those that wait for the end of the head
 abbrev pub stage_seen : RequestStage → List ℕ → RequestStage
 stage_seen (part.Head end) bytes = part.Head (after_bytes end bytes)
 stage_seen (part.Body request) bytes = part.Body request
 stage_seen part.Done bytes = part.Done
 
--- the head is looked for, and no empty line has come that may end it
+-- the stage waits for the head, and no empty line that may end it has come
 abbrev pub AwaitsHead : RequestStage → Type 0
 AwaitsHead (part.Head end) = is_over end ≡ false
 AwaitsHead (part.Body request) = ⊥
@@ -98,7 +98,7 @@ is_head (part.Head end) = true
 is_head (part.Body request) = false
 is_head part.Done = false
 
--- `100 Continue` was asked for, where it is owed
+-- `100 Continue` was asked for, if it is owed
 abbrev pub was_asked : RequestStage → Bool
 was_asked (part.Head end) = false
 was_asked (part.Body request) = owes_continue request.head request.framing
@@ -108,7 +108,8 @@ was_asked part.Done = false
 abbrev pub IsFed : RequestFeed → List ℕ → Type 0
 IsFed feed seen = IsAt feed.progress.stage (waiting feed.intake) seen
 
--- what came of bytes: a request; or the head, which is owed `100 Continue`; or more is needed
+-- the result of bytes: a request; or a head to which `100 Continue` is owed; or more bytes are
+-- needed
 abbrev pub AdvancesTo
     : RequestStage → List ℕ → List ℕ → RequestStep → RequestStage → Type 0
 AdvancesTo old seen left (step.Whole request) new = IsReadAsked (was_asked old) request seen
@@ -125,7 +126,7 @@ Advances old seen bytes (Ok advance) new =
     AdvancesTo old seen (drop advance.taken bytes) advance.step new
 Advances old seen bytes (Err named) new = IsRefusedAsked (was_asked old) named seen
 
--- what came of all that was fed
+-- the result of all bytes that were fed
 abbrev pub FedTo : Bool → List ℕ → Result RequestStep RequestFault → RequestFeed → Type 0
 FedTo asked seen (Ok (step.Whole request)) feed = IsReadAsked asked request seen
 FedTo asked seen (Ok step.Continue) feed =
@@ -134,7 +135,7 @@ FedTo asked seen (Ok step.More) feed =
     LacksRequest seen × IsFed feed seen × (was_asked feed.progress.stage ≡ asked)
 FedTo asked seen (Err named) feed = IsRefusedAsked asked named seen
 
--- what came of an input that ends
+-- the result of an input that ends
 abbrev pub EndsTo : Bool → List ℕ → Result Request RequestFault → Type 0
 EndsTo asked seen (Ok request) = ReadsAsked asked request seen
 EndsTo asked seen (Err named) = FailsAsked asked seen named
@@ -145,7 +146,7 @@ framed_body framing.NoBody bytes = None
 framed_body framing.Chunks bytes = Some bytes
 framed_body (framing.Length size) bytes = Some bytes
 
--- the request has the parts of the head, and the body as far as it was fed
+-- the request has the parts of the head, and the bytes of the body that were fed
 pub record HasParts (request : Request) (of : RequestBody) : Type 0 where
   pub method_is : request.method ≡ of.head.method
   pub target_is : request.target ≡ of.head.target

@@ -1,4 +1,4 @@
--- What the parser of a response stands for, and what it answers.
+-- The state of the parser of a response, and its answers.
 use Rattle.std.specs.Prelude.{◌≡◌, ◌⊎◌, Bool, true, false, ℕ, ◌≤◌, List, ◌++◌, length, Option, Some, None, Result, Ok, Err}
 use Rattle.bg_http.specs.declared.request.Request.{Request}
 use Rattle.bg_http.specs.declared.response.Response.{Response}
@@ -7,18 +7,18 @@ use Rattle.bg_http.specs.declared.response_fault.ResponseFault.TheVariants as fa
 use Rattle.bg_http.specs.declared.response_rules.ResponseFraming.TheVariants as framing
 use Rattle.bg_http_read.specs.Responses.{AfterInterim, FinalHeadThen, ReadsResponse, ResponseFails, most_response_body}
 
--- the request whose response is read, the bytes that came in all, and whether more of the input may
--- come, or its end
+-- the request whose response is read, all bytes that came, and whether more of the input, or its
+-- end, may come
 pub record ResponseState : Type 0 where
   pub request : Request
   pub seen : List ℕ
   pub is_open : Bool
 
--- whatever follows the bytes, they begin with the response
+-- every continuation of the bytes begins with the response
 abbrev pub IsRead : Request → Response → List ℕ → Type 0
 IsRead request response seen = (more : List ℕ) → ReadsResponse request response (seen ++ more)
 
--- whatever follows the bytes, they are at fault so
+-- every continuation of the bytes has this fault
 abbrev pub IsRefused : Request → ResponseFault → List ℕ → Type 0
 IsRefused request named seen = (more : List ℕ) → ResponseFails request (seen ++ more) named
 
@@ -29,15 +29,15 @@ GoesToTheEnd request seen =
     (FinalHeadThen request (λ named after. (named ≡ framing.ToTheEnd)
     × (length after ≤ most_response_body)))
 
--- no response is whole
+-- the bytes do not begin with a complete response
 abbrev pub LacksResponse : Request → List ℕ → Type 0
 LacksResponse request seen = (response : Response) → ¬ (ReadsResponse request response seen)
 
--- more bytes are needed: no response is whole, or it goes to the end of the input
+-- more bytes are needed: there is no complete response, or it goes to the end of the input
 abbrev pub NeedsMore : Request → List ℕ → Type 0
 NeedsMore request seen = LacksResponse request seen ⊎ GoesToTheEnd request seen
 
--- the fault is one of the stream, not of its bytes or of memory
+-- the fault is one of the stream, not of its bytes or of an allocation
 abbrev pub is_of_stream : ResponseFault → Bool
 is_of_stream fault.ReadFailed = true
 is_of_stream fault.HeadTooLarge = false
@@ -46,7 +46,7 @@ is_of_stream fault.TooLarge = false
 is_of_stream fault.Closed = true
 is_of_stream fault.OutOfMemory = false
 
--- neither an answer nor a fault was given
+-- the parser has given neither an answer nor a fault
 abbrev pub asks_more : Result (Option Response) ResponseFault → Bool
 asks_more (Ok None) = true
 asks_more (Ok (Some response)) = false

@@ -1,4 +1,4 @@
--- A response that is read whole.
+-- A complete response.
 use Rattle.std.specs.Prelude.{◌≡◌, Bool, true, false, IsFalse, ℕ, zero, suc, ◌≤◌, List, [], ◌++◌, length, Option, Some, None, Ok, Err, ⊤}
 use Rattle.std.specs.Fmt.{decimal}
 use Rattle.bg_http.specs.ResponseRules.{response_framing, length_told}
@@ -9,16 +9,18 @@ use Rattle.bg_http.specs.declared.response_fault.ResponseFault.{ResponseFault}
 use Rattle.bg_http.specs.declared.response_fault.ResponseFault.TheVariants as fault
 use Rattle.bg_http.specs.declared.response_rules.ResponseFraming.{ResponseFraming}
 use Rattle.bg_http.specs.declared.response_rules.ResponseFraming.TheVariants as framing
+use Rattle.bg_http.specs.declared.response_rules.TheConstants.{MOST_RESPONSE_BODY}
 use Rattle.bg_http_read.specs.BodyFaults.{Failure, malformed, large, cut, ChunksFail, LengthFails, EndFails}
 use Rattle.bg_http_read.specs.Chunks.{ReadsChunks}
 use Rattle.bg_http_read.specs.HeadFaults.{ResponseHeadFails}
 use Rattle.bg_http_read.specs.ResponseHeads.{ReadsResponseHead}
+use Rattle.bg_http_read.specs.declared.final_head.TheConstants.{MOST_INTERIM}
 
 -- the most bytes that a response's body may have
 abbrev pub most_response_body : ℕ
-most_response_body = 4194304
+most_response_body = MOST_RESPONSE_BODY
 
--- the input begins with the body that the framing names, and then comes the rest
+-- the input is the body that the framing names, and then `rest`
 abbrev pub ReadsResponseBody : ResponseFraming → List ℕ → List ℕ → List ℕ → Type 0
 ReadsResponseBody framing.Interim input body rest = ⊥
 ReadsResponseBody framing.NoBody input body rest = (body ≡ []) × (input ≡ rest)
@@ -39,7 +41,7 @@ FramedResponseBodyFails failure (framing.Length size) input = LengthFails failur
 FramedResponseBodyFails failure framing.ToTheEnd input =
     EndFails failure most_response_body input
 
--- what a fault says of the input of a body
+-- what a fault says about the input of a body
 abbrev pub ResponseBodyFails : ResponseFraming → List ℕ → ResponseFault → Type 0
 ResponseBodyFails named input fault.ReadFailed = ⊤
 ResponseBodyFails named input fault.HeadTooLarge = ⊥
@@ -48,7 +50,7 @@ ResponseBodyFails named input fault.TooLarge = FramedResponseBodyFails large nam
 ResponseBodyFails named input fault.Closed = FramedResponseBodyFails cut named input
 ResponseBodyFails named input fault.OutOfMemory = ⊤
 
--- the input begins with a head that is judged so
+-- the input begins with a head that is judged to have this framing
 pub record JudgedResponse
     (request : Request) (input : List ℕ) (head : ResponseHead) (named : ResponseFraming)
     (after : List ℕ) : Type 0 where
@@ -63,46 +65,47 @@ names_another framing.Chunks = false
 names_another (framing.Length size) = false
 names_another framing.ToTheEnd = false
 
--- the input begins with so many interim responses
+-- the input begins with this many interim responses
 abbrev pub SkipsInterim : Request → ℕ → List ℕ → List ℕ → Type 0
 SkipsInterim request zero input after = input ≡ after
 SkipsInterim request (suc count) input after =
     (before : List ℕ) × (head : ResponseHead) × SkipsInterim request count input before
     × JudgedResponse request before head framing.Interim after
 
--- after at most 16 interim responses, of what follows this holds
+-- `P` holds for the input after at most `MOST_INTERIM` interim responses
 pub record AfterInterim (request : Request) (input : List ℕ) (P : List ℕ → Type 0) : Type 0 where
   pub count : ℕ
-  pub few : count ≤ 16
+  pub few : count ≤ MOST_INTERIM
   pub after : List ℕ
   pub skips : SkipsInterim request count input after
   pub holds : P after
 
--- there are more interim responses than are taken
+-- there are more interim responses than are accepted
 abbrev pub HasManyInterim : Request → List ℕ → Type 0
-HasManyInterim request input = (after : List ℕ) × SkipsInterim request 17 input after
+HasManyInterim request input = (after : List ℕ) × SkipsInterim request (suc MOST_INTERIM) input after
 
--- the input is a head that isn't interim, and then the rest
+-- the input is the head of a final response, and then the rest
 abbrev pub IsFinalHead
     : Request → ResponseHead → ResponseFraming → List ℕ → List ℕ → Type 0
 IsFinalHead request head named rest input =
     JudgedResponse request input head named rest × IsFalse (names_another named)
 
--- the input is a head that breaks a rule, with this fault of the first one
+-- the input begins with a head that breaks a rule, and this is the fault of the first rule that it
+-- breaks
 abbrev pub BreaksResponseRule : Request → ResponseFault → List ℕ → Type 0
 BreaksResponseRule request fault input =
     (head : ResponseHead) × (after : List ℕ) × ReadsResponseHead input head after
     × (response_framing request head ≡ Err fault)
 
--- the input is a head that isn't interim, and of what comes after it this holds
+-- the input begins with the head of a final response, and this holds for the bytes after it
 abbrev pub FinalHeadThen : Request → (ResponseFraming → List ℕ → Type 0) → List ℕ → Type 0
 FinalHeadThen request P input =
     (head : ResponseHead) × (named : ResponseFraming) × (after : List ℕ)
     × IsFinalHead request head named after input × P named after
 
--- what a fault says of the input: after interim responses a head breaks a rule, with this fault of
--- the first; or there is no head; or there is another interim response after 16; or the body fails.
--- Of the faults of the machine nothing is said
+-- what a fault says about the input: after interim responses, a head breaks a rule, and this is the
+-- fault of the first rule that it breaks; or there is no head; or there is another interim response
+-- after `MOST_INTERIM`; or the body fails. Nothing is said about the faults of the machine
 pub data ResponseFails (request : Request) (input : List ℕ) (named : ResponseFault) : Type 0 where
   breaks_rule : AfterInterim request input (BreaksResponseRule request named)
       → ResponseFails request input named
@@ -114,8 +117,8 @@ pub data ResponseFails (request : Request) (input : List ℕ) (named : ResponseF
       (FinalHeadThen request (λ framing after. ResponseBodyFails framing after named))
       → ResponseFails request input named
 
--- the digits of the length that goes on: that of the body, or where there is none the one that the
--- head tells
+-- the digits of the length that is forwarded: the length of the body, or the length in the head if
+-- there is no body
 abbrev pub length_of_response : ResponseFraming → ResponseHead → List ℕ → Option (List ℕ)
 length_of_response framing.Interim head body = None
 length_of_response framing.NoBody head body = length_told head
@@ -123,7 +126,7 @@ length_of_response framing.Chunks head body = Some (decimal (length body))
 length_of_response (framing.Length size) head body = Some (decimal (length body))
 length_of_response framing.ToTheEnd head body = Some (decimal (length body))
 
--- the response has the parts of the head, and the body is there, and then comes the rest
+-- the response has the parts of the head, and the input is its body, and then `rest`
 pub record IsResponse
     (response : Response) (head : ResponseHead) (named : ResponseFraming) (after rest : List ℕ)
     : Type 0 where
@@ -133,7 +136,7 @@ pub record IsResponse
   pub fields_are : response.fields ≡ head.fields
   pub length_is : response.length ≡ length_of_response named head response.body
 
--- the input begins with at most 16 interim responses and then the response
+-- the input begins with at most `MOST_INTERIM` interim responses and then the response
 abbrev pub ReadsResponse : Request → Response → List ℕ → Type 0
 ReadsResponse request response input =
     AfterInterim request input

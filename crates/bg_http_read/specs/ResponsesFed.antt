@@ -1,4 +1,4 @@
--- What was fed of a response, and what is still to be read of it.
+-- The bytes of a response that were fed, and those that are still to be read.
 use Rattle.std.specs.Prelude.{◌≡◌, false, IsFalse, ℕ, ◌≤◌, List, [], drop, Option, Some, None, Result, Ok, Err, ⊤}
 use Rattle.bg_http.specs.declared.request.Request.{Request}
 use Rattle.bg_http.specs.declared.response.Response.{Response}
@@ -21,12 +21,13 @@ use Rattle.bg_http_read.specs.declared.response_feed.ResponseFeed.{ResponseFeed}
 use Rattle.bg_http_read.specs.declared.response_progress.Advance.{Advance}
 use Rattle.bg_http_read.specs.declared.response_progress.ResponseStage.{ResponseStage}
 use Rattle.bg_http_read.specs.declared.response_progress.ResponseStage.TheVariants as part
+use Rattle.bg_http_read.specs.declared.final_head.TheConstants.{MOST_INTERIM}
 
--- no more interim responses were taken than may be
+-- the number of interim responses that were taken is within the limit
 abbrev pub IsReady : HeadSearch → Type 0
-IsReady search = search.interim ≤ 16
+IsReady search = search.interim ≤ MOST_INTERIM
 
--- what comes first of a body
+-- the first stage of a body
 abbrev pub first_stage : ResponseFraming → Stage
 first_stage framing.Interim = stage.Length 0
 first_stage framing.NoBody = stage.Length 0
@@ -34,7 +35,7 @@ first_stage framing.Chunks = stage.Line
 first_stage (framing.Length size) = stage.Length size
 first_stage framing.ToTheEnd = stage.ToTheEnd
 
--- how many bytes a body may have
+-- the maximum number of bytes of a body
 abbrev pub most_of : ResponseFraming → ℕ
 most_of framing.Interim = 0
 most_of framing.NoBody = 0
@@ -42,14 +43,14 @@ most_of framing.Chunks = most_response_body
 most_of (framing.Length size) = size
 most_of framing.ToTheEnd = most_response_body
 
--- nothing of the body that the framing names is there
+-- the state before the first byte of the body that the framing names
 pub record StartsBody (named : ResponseFraming) (body : Body) : Type 0 where
   pub stage_is : body.stage ≡ first_stage named
   pub none : body.bytes.items ≡ []
   pub limit_is : body.limit ≡ most_of named
 
--- the head was found in the bytes, and what was to be read of those after it is what the body has
--- still to read of those that wait
+-- the head was found in the bytes, and reading the body from the bytes after the head is reading
+-- its rest from the bytes that wait
 pub record IsFedBody (request : Request) (response : ResponseBody) (waits seen : List ℕ)
     : Type 0 where
   pub after : List ℕ
@@ -65,32 +66,32 @@ IsFedStage request (part.Heads search) waits seen = SkipsInterim request search.
 IsFedStage request (part.Body response) waits seen = IsFedBody request response waits seen
 IsFedStage request part.Done waits seen = ⊥
 
--- nothing came
+-- no byte came
 abbrev pub Starts : ResponseStage → Type 0
 Starts (part.Heads search) = (search.interim ≡ 0) × (search.end ≡ head_end.Blank)
 Starts (part.Body response) = ⊥
 Starts part.Done = ⊥
 
--- bytes wait behind those that wait for the end of their head
+-- more bytes wait after those that wait for the end of their head
 abbrev pub stage_seen : ResponseStage → List ℕ → ResponseStage
 stage_seen (part.Heads search) bytes =
     part.Heads (record search { end = after_bytes search.end bytes })
 stage_seen (part.Body response) bytes = part.Body response
 stage_seen part.Done bytes = part.Done
 
--- what waits for the end of its head was seen
+-- the bytes that wait for the end of their head were seen
 abbrev pub IsSeen : ResponseStage → List ℕ → Type 0
 IsSeen (part.Heads search) waits = search.end ≡ after_bytes head_end.Blank waits
 IsSeen (part.Body response) waits = ⊤
 IsSeen part.Done waits = ⊤
 
--- a head is looked for, and no empty line has come that may end it
+-- the stage waits for a head, and no empty line that may end it has come
 abbrev pub AwaitsHead : ResponseStage → Type 0
 AwaitsHead (part.Heads search) = is_over search.end ≡ false
 AwaitsHead (part.Body response) = ⊥
 AwaitsHead part.Done = ⊥
 
--- of the response to the request these bytes were fed, one piece after the other
+-- these bytes of the response to the request were fed, one piece after the other
 pub record IsFed (feed : ResponseFeed) (request : Request) (seen : List ℕ) : Type 0 where
   pub request_is : feed.progress.request.now ≡ request
   pub stage_is : IsFedStage request feed.progress.stage (waiting feed.intake) seen
@@ -100,12 +101,12 @@ IsOpenStage (part.Heads search) = IsReady search
 IsOpenStage (part.Body response) = KeepsLimit response.body
 IsOpenStage part.Done = ⊥
 
--- more may be fed, or the end: no answer was given and no fault
+-- more bytes may be fed, or the input may end: neither an answer nor a fault was given
 abbrev pub IsOpen : ResponseFeed → Type 0
 IsOpen feed =
     IsOpenStage feed.progress.stage × IsSeen feed.progress.stage (waiting feed.intake)
 
--- the body isn't whole: it is cut off where the input ends here, or goes to the end
+-- the body is not complete: it is cut off if the input ends here, or goes to the end of the input
 pub record WantsBody (request : Request) (response : ResponseBody) (waits seen : List ℕ)
     : Type 0 where
   pub missing : is_whole response.body.stage ≡ false
@@ -117,7 +118,7 @@ WantsStage request (part.Heads search) waits seen = ResponseFails request seen f
 WantsStage request (part.Body response) waits seen = WantsBody request response waits seen
 WantsStage request part.Done waits seen = ⊥
 
--- what came of bytes: a response; or what they leave waits, and more is needed
+-- the result of bytes: a response; or the bytes that were not taken wait, and more are needed
 abbrev pub AdvancesTo
     : Request → List ℕ → List ℕ → Option Response → ResponseStage → Type 0
 AdvancesTo request seen left (Some response) stage = IsRead request response seen
@@ -131,7 +132,7 @@ Advances request seen bytes (Ok advance) stage =
     AdvancesTo request seen (drop advance.taken bytes) advance.response stage
 Advances request seen bytes (Err named) stage = IsRefused request named seen
 
--- the response has the parts of the head, and the body as far as it was fed
+-- the response has the parts of the head, and the bytes of the body that were fed
 pub record HasParts (response : Response) (of : ResponseBody) : Type 0 where
   pub code_is : response.code ≡ of.head.code
   pub reason_is : response.reason ≡ of.head.reason

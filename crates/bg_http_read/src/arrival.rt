@@ -1,22 +1,21 @@
-//! What reading brings a parser.
+//! The results of reading a parser's input.
 
-/// What came of a read straight into a body.
+/// The result of a read directly into the memory of a body.
 #[derive(Drop)]
 pub(crate) enum Straight {
     /// No read was made.
     Unread,
     /// Reading failed.
     Failed,
-    /// So many bytes came; none at the end of the input.
+    /// The read gave this many bytes; 0 at the end of the input.
     Came(usize),
 }
 
-/// What came of the next read of a parser's input.
+/// The result of the next read of a parser's input.
 #[derive(Drop)]
 pub(crate) enum Arrival {
     /// The end of the input.
     End,
-    /// So many bytes of the piece, which are still to be fed; none where what came went straight
-    /// into a body.
+    /// This many bytes of the piece are still to be fed; 0 if the read went directly into a body.
     Piece(usize),
 }

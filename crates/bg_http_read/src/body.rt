@@ -1,4 +1,4 @@
-//! A body, which is fed the bytes as they come.
+//! A body that is fed the bytes as they arrive.
 ghost use Rattle.std.specs.Prelude.{◌≡◌, ◌<◌, ◌≤◌, ◌++◌, [], List, ℕ, IfErr, IfOk, IsFalse, OnErr, OnOk};
 ghost use Rattle.std.specs.Prelude.{drop, length};
 ghost use Rattle.std.specs.Io.KnownBytes.{Keeps};
@@ -17,14 +17,14 @@ use crate::trailers::find_trailers;
 use bg_http::{Bytes, Duplex};
 use std::alloc::{AllocError, Global};
 
-/// What comes next of a body.
+/// The part of a body that comes next.
 #[derive(Clone, Copy, PartialEq, Eq, Debug, Drop)]
 pub(crate) enum Stage {
-    /// So many bytes, and then nothing.
+    /// This many bytes, and then nothing.
     Length(usize),
     /// The line of a chunk.
     Line,
-    /// So many bytes of a chunk, CR LF, and the line of the next.
+    /// This many bytes of a chunk, CR LF, and the line of the next chunk.
     Data(usize),
     /// Trailers.
     Trailers,
@@ -34,7 +34,7 @@ pub(crate) enum Stage {
     Whole,
 }
 
-/// A body, which is fed the bytes as they come and takes those that are its own.
+/// A body that is fed the bytes as they arrive. It takes the bytes that belong to it.
 #[derive(Drop)]
 pub(crate) struct Body {
     limit: usize,
@@ -43,7 +43,7 @@ pub(crate) struct Body {
 }
 
 impl Body {
-    /// A body of so many bytes, for which memory is taken at once.
+    /// A body of `size` bytes. All its memory is allocated at once.
     pub(crate) fn of_length(alloc: Global, size: usize) -> Result<Body, AllocError>
         ensures bytes { IfOk result (λ body. body.bytes.items ≡ []) }
         ensures stage { IfOk result (λ body. body.stage ≡ stage.Length size) }
@@ -83,14 +83,14 @@ impl Body {
         }
     }
 
-    /// The bytes so far, with their memory.
+    /// The bytes that were taken so far, with their memory.
     pub(crate) fn into_bytes(self) -> Bytes
         ensures { result ≡ self.bytes.items }
     {
         Bytes::from_vec(self.bytes)
     }
 
-    /// Whether nothing is missing.
+    /// Whether the body is complete.
     pub(crate) fn is_whole(&self) -> bool
         ensures { result ≡ is_whole self.now.stage }
     {
@@ -101,7 +101,7 @@ impl Body {
         }
     }
 
-    /// Whether the body may end where the input does.
+    /// Whether the body may end at the end of the input.
     pub(crate) fn can_end(&self) -> bool
         ensures { result ≡ can_end self.now.stage }
     {
@@ -112,8 +112,8 @@ impl Body {
         }
     }
 
-    /// One read of what is missing of a body whose length is known, straight into its own room. The
-    /// bytes that came are put behind those that were seen.
+    /// Makes one read of the missing part of a body whose length is known, directly into the memory
+    /// of the body. Appends the bytes that the read gave to those that were seen.
     pub(crate) fn read_from<S: Duplex>(&mut self, stream: &mut S, seen: &mut Seen) -> Straight
         requires { KeepsLimit self.old }
         ensures came { (came : List ℕ) × (seen.new.bytes ≡ seen.old.bytes ++ came)
@@ -134,8 +134,8 @@ impl Body {
         read
     }
 
-    /// Takes all that is its own of the bytes, and says how many these are. Where it isn't whole
-    /// then, it needs more than these; one that goes to the end of the input has taken them all.
+    /// Takes all bytes that belong to the body, and gives their number. If the body is not complete
+    /// then, it needs more bytes; a body that goes to the end of the input has taken them all.
     pub(crate) fn take_from(&mut self, bytes: &[u8]) -> Result<usize, MessageFault>
         requires { KeepsLimit self.old }
         ensures fits { IfOk result (λ count. count ≤ length bytes.now) }
@@ -159,8 +159,8 @@ impl Body {
         }
     }
 
-    /// Takes bytes of the front, as many as it says; none where it needs more than these, or is
-    /// whole. Where memory is refused, nothing changes.
+    /// Takes bytes from the front, and gives their number: 0 if the body needs more bytes than
+    /// these, or is complete. An allocation failure changes nothing.
     pub(crate) fn take(&mut self, bytes: &[u8]) -> Result<usize, MessageFault>
         requires { KeepsLimit self.old }
         ensures taken { IfOk result (λ count. Takes self.old self.new bytes.now count) }
@@ -179,7 +179,7 @@ impl Body {
         }
     }
 
-    /// Takes what there is of a body whose length is known.
+    /// Takes the available bytes of a body whose length is known.
     fn take_length(&mut self, bytes: &[u8], left: usize) -> Result<usize, MessageFault>
         requires stage { self.old.stage ≡ stage.Length left }
         requires within { KeepsLimit self.old }
@@ -194,7 +194,7 @@ impl Body {
         Ok(count)
     }
 
-    /// Takes the line of a chunk, where it is whole.
+    /// Takes the line of a chunk if it is complete.
     fn take_line(&mut self, bytes: &[u8]) -> Result<usize, MessageFault>
         requires stage { self.old.stage ≡ stage.Line }
         requires within { KeepsLimit self.old }
@@ -221,7 +221,7 @@ impl Body {
         Ok(count)
     }
 
-    /// Takes what there is of a chunk's data.
+    /// Takes the available bytes of a chunk's data.
     fn take_data(&mut self, bytes: &[u8], left: usize) -> Result<usize, MessageFault>
         requires stage { self.old.stage ≡ stage.Data left }
         requires some { 0 < left }
@@ -256,7 +256,7 @@ impl Body {
         }
     }
 
-    /// Takes the trailers, where they are whole.
+    /// Takes the trailers if they are complete.
     fn take_trailers(&mut self, bytes: &[u8]) -> Result<usize, MessageFault>
         requires stage { self.old.stage ≡ stage.Trailers }
         requires within { KeepsLimit self.old }

@@ -8,8 +8,8 @@ use httparse::{InvalidChunkSize, Status, parse_chunk_size};
 /// The most bytes that a chunk's line may have.
 const MOST_LINE: usize = 1024;
 
-/// How many bytes the line at the front takes, and the size that it announces; nothing where there
-/// is no line yet, and a fault where none can come.
+/// The length in bytes of the line at the front, and the chunk size that it announces. Gives `None`
+/// if there is no complete line yet, and an error if the bytes cannot become a line.
 pub(crate) fn find_line(bytes: &[u8]) -> Result<Option<(usize, u64)>, InvalidChunkSize>
     ensures within { IfOk result (λ found. IfSome found (λ at.
         (0 < at.0) × (at.0 ≤ length bytes.now))) }

@@ -1,4 +1,4 @@
-//! The head of the response that isn't interim, looked for as the bytes come.
+//! The search for the head of the final response as the bytes arrive.
 ghost use Rattle.std.specs.Prelude.{◌≡◌, ◌≤◌, ◌||◌, List, ℕ, IfErr, IfOk, IfNone, IfSome, IsFalse};
 ghost use Rattle.std.specs.Prelude.{drop, length, nat_le};
 ghost use Rattle.bg_http_read.specs.HeadEnds.{after_bytes, is_over};
@@ -15,8 +15,8 @@ use crate::response_head::find_response_head;
 use bg_http::{Request, ResponseFault, ResponseFraming, ResponseHead, judge_response};
 use std::alloc::Global;
 
-/// How many heads are read: one more than the interim responses that are taken.
-const MOST_HEADS: usize = 17;
+/// The maximum number of interim responses that are accepted.
+const MOST_INTERIM: usize = 16;
 
 /// Whether another response comes after this one.
 fn names_another(framing: ResponseFraming) -> bool
@@ -31,24 +31,24 @@ fn names_another(framing: ResponseFraming) -> bool
     }
 }
 
-/// What a search found: the head that isn't interim, judged, where it is whole; and how many bytes
-/// the heads have that were taken.
+/// The result of a search: the judged head of the final response if it is complete, and the length
+/// in bytes of the heads that were taken.
 #[derive(Drop)]
 pub(crate) struct HeadFound {
     pub(crate) head: Option<(ResponseHead, ResponseFraming)>,
     pub(crate) taken: usize,
 }
 
-/// The search for the head of the response that isn't interim.
+/// The search for the head of the final response.
 #[derive(Drop)]
 pub(crate) struct HeadSearch {
     interim: usize,
-    /// How far the bytes go that wait for the end of their head.
+    /// The position in their head that the waiting bytes reach.
     end: HeadEnd,
 }
 
 impl HeadSearch {
-    /// Nothing is found.
+    /// A search that has found nothing yet.
     pub(crate) fn new() -> HeadSearch
         ensures interim { result.interim ≡ 0 }
         ensures end { result.end ≡ head_end.Blank }
@@ -67,14 +67,15 @@ impl HeadSearch {
         self.end = self.end.after_all(bytes);
     }
 
-    /// Whether the head may be whole in so many bytes that wait, or is too large if it isn't.
+    /// Whether the head may be complete in `count` waiting bytes, or is too large if it is not.
     pub(crate) fn is_due(&self, count: usize) -> bool
-        ensures { result ≡ (is_over self.now.end || nat_le 16384 count) }
+        ensures { result ≡ (is_over self.now.end || nat_le MOST_HEAD count) }
     {
         self.end.is_over() || count >= MOST_HEAD
     }
 
-    /// How many bytes may wait before the head may be whole or too large, if no line ends.
+    /// The number of bytes that may wait before the head can be complete or too large, if no line
+    /// ends.
     pub(crate) fn line_limit(&self) -> usize {
         if self.end.is_over() { 0 } else { MOST_HEAD }
     }
@@ -107,7 +108,7 @@ impl HeadSearch {
         ensures fault { IfErr result (λ fault. IsFalse (is_of_stream fault)) }
     {
         let mut taken = 0;
-        while self.interim < MOST_HEADS {
+        while self.interim <= MOST_INTERIM {
             let rest = behind(bytes, taken);
             let found = find_response_head(alloc, rest)?;
             let Some((head, count)) = found else {

@@ -1,4 +1,4 @@
-//! Where a head may end, told byte by byte.
+//! Finds byte by byte where a head may end.
 ghost use Rattle.std.specs.Prelude.{◌≡◌, ◌≤◌, length};
 ghost use Rattle.bg_http_read.specs.HeadEnds.{after_byte, after_bytes, is_over};
 ghost use Rattle.bg_http_read.specs.declared.head_end.HeadEnd.TheVariants as end;
@@ -17,31 +17,31 @@ fn from_line_end(bytes: &[u8]) -> &[u8]
     }
 }
 
-/// How far the bytes of a head go. A head ends at the first empty line after a line that has a
-/// byte, so before that it needn't be looked for.
+/// The position that the bytes of a head reach. A head ends at the first empty line after a line
+/// that is not empty, so nothing is parsed before that line.
 #[derive(Clone, Copy, PartialEq, Eq, Debug, Drop)]
 pub(crate) enum HeadEnd {
-    /// Nothing came but empty lines.
+    /// Only empty lines came.
     Blank,
     /// Within a line.
     Inside,
     /// At the start of a line.
     LineStart,
-    /// Behind a CR at the start of a line.
+    /// After a CR at the start of a line.
     AfterCr,
     /// An empty line came.
     Over,
 }
 
 impl HeadEnd {
-    /// What the bytes at the front of a head tell.
+    /// The position after the bytes at the front of a head.
     pub(crate) fn of(bytes: &[u8]) -> HeadEnd
         ensures { result ≡ after_bytes end.Blank bytes.now }
     {
         HeadEnd::Blank.after_all(bytes)
     }
 
-    /// What more bytes make of it.
+    /// The position after more bytes.
     pub(crate) fn after_all(self, bytes: &[u8]) -> HeadEnd
         ensures { result ≡ after_bytes self bytes.now }
     {
@@ -54,7 +54,7 @@ impl HeadEnd {
         end
     }
 
-    /// The bytes without those at the front that change nothing.
+    /// The bytes without those at the front that do not change the position.
     fn told_by(self, bytes: &[u8]) -> &[u8]
         ensures same { after_bytes self result.now ≡ after_bytes self bytes.now }
         ensures fewer { length result.now ≤ length bytes.now }
@@ -81,7 +81,7 @@ impl HeadEnd {
         }
     }
 
-    /// Whether an empty line came, so that the head may be whole.
+    /// Whether an empty line came, so that the head may be complete.
     pub(crate) fn is_over(&self) -> bool
         ensures { result ≡ is_over self.now }
     {

@@ -12,8 +12,8 @@ pub(crate) const MOST_HEAD: usize = 16_384;
 /// The most fields that a head may have.
 pub(crate) const MOST_FIELDS: usize = 64;
 
-/// Room for each field that fits in the bytes of a head.
-pub(crate) const ROOM: usize = 5461;
+/// Room for each field that fits in the bytes of a head: a field has at least three.
+pub(crate) const ROOM: usize = MOST_HEAD / 3;
 
 /// The fields that the spans cover.
 pub(crate) fn copy_fields(

@@ -10,10 +10,11 @@ use memchr::memchr;
 use std::alloc::{AllocError, Global};
 use std::io::{ErrorKind, Read};
 
-/// How many bytes are asked for at once.
+/// The number of bytes that one read asks for.
 pub(crate) const PIECE: usize = 8192;
 
-/// One read, tried again where it was interrupted; how many bytes it gave, none where it failed.
+/// Makes one read, and repeats it if it is interrupted. Gives the number of bytes, or `None` if the
+/// read fails.
 fn read_piece<S: Duplex>(stream: &mut S, piece: &mut [u8]) -> Option<usize>
     ensures fits { IfSome result (λ count. count ≤ length piece.new) }
     ensures bytes { IfSome result (λ count.
@@ -36,8 +37,8 @@ fn read_piece<S: Duplex>(stream: &mut S, piece: &mut [u8]) -> Option<usize>
     None
 }
 
-/// One read; or more, as long as no line ends with them and fewer than `line` bytes came. How many
-/// bytes came, none where reading failed.
+/// Reads at least once, and goes on as long as the bytes do not end a line and are fewer than
+/// `line`. Gives the number of bytes, or `None` if a read fails.
 pub(crate) fn read_line_piece<S: Duplex>(
     stream: &mut S,
     piece: &mut [u8],
@@ -64,8 +65,8 @@ pub(crate) fn read_line_piece<S: Duplex>(
     None
 }
 
-/// One read of at most so many bytes, straight behind those of a vector. None is made where no bytes
-/// are wanted, or memory is refused.
+/// Makes one read of at most `most` bytes, and appends them to a vector. Makes no read if `most` is
+/// 0 or the allocation fails.
 pub(crate) fn read_behind<S: Duplex>(stream: &mut S, bytes: &mut Vec<u8>, most: usize) -> Straight
     ensures came { (came : List ℕ) × (bytes.new.items ≡ bytes.old.items ++ came)
         × (length came ≤ most) × CameStraight result came (S.remaining stream.old)
@@ -89,7 +90,7 @@ pub(crate) fn read_behind<S: Duplex>(stream: &mut S, bytes: &mut Vec<u8>, most: 
     }
 }
 
-/// The bytes behind the first ones.
+/// The bytes after the first `count`.
 pub(crate) fn behind(bytes: &[u8], count: usize) -> &[u8]
     requires { count ≤ length bytes.now }
     ensures { result.now ≡ drop count bytes.now }
@@ -132,7 +133,7 @@ impl Intake {
         self.get().is_empty()
     }
 
-    /// Drops the first of the bytes that wait.
+    /// Drops the first `count` of the waiting bytes.
     pub(crate) fn skip(&mut self, count: usize)
         requires { count ≤ length (waiting self.old) }
         ensures { waiting self.new ≡ drop count (waiting self.old) }
@@ -140,7 +141,7 @@ impl Intake {
         self.taken += count;
     }
 
-    /// Puts the bytes that wait to the front of the memory that holds them.
+    /// Moves the waiting bytes to the front of the memory that holds them.
     fn compact(&mut self)
         ensures bytes { waiting self.new ≡ waiting self.old }
         ensures front { self.new.taken ≡ 0 }
@@ -160,7 +161,7 @@ impl Intake {
         self.taken = 0;
     }
 
-    /// Puts bytes behind those that wait. Where memory is refused, those wait as before.
+    /// Appends bytes to those that wait. An allocation failure changes nothing.
     pub(crate) fn add(&mut self, bytes: &[u8]) -> Result<(), AllocError>
         ensures added { OnOk result (waiting self.new ≡ waiting self.old ++ bytes.now) }
         ensures kept { OnErr result (waiting self.new ≡ waiting self.old) }

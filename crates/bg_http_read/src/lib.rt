@@ -1,5 +1,5 @@
-//! HTTP/1.1 messages are read whole (RFC 9110, RFC 9112): heads are found, judged by the rules of
-//! `bg_http`, and their bodies are read to the end that the rules give.
+//! Reads complete HTTP/1.1 messages (RFC 9110, RFC 9112): finds heads, judges them by the rules of
+//! `bg_http`, and reads their bodies to the end that the rules give.
 #![tactic(auto)]
 
 mod arrival;

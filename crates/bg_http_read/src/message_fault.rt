@@ -1,17 +1,17 @@
-//! Why bytes are no message.
+//! Why bytes are not a message.
 use bg_http::{RequestFault, ResponseFault};
 use std::alloc::AllocError;
 
-/// Why bytes are no message, whatever follows them.
+/// Why bytes and every continuation of them are not a message.
 #[derive(Clone, Copy, PartialEq, Eq, Debug, Drop)]
 pub(crate) enum MessageFault {
-    /// The head is malformed, or the body is.
+    /// The head or the body is malformed.
     Bad,
     /// There is no head within the limits.
     HeadTooLarge,
     /// The body is larger than its limit.
     TooLarge,
-    /// Memory was refused.
+    /// An allocation failed.
     OutOfMemory,
 }
 

@@ -1,4 +1,4 @@
-//! A request whose head was found, and whose body is fed.
+//! A request whose head is known and whose body is being fed.
 ghost use Rattle.std.specs.Prelude.{◌≡◌, IfOk};
 ghost use Rattle.bg_http.specs.RequestRules.{owes_continue as owed};
 ghost use Rattle.bg_http_read.specs.RequestsFed.{HasParts, StartsBody};
@@ -7,7 +7,7 @@ use crate::body::Body;
 use bg_http::{Framing, MOST_REQUEST_BODY, Request, RequestHead, owes_continue};
 use std::alloc::{AllocError, Global};
 
-/// A request whose head was found, and whose body is fed.
+/// A request whose head is known and whose body is being fed.
 #[derive(Drop)]
 pub(crate) struct RequestBody {
     head: RequestHead,
@@ -16,7 +16,7 @@ pub(crate) struct RequestBody {
 }
 
 impl RequestBody {
-    /// Nothing of the body is there; refused only where memory is.
+    /// The state before the first byte of the body. The only error is an allocation failure.
     pub(crate) fn new(
         alloc: Global,
         head: RequestHead,
@@ -45,7 +45,7 @@ impl RequestBody {
         owes_continue(&self.head, self.framing)
     }
 
-    /// The request, with what was fed of its body.
+    /// The request, with the bytes of its body that were fed.
     pub(crate) fn into_request(self) -> Request
         ensures { HasParts result self }
     {

@@ -1,4 +1,4 @@
-//! How far a request is read, with the bytes that wait.
+//! The progress of reading a request, with the bytes that wait.
 ghost use Rattle.std.specs.Prelude.{◌≡◌, ◌++◌, [], false, List, ℕ, IfErr, IsFalse};
 ghost use Rattle.std.specs.Io.KnownBytes.{Keeps};
 ghost use Rattle.bg_http.specs.declared.request_fault.RequestFault.TheVariants as request_fault;
@@ -15,17 +15,17 @@ use crate::seen::Seen;
 use bg_http::{Duplex, Request, RequestFault};
 use std::alloc::Global;
 
-/// How far a request is read, with the bytes that wait. What its contracts say is of the bytes that
-/// were fed in all, which nothing keeps.
+/// The progress of reading a request, with the bytes that wait. Its contracts speak of all bytes
+/// that were fed, which are not stored.
 #[derive(Drop)]
 pub(crate) struct RequestFeed {
-    /// What was fed and not yet taken.
+    /// The bytes that were fed and not yet taken.
     intake: Intake,
     progress: RequestProgress,
 }
 
 impl RequestFeed {
-    /// Nothing came.
+    /// The state before the first byte.
     pub(crate) fn new(alloc: Global) -> RequestFeed
         ensures fed { IsFed result [] }
         ensures asked { was_asked result.progress.stage ≡ false }
@@ -36,7 +36,7 @@ impl RequestFeed {
         }
     }
 
-    /// Adds bytes of the input, and says what came of them.
+    /// Adds bytes of the input, and gives the step that they lead to.
     pub(crate) fn feed(&mut self, bytes: &[u8]) -> Result<RequestStep, RequestFault>
         requires { IsOpenStage self.old.progress.stage }
         ensures answer { (seen : List ℕ) → IsFed self.old seen
@@ -52,8 +52,8 @@ impl RequestFeed {
         }
     }
 
-    /// One read of what is missing of a body whose length is known, straight into its own room, where
-    /// no bytes wait. Those that came are put behind those that were seen.
+    /// If no bytes wait, makes one read of the missing part of a body whose length is known, directly
+    /// into the memory of the body. Appends the bytes that the read gave to those that were seen.
     pub(crate) fn read_body<S: Duplex>(&mut self, stream: &mut S, seen: &mut Seen) -> Straight
         requires { IsOpenStage self.old.progress.stage }
         ensures came { SeesStraight result seen.old.bytes seen.new.bytes (S.remaining stream.old)
@@ -68,8 +68,8 @@ impl RequestFeed {
         self.progress.read_body(stream, seen)
     }
 
-    /// How many bytes may come before it is worth looking at them, if no line ends: 0 where it may
-    /// be at any byte.
+    /// The number of bytes that may come before they need to be parsed, if no line ends; 0 if any
+    /// byte may matter.
     pub(crate) fn line_room(&self) -> usize {
         let waiting = self.intake.get().len();
         if waiting == 0 {
@@ -78,7 +78,7 @@ impl RequestFeed {
         self.progress.line_limit().saturating_sub(waiting)
     }
 
-    /// Adds bytes where none wait: what can be taken of them is copied no second time.
+    /// Adds bytes when none wait, so that the bytes that can be taken are not copied a second time.
     fn feed_first(&mut self, bytes: &[u8]) -> Result<RequestStep, RequestFault>
         requires goes_on { IsOpenStage self.old.progress.stage }
         requires empty { waiting self.old.intake ≡ [] }
@@ -96,7 +96,7 @@ impl RequestFeed {
         }
     }
 
-    /// Looks at what waits, to which bytes were added, where it is worth while.
+    /// Parses the waiting bytes, to which `bytes` were added, if that is due.
     fn look(&mut self, bytes: &[u8]) -> Result<RequestStep, RequestFault>
         requires { IsOpenStage self.old.progress.stage }
         ensures answer { (before seen : List ℕ) → IsSeen self.old.progress.stage before

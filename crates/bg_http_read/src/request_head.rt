@@ -14,8 +14,8 @@ use httparse::spans::{EMPTY_HEADER_SPAN, HeaderSpan, RequestSpans, parse_request
 use httparse::{Error, Status};
 use std::alloc::Global;
 
-/// The head that the parser found in at most 16,384 bytes, and how many of them it takes; none
-/// where it wants more. An error of the parser says that the bytes are no head, whatever follows.
+/// The head that the parser finds in at most `MOST_HEAD` bytes, and its length in bytes; `None` if
+/// the parser needs more. An error of the parser means that no continuation of the bytes is a head.
 fn request_head_of(
     alloc: Global,
     bytes: &[u8],
@@ -56,8 +56,9 @@ fn request_head_of(
     }
 }
 
-/// What `parse_request_head` gives for bytes of more fields than a head may have. Its room holds
-/// each field that fits in so many bytes, so that what comes after the first 64 is judged too.
+/// What `parse_request_head` gives for bytes with more fields than a head may have. It has room for
+/// every field that fits in that many bytes, so the fields after the first `MOST_FIELDS` are
+/// parsed too.
 fn parse_crowded_request_head(
     alloc: Global,
     bytes: &[u8],
@@ -76,8 +77,8 @@ fn parse_crowded_request_head(
     request_head_of(alloc, bytes, spans, parsed)
 }
 
-/// The head at the front of at most 16,384 bytes, and how many of them it takes; none where there
-/// is none yet.
+/// The head at the front of at most `MOST_HEAD` bytes, and its length in bytes; `None` if there is
+/// no complete head yet.
 fn parse_request_head(
     alloc: Global,
     bytes: &[u8],
@@ -97,8 +98,8 @@ fn parse_request_head(
     }
 }
 
-/// The head at the front, and how many bytes it takes; none where there is none yet. A head has at
-/// most 16,384 bytes and 64 fields.
+/// The head at the front, and its length in bytes; `None` if there is no complete head yet. A head
+/// has at most `MOST_HEAD` bytes and `MOST_FIELDS` fields.
 pub(crate) fn find_request_head(
     alloc: Global,
     bytes: &[u8],

@@ -1,4 +1,4 @@
-//! A request, which is fed the bytes of the input as they come.
+//! A parser of a request that is fed the bytes of the input as they arrive.
 ghost use Rattle.std.specs.Prelude.{◌≡◌, ◌<◌, ◌++◌, [], true, false, IfErr, IfOk, IfSome, IsFalse, IsTrue};
 ghost use Rattle.std.specs.Prelude.{List, ℕ, length};
 ghost use Rattle.std.specs.Io.KnownBytes.{Keeps};
@@ -17,8 +17,8 @@ use bg_http::{Duplex, Request, RequestFault};
 use std::alloc::Global;
 use std::marker::Model;
 
-/// A request, which is fed the bytes of the input as they come (RFC 9112). Where the input is cut
-/// into pieces doesn't matter.
+/// A parser of a request. It is fed the bytes of the input as they arrive (RFC 9112). The result
+/// does not depend on how the input is cut into pieces.
 #[derive(Drop)]
 pub struct RequestParser {
     feed: RequestFeed,
@@ -26,7 +26,7 @@ pub struct RequestParser {
     is_open: bool,
 }
 
-/// Whether neither a request nor a fault was given.
+/// Whether the parser has given neither a request nor a fault.
 fn goes_on(answer: &Result<RequestStep, RequestFault>) -> bool
     ensures { result ≡ goes_on answer.now }
 {
@@ -54,7 +54,7 @@ impl Model for RequestParser {
 }
 
 impl RequestParser {
-    /// A request of which nothing came.
+    /// A parser before the first byte of a request.
     pub fn new(alloc: Global) -> RequestParser
         ensures { result ≡ record { seen = []; asked = false; is_open = true } }
     {
@@ -65,13 +65,13 @@ impl RequestParser {
         }
     }
 
-    /// Adds bytes of the input, and says what comes of them. `RequestStep::Continue` comes at most
-    /// once, and before the first step that tells of the body.
+    /// Adds bytes of the input, and gives the step that they lead to. `RequestStep::Continue` comes
+    /// at most once, and before the first step that concerns the body.
     ///
-    /// The faults are those of `read_request` that no bytes that follow can mend, and OutOfMemory,
-    /// which may come before another. Of a head they are told once an empty line has come, once
-    /// 16,384 bytes have, or at the end. After a request or a fault the parser is neither fed nor
-    /// ended.
+    /// The faults are those of `read_request` that no further bytes can repair, and OutOfMemory,
+    /// which may come before another fault. A fault of the head is reported after an empty line,
+    /// after 16,384 bytes, or at the end. After a request or a fault, the caller neither feeds nor
+    /// ends the parser.
     pub fn feed(&mut self, bytes: &[u8]) -> Result<RequestStep, RequestFault>
         requires { IsTrue self.old.is_open }
         ensures whole { IfOk result (λ step. IfWhole step (λ request.
@@ -93,8 +93,8 @@ impl RequestParser {
         answer
     }
 
-    /// Reads what comes next: of a body whose length is known, where no bytes wait, straight into its
-    /// own room, and else into the piece. None where reading failed.
+    /// Reads the next bytes: if no bytes wait and the length of the body is known, directly into the
+    /// memory of the body, and otherwise into the piece. Gives `None` if the read fails.
     pub(crate) fn read_more<S: Duplex>(
         &mut self,
         stream: &mut S,
@@ -121,8 +121,8 @@ impl RequestParser {
         }
     }
 
-    /// The request in an input that ends here. Otherwise the fault is Closed, or one that was not
-    /// told yet, or OutOfMemory.
+    /// The request in an input that ends here. Otherwise the fault is Closed, a fault that was not
+    /// reported yet, or OutOfMemory.
     pub fn end(self) -> Result<Request, RequestFault>
         requires { IsTrue self.is_open }
         ensures request { IfOk result (λ request.

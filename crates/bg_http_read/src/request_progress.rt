@@ -1,4 +1,4 @@
-//! How far a request is read.
+//! The progress of reading a request.
 ghost use Rattle.std.specs.Prelude.{◌≡◌, ◌≤◌, [], false, List, ℕ, IfErr, IfOk, IsFalse, drop, length};
 ghost use Rattle.std.specs.Io.KnownBytes.{Keeps};
 ghost use Rattle.bg_http_read.specs.Bodies.{KeepsLimit};
@@ -23,25 +23,25 @@ use bg_http::{Duplex, RequestFault, judge_request};
 use std::alloc::Global;
 use std::mem;
 
-/// What of a request is looked for.
+/// The part of a request that comes next.
 #[derive(Drop)]
 pub(crate) enum RequestStage {
-    /// The head, of which the bytes that wait go so far.
+    /// The head, and the position in it that the waiting bytes reach.
     Head(HeadEnd),
     /// The body.
     Body(RequestBody),
-    /// Nothing: an answer or a fault was given.
+    /// Nothing: the parser has given an answer or a fault.
     Done,
 }
 
-/// What came of bytes, and how many of them were taken.
+/// The step that bytes lead to, and the number of bytes that were taken.
 #[derive(Drop)]
 pub(crate) struct RequestAdvance {
     pub(crate) step: RequestStep,
     pub(crate) taken: usize,
 }
 
-/// How far a request is read.
+/// The progress of reading a request.
 #[derive(Drop)]
 pub(crate) struct RequestProgress {
     alloc: Global,
@@ -49,7 +49,7 @@ pub(crate) struct RequestProgress {
 }
 
 impl RequestProgress {
-    /// Nothing came.
+    /// The state before the first byte.
     pub(crate) fn new(alloc: Global) -> RequestProgress
         ensures at { IsAt result.stage [] [] }
         ensures asked { was_asked result.stage ≡ false }
@@ -69,7 +69,7 @@ impl RequestProgress {
         }
     }
 
-    /// Whether it is worth looking at so many bytes that wait.
+    /// Whether `count` waiting bytes need to be parsed now.
     pub(crate) fn is_due(&self, count: usize) -> bool
         ensures { IsFalse result → AwaitsHead self.now.stage }
     {
@@ -79,8 +79,8 @@ impl RequestProgress {
         }
     }
 
-    /// How many bytes may wait before it is worth looking at them, if no line ends: 0 where it may
-    /// be at any byte.
+    /// The number of bytes that may wait before they need to be parsed, if no line ends; 0 if any
+    /// byte may matter.
     pub(crate) fn line_limit(&self) -> usize {
         match &self.stage {
             RequestStage::Head(end) if !end.is_over() => MOST_HEAD,
@@ -88,8 +88,8 @@ impl RequestProgress {
         }
     }
 
-    /// One read of what is missing of a body whose length is known, straight into its own room. The
-    /// bytes that came are put behind those that were seen.
+    /// Makes one read of the missing part of a body whose length is known, directly into the memory
+    /// of the body. Appends the bytes that the read gave to those that were seen.
     pub(crate) fn read_body<S: Duplex>(&mut self, stream: &mut S, seen: &mut Seen) -> Straight
         requires { IsOpenStage self.old.stage }
         ensures came { SeesStraight result seen.old.bytes seen.new.bytes (S.remaining stream.old)
@@ -104,7 +104,7 @@ impl RequestProgress {
         }
     }
 
-    /// Takes what it can of the bytes.
+    /// Takes as many of the bytes as it can.
     pub(crate) fn advance(&mut self, bytes: &[u8]) -> Result<RequestAdvance, RequestFault>
         requires { IsOpenStage self.old.stage }
         ensures fits { IfOk result (λ advance. advance.taken ≤ length bytes.now) }
@@ -119,8 +119,8 @@ impl RequestProgress {
         }
     }
 
-    /// Looks for the head in the bytes, judges it, and takes what it can of the body, unless
-    /// `100 Continue` is owed before.
+    /// Looks for the head in the bytes, judges it, and takes as much of the body as it can. Takes
+    /// nothing of the body if `100 Continue` is owed first.
     fn advance_head(&mut self, bytes: &[u8]) -> Result<RequestAdvance, RequestFault>
         ensures fits { IfOk result (λ advance. advance.taken ≤ length bytes.now) }
         ensures answer { Advances (part.Head end.Blank) bytes.now bytes.now result self.new.stage }
@@ -147,7 +147,7 @@ impl RequestProgress {
         self.advance_body(part, bytes, taken)
     }
 
-    /// Takes what it can of the body, which begins at a place in the bytes.
+    /// Takes as much as it can of the body, which begins at a given position in the bytes.
     fn advance_body(
         &mut self,
         mut part: RequestBody,

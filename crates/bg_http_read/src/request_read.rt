@@ -8,11 +8,14 @@ ghost use Rattle.bg_http_read.specs.RequestStates.{IsReadAsked, IsRefusedAsked};
 ghost use Rattle.bg_http.specs.declared.request_fault.RequestFault.TheVariants as request_fault;
 
 use crate::arrival::Arrival;
-use crate::intake::PIECE;
 use crate::request_parser::RequestParser;
 use crate::request_step::RequestStep;
 use bg_http::{Duplex, MOST_TURNS, Request, RequestFault};
 use std::alloc::Global;
+
+/// The number of bytes of a request that one read asks for. Most heads are shorter, and each request sets
+/// this many bytes to zero.
+const PIECE: usize = 4096;
 
 /// Writes `100 Continue`.
 fn send_continue<S: Duplex>(stream: &mut S) -> Result<(), RequestFault>
@@ -27,7 +30,7 @@ fn send_continue<S: Duplex>(stream: &mut S) -> Result<(), RequestFault>
     }
 }
 
-/// Goes on with the body, once what the head is owed was written.
+/// Continues with the body after `100 Continue` was written.
 fn go_on(parser: &mut RequestParser) -> Result<Option<Request>, RequestFault>
     requires is_open { IsTrue parser.old.is_open }
     requires asked { IsTrue parser.old.asked }
@@ -44,7 +47,7 @@ fn go_on(parser: &mut RequestParser) -> Result<Option<Request>, RequestFault>
     }
 }
 
-/// Feeds a piece, and writes `100 Continue` where it is owed before the body is looked at.
+/// Feeds a piece, and writes `100 Continue` if it is owed before the body is parsed.
 fn feed_piece<S: Duplex>(
     stream: &mut S,
     parser: &mut RequestParser,
@@ -68,20 +71,20 @@ fn feed_piece<S: Duplex>(
     }
 }
 
-/// Reads a request with its body whole (RFC 9112). Bytes past it may be read, and are dropped. A
-/// read that was interrupted is tried again.
+/// Reads a request with its whole body (RFC 9112). Bytes after the request may be read, and are
+/// dropped. An interrupted read is repeated.
 ///
-/// Where `owes_continue` says so, `100 Continue` is written before the body is read (RFC 9110
-/// section 10.1.1); nothing else is written.
+/// If `owes_continue` says so, writes `100 Continue` before it reads the body (RFC 9110 section
+/// 10.1.1). It writes nothing else.
 ///
-/// The faults of the input, of which the first place decides: Bad where the first 16,384 bytes can
-/// become no head, whatever follows; HeadTooLarge where they hold one of more than 64 fields, or
-/// none yet; Closed where the input ends before; those of `judge_request` for the first rule that
-/// the head breaks; of the body Bad where the line of a chunk, the CR LF after its data or the
-/// trailers can't come within their limits, TooLarge where the size of a chunk brings it above
-/// 1,048,576 bytes, and Closed where the input ends before. Others are ReadFailed, also after
-/// 16,777,216 pieces or interruptions of one read; WriteFailed, where `100 Continue` is owed;
-/// OutOfMemory.
+/// The first faulty place in the input decides which fault is given. For the head: Bad if no
+/// continuation of the first 16,384 bytes begins with a head; HeadTooLarge if they hold a head of
+/// more than 64 fields, or no complete head; Closed if the input ends before the end of the head;
+/// the fault of `judge_request` for the first rule that the head breaks. For the body: Bad if the
+/// line of a chunk, the CR LF after its data or the trailers cannot come within their limits;
+/// TooLarge if the size of a chunk brings the body above 1,048,576 bytes; Closed if the input ends
+/// before the end of the body. The other faults are ReadFailed, also after 16,777,216 pieces or
+/// interruptions of one read; WriteFailed, if `100 Continue` is owed; and OutOfMemory.
 pub fn read_request<S: Duplex>(alloc: Global, stream: &mut S) -> Result<Request, RequestFault>
     ensures request { IfOk result (λ request. IfSome (S.remaining stream.old)
         (λ input. (rest : List ℕ) × ReadsRequest input request rest)) }

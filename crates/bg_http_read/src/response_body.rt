@@ -1,4 +1,4 @@
-//! A response whose head was found, and whose body is fed.
+//! A response whose head is known and whose body is being fed.
 ghost use Rattle.std.specs.Prelude.{◌≡◌, IfOk};
 ghost use Rattle.bg_http_read.specs.Responses.{length_of_response};
 ghost use Rattle.bg_http_read.specs.ResponsesFed.{HasParts, StartsBody};
@@ -7,8 +7,8 @@ use crate::body::Body;
 use bg_http::{Bytes, MOST_RESPONSE_BODY, Response, ResponseFraming, ResponseHead, length_told};
 use std::alloc::{AllocError, Global};
 
-/// The digits of the length that goes on: that of the body, or where there is none the one that the
-/// head tells.
+/// The digits of the length that is forwarded: the length of the body, or the length in the head if
+/// there is no body.
 fn length_of_response(
     alloc: Global,
     framing: ResponseFraming,
@@ -30,7 +30,7 @@ fn length_of_response(
     }
 }
 
-/// A response whose head was found, and whose body is fed.
+/// A response whose head is known and whose body is being fed.
 #[derive(Drop)]
 pub(crate) struct ResponseBody {
     head: ResponseHead,
@@ -39,7 +39,7 @@ pub(crate) struct ResponseBody {
 }
 
 impl ResponseBody {
-    /// Nothing of the body is there; refused only where memory is.
+    /// The state before the first byte of the body. The only error is an allocation failure.
     pub(crate) fn new(
         alloc: Global,
         head: ResponseHead,
@@ -62,7 +62,8 @@ impl ResponseBody {
         })
     }
 
-    /// The response, with what was fed of its body; refused only where memory is.
+    /// The response, with the bytes of its body that were fed. The only error is an allocation
+    /// failure.
     pub(crate) fn into_response(self, alloc: Global) -> Result<Response, AllocError>
         ensures { IfOk result (λ response. HasParts response self) }
     {

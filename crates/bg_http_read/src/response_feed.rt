@@ -1,4 +1,4 @@
-//! How far a response is read, with the bytes that wait.
+//! The progress of reading a response, with the bytes that wait.
 ghost use Rattle.std.specs.Prelude.{◌≡◌, ◌++◌, [], List, ℕ, IfErr, IfOk, IfNone, IfSome, IsFalse};
 ghost use Rattle.std.specs.Io.KnownBytes.{Keeps};
 ghost use Rattle.bg_http.specs.declared.request.Request.{Request as RequestValue};
@@ -17,17 +17,17 @@ use crate::seen::Seen;
 use bg_http::{Duplex, Request, Response, ResponseFault};
 use std::alloc::Global;
 
-/// How far a response is read, with the bytes that wait. What its contracts say is of the bytes that
-/// were fed in all, which nothing keeps.
+/// The progress of reading a response, with the bytes that wait. Its contracts speak of all bytes
+/// that were fed, which are not stored.
 #[derive(Drop)]
 pub(crate) struct ResponseFeed<'a> {
-    /// What was fed and not yet taken.
+    /// The bytes that were fed and not yet taken.
     intake: Intake,
     progress: ResponseProgress<'a>,
 }
 
 impl<'a> ResponseFeed<'a> {
-    /// The response to `request`, of which nothing came.
+    /// The state before the first byte of the response to `request`.
     pub(crate) fn new(alloc: Global, request: &'a Request) -> ResponseFeed<'a>
         ensures fed { IsFed result request.now [] }
         ensures goes_on { IsOpen result }
@@ -38,8 +38,8 @@ impl<'a> ResponseFeed<'a> {
         }
     }
 
-    /// Adds bytes of the input, and gives the response where it is whole; none where more are
-    /// needed, or the end of the input.
+    /// Adds bytes of the input, and gives the response if it is complete; `None` if more bytes or
+    /// the end of the input are needed.
     pub(crate) fn feed(&mut self, bytes: &[u8]) -> Result<Option<Response>, ResponseFault>
         requires { IsOpen self.old }
         ensures response { (request : RequestValue) (seen : List ℕ) → IsFed self.old request seen
@@ -62,8 +62,8 @@ impl<'a> ResponseFeed<'a> {
         }
     }
 
-    /// One read of what is missing of a body whose length is known, straight into its own room, where
-    /// no bytes wait. Those that came are put behind those that were seen.
+    /// If no bytes wait, makes one read of the missing part of a body whose length is known, directly
+    /// into the memory of the body. Appends the bytes that the read gave to those that were seen.
     pub(crate) fn read_body<S: Duplex>(&mut self, stream: &mut S, seen: &mut Seen) -> Straight
         requires { IsOpen self.old }
         ensures came { SeesStraight result seen.old.bytes seen.new.bytes (S.remaining stream.old)
@@ -80,8 +80,8 @@ impl<'a> ResponseFeed<'a> {
         self.progress.read_body(stream, seen)
     }
 
-    /// How many bytes may come before it is worth looking at them, if no line ends: 0 where it may
-    /// be at any byte.
+    /// The number of bytes that may come before they need to be parsed, if no line ends; 0 if any
+    /// byte may matter.
     pub(crate) fn line_room(&self) -> usize {
         let waiting = self.intake.get().len();
         if waiting == 0 {
@@ -90,7 +90,7 @@ impl<'a> ResponseFeed<'a> {
         self.progress.line_limit().saturating_sub(waiting)
     }
 
-    /// Adds bytes where none wait: what can be taken of them is copied no second time.
+    /// Adds bytes when none wait, so that the bytes that can be taken are not copied a second time.
     fn feed_first(&mut self, bytes: &[u8]) -> Result<Option<Response>, ResponseFault>
         requires goes_on { IsOpen self.old }
         requires empty { waiting self.old.intake ≡ [] }
@@ -115,7 +115,7 @@ impl<'a> ResponseFeed<'a> {
         }
     }
 
-    /// Looks at what waits, to which bytes were added, where it is worth while.
+    /// Parses the waiting bytes, to which `bytes` were added, if that is due.
     fn look(&mut self, bytes: &[u8]) -> Result<Option<Response>, ResponseFault>
         requires goes_on { IsOpenStage self.old.progress.stage }
         requires seen { (before : List ℕ) × IsSeen self.old.progress.stage before
@@ -139,7 +139,7 @@ impl<'a> ResponseFeed<'a> {
         Ok(response)
     }
 
-    /// The response to an input that ends here.
+    /// The response in an input that ends here.
     pub(crate) fn end(self) -> Result<Response, ResponseFault>
         requires { IsOpen self }
         ensures response { (request : RequestValue) (seen : List ℕ) → IsFed self.entry request seen

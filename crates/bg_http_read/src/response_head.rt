@@ -14,8 +14,8 @@ use httparse::spans::{EMPTY_HEADER_SPAN, HeaderSpan, ResponseSpans, parse_respon
 use httparse::{Error, Status};
 use std::alloc::Global;
 
-/// The head that the parser found in at most 16,384 bytes, and how many of them it takes; none
-/// where it wants more. An error of the parser says that the bytes are no head, whatever follows.
+/// The head that the parser finds in at most `MOST_HEAD` bytes, and its length in bytes; `None` if
+/// the parser needs more. An error of the parser means that no continuation of the bytes is a head.
 fn response_head_of(
     alloc: Global,
     bytes: &[u8],
@@ -55,8 +55,9 @@ fn response_head_of(
     }
 }
 
-/// What `parse_response_head` gives for bytes of more fields than a head may have. Its room holds
-/// each field that fits in so many bytes, so that what comes after the first 64 is judged too.
+/// What `parse_response_head` gives for bytes with more fields than a head may have. It has room
+/// for every field that fits in that many bytes, so the fields after the first `MOST_FIELDS` are
+/// parsed too.
 fn parse_crowded_response_head(
     alloc: Global,
     bytes: &[u8],
@@ -75,8 +76,8 @@ fn parse_crowded_response_head(
     response_head_of(alloc, bytes, spans, parsed)
 }
 
-/// The head at the front of at most 16,384 bytes, and how many of them it takes; none where there
-/// is none yet.
+/// The head at the front of at most `MOST_HEAD` bytes, and its length in bytes; `None` if there is
+/// no complete head yet.
 fn parse_response_head(
     alloc: Global,
     bytes: &[u8],
@@ -96,8 +97,8 @@ fn parse_response_head(
     }
 }
 
-/// The head at the front, and how many bytes it takes; none where there is none yet. A head has at
-/// most 16,384 bytes and 64 fields.
+/// The head at the front, and its length in bytes; `None` if there is no complete head yet. A head
+/// has at most `MOST_HEAD` bytes and `MOST_FIELDS` fields.
 pub(crate) fn find_response_head(
     alloc: Global,
     bytes: &[u8],

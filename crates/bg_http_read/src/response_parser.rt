@@ -1,4 +1,4 @@
-//! A response, which is fed the bytes of the input as they come.
+//! A parser of a response that is fed the bytes of the input as they arrive.
 ghost use Rattle.std.specs.Prelude.{◌≡◌, ◌<◌, ◌++◌, [], true, IfErr, IfOk, IfNone, IfSome, IsFalse, IsTrue};
 ghost use Rattle.std.specs.Prelude.{List, ℕ, length};
 ghost use Rattle.std.specs.Io.KnownBytes.{Keeps};
@@ -15,8 +15,8 @@ use bg_http::{Duplex, Request, Response, ResponseFault};
 use std::alloc::Global;
 use std::marker::Model;
 
-/// A response, which is fed the bytes of the input as they come (RFC 9112). Where the input is cut
-/// into pieces doesn't matter.
+/// A parser of a response. It is fed the bytes of the input as they arrive (RFC 9112). The result
+/// does not depend on how the input is cut into pieces.
 #[derive(Drop)]
 pub struct ResponseParser<'a> {
     feed: ResponseFeed<'a>,
@@ -24,7 +24,7 @@ pub struct ResponseParser<'a> {
     is_open: bool,
 }
 
-/// Whether neither a response nor a fault was given.
+/// Whether the parser has given neither a response nor a fault.
 fn asks_more(answer: &Result<Option<Response>, ResponseFault>) -> bool
     ensures { result ≡ asks_more answer.now }
 {
@@ -54,7 +54,7 @@ impl<'a> Model for ResponseParser<'a> {
 }
 
 impl<'a> ResponseParser<'a> {
-    /// The response to `request`, of which nothing came.
+    /// The state before the first byte of the response to `request`.
     pub fn new(alloc: Global, request: &'a Request) -> ResponseParser<'a>
         ensures { result ≡ record { request = request.now; seen = []; is_open = true } }
     {
@@ -65,13 +65,13 @@ impl<'a> ResponseParser<'a> {
         }
     }
 
-    /// Adds bytes of the input, and gives the response where it is whole; none where more are
-    /// needed, or the end of the input. Bytes past the response are dropped.
+    /// Adds bytes of the input, and gives the response if it is complete; `None` if more bytes or
+    /// the end of the input are needed. Bytes after the response are dropped.
     ///
-    /// The faults are those of `read_response` that no bytes that follow can mend, and OutOfMemory,
-    /// which may come before another. Of a head they are told once an empty line has come, once
-    /// 16,384 bytes have, or at the end. After a response or a fault the parser is neither fed nor
-    /// ended.
+    /// The faults are those of `read_response` that no further bytes can repair, and OutOfMemory,
+    /// which may come before another fault. A fault of the head is reported after an empty line,
+    /// after 16,384 bytes, or at the end. After a response or a fault, the caller neither feeds nor
+    /// ends the parser.
     pub fn feed(&mut self, bytes: &[u8]) -> Result<Option<Response>, ResponseFault>
         requires { IsTrue self.old.is_open }
         ensures response { IfOk result (λ found. IfSome found (λ response.
@@ -90,8 +90,8 @@ impl<'a> ResponseParser<'a> {
         answer
     }
 
-    /// Reads what comes next: of a body whose length is known, where no bytes wait, straight into its
-    /// own room, and else into the piece. None where reading failed.
+    /// Reads the next bytes: if no bytes wait and the length of the body is known, directly into the
+    /// memory of the body, and otherwise into the piece. Gives `None` if the read fails.
     pub(crate) fn read_more<S: Duplex>(
         &mut self,
         stream: &mut S,
@@ -118,8 +118,8 @@ impl<'a> ResponseParser<'a> {
         }
     }
 
-    /// The response to an input that ends here. Otherwise the fault is Closed, or one that was not
-    /// told yet, or OutOfMemory.
+    /// The response in an input that ends here. Otherwise the fault is Closed, a fault that was not
+    /// reported yet, or OutOfMemory.
     pub fn end(self) -> Result<Response, ResponseFault>
         requires { IsTrue self.is_open }
         ensures response { IfOk result (λ response.

@@ -1,4 +1,4 @@
-//! How far a response is read.
+//! The progress of reading a response.
 ghost use Rattle.std.specs.Prelude.{◌≡◌, ◌≤◌, [], List, ℕ, IfErr, IfOk, IfNone, IsFalse, drop, length};
 ghost use Rattle.std.specs.Io.KnownBytes.{Keeps};
 ghost use Rattle.bg_http.specs.declared.request.Request.{Request as RequestValue};
@@ -20,25 +20,25 @@ use bg_http::{Duplex, Request, Response, ResponseFault};
 use std::alloc::Global;
 use std::mem;
 
-/// What of a response is looked for.
+/// The part of a response that comes next.
 #[derive(Drop)]
 pub(crate) enum ResponseStage {
     /// The head, after interim responses.
     Heads(HeadSearch),
     /// The body.
     Body(ResponseBody),
-    /// Nothing: an answer or a fault was given.
+    /// Nothing: the parser has given an answer or a fault.
     Done,
 }
 
-/// What came of bytes: the response, where it is whole; and how many of them were taken.
+/// The response if it is complete, and the number of bytes that were taken.
 #[derive(Drop)]
 pub(crate) struct Advance {
     pub(crate) response: Option<Response>,
     pub(crate) taken: usize,
 }
 
-/// How far the response to a request is read.
+/// The progress of reading the response to a request.
 #[derive(Drop)]
 pub(crate) struct ResponseProgress<'a> {
     alloc: Global,
@@ -47,7 +47,7 @@ pub(crate) struct ResponseProgress<'a> {
 }
 
 impl<'a> ResponseProgress<'a> {
-    /// Nothing came.
+    /// The state before the first byte.
     pub(crate) fn new(alloc: Global, request: &'a Request) -> ResponseProgress<'a>
         ensures request { result.request.now ≡ request.now }
         ensures stage { Starts result.stage }
@@ -69,7 +69,7 @@ impl<'a> ResponseProgress<'a> {
         }
     }
 
-    /// Whether it is worth looking at so many bytes that wait.
+    /// Whether `count` waiting bytes need to be parsed now.
     pub(crate) fn is_due(&self, count: usize) -> bool
         ensures { IsFalse result → AwaitsHead self.now.stage }
     {
@@ -79,8 +79,8 @@ impl<'a> ResponseProgress<'a> {
         }
     }
 
-    /// How many bytes may wait before it is worth looking at them, if no line ends: 0 where it may
-    /// be at any byte.
+    /// The number of bytes that may wait before they need to be parsed, if no line ends; 0 if any
+    /// byte may matter.
     pub(crate) fn line_limit(&self) -> usize {
         match &self.stage {
             ResponseStage::Heads(search) => search.line_limit(),
@@ -88,8 +88,8 @@ impl<'a> ResponseProgress<'a> {
         }
     }
 
-    /// One read of what is missing of a body whose length is known, straight into its own room. The
-    /// bytes that came are put behind those that were seen.
+    /// Makes one read of the missing part of a body whose length is known, directly into the memory
+    /// of the body. Appends the bytes that the read gave to those that were seen.
     pub(crate) fn read_body<S: Duplex>(&mut self, stream: &mut S, seen: &mut Seen) -> Straight
         requires { IsOpenStage self.old.stage }
         ensures came { SeesStraight result seen.old.bytes seen.new.bytes (S.remaining stream.old)
@@ -107,7 +107,7 @@ impl<'a> ResponseProgress<'a> {
         }
     }
 
-    /// Takes what it can of the bytes.
+    /// Takes as many of the bytes as it can.
     pub(crate) fn advance(&mut self, bytes: &[u8]) -> Result<Advance, ResponseFault>
         requires { IsOpenStage self.old.stage }
         ensures fits { IfOk result (λ advance. advance.taken ≤ length bytes.now) }
@@ -128,7 +128,7 @@ impl<'a> ResponseProgress<'a> {
         }
     }
 
-    /// Looks for the head in the bytes, and takes what it can of the body.
+    /// Looks for the head in the bytes, and takes as much of the body as it can.
     fn advance_head(
         &mut self,
         mut search: HeadSearch,
@@ -161,7 +161,7 @@ impl<'a> ResponseProgress<'a> {
         self.advance_body(part, bytes, taken)
     }
 
-    /// Takes what it can of the body, which begins at a place in the bytes.
+    /// Takes as much as it can of the body, which begins at a given position in the bytes.
     fn advance_body(
         &mut self,
         mut part: ResponseBody,
@@ -199,7 +199,7 @@ impl<'a> ResponseProgress<'a> {
         }
     }
 
-    /// The response whose body goes to the end of the input, which has come.
+    /// The response whose body goes to the end of the input. The input has ended.
     pub(crate) fn close(&mut self) -> Result<Response, ResponseFault>
         requires { IsOpenStage self.old.stage }
         ensures response { (request : RequestValue) (waits seen : List ℕ)

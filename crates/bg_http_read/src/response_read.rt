@@ -10,7 +10,7 @@ use bg_http::{Duplex, MOST_TURNS, Request, Response, ResponseFault};
 use std::alloc::Global;
 use std::io::Read;
 
-/// Reads the response to `request` with its body whole, from a stream of which nothing is written.
+/// Reads the response to `request` with its whole body. Writes nothing to the stream.
 fn read_response_from<S: Duplex>(
     alloc: Global,
     request: &Request,
@@ -37,18 +37,19 @@ fn read_response_from<S: Duplex>(
     Err(ResponseFault::ReadFailed)
 }
 
-/// Reads the response to `request` with its body whole (RFC 9112). Up to 16 interim responses
-/// before it are read and dropped (RFC 9110 section 15.2). Bytes past it may be read, and are
-/// dropped. A read that was interrupted is tried again.
+/// Reads the response to `request` with its whole body (RFC 9112). Reads and drops up to 16 interim
+/// responses before it (RFC 9110 section 15.2). Bytes after the response may be read, and are
+/// dropped. An interrupted read is repeated.
 ///
-/// The faults of the input, of which the first place decides: of each head Bad where its first
-/// 16,384 bytes can become none, whatever follows, HeadTooLarge where they hold one of more than 64
-/// fields, or none yet, and Closed where the input ends before; Bad for a 17th interim response;
-/// those of `judge_response` for the first rule that the head breaks; of the body Bad where the
-/// line of a chunk, the CR LF after its data or the trailers can't come within their limits,
-/// TooLarge where the size of a chunk, or what comes before the end of the input, brings it above
-/// 4,194,304 bytes, and Closed where the input ends before. Others are ReadFailed, also after
-/// 16,777,216 pieces or interruptions of one read, and OutOfMemory.
+/// The first faulty place in the input decides which fault is given. For each head: Bad if no
+/// continuation of its first 16,384 bytes begins with a head; HeadTooLarge if they hold a head of
+/// more than 64 fields, or no complete head; Closed if the input ends before the end of the head;
+/// Bad for a 17th interim response; the fault of `judge_response` for the first rule that the head
+/// breaks. For the body: Bad if the line of a chunk, the CR LF after its data or the trailers
+/// cannot come within their limits; TooLarge if the size of a chunk, or the bytes before the end of
+/// the input, bring the body above 4,194,304 bytes; Closed if the input ends before the end of the
+/// body. The other faults are ReadFailed, also after 16,777,216 pieces or interruptions of one
+/// read, and OutOfMemory.
 pub fn read_response<R: Read>(
     alloc: Global,
     request: &Request,

@@ -1,10 +1,10 @@
-//! The bytes that a parser was fed in all, which only proofs read.
+//! All bytes that a parser was fed. Only proofs read them.
 ghost use Rattle.std.specs.Prelude.{◌≡◌, List, ℕ, [], ◌++◌};
 ghost use Rattle.std.specs.Borrow.{ftrue};
 
 use std::marker::Model;
 
-/// The bytes that a parser was fed in all. They exist only in proofs, and take no memory.
+/// All bytes that a parser was fed. They exist only in proofs, and take no memory.
 #[derive(Drop)]
 pub(crate) struct Seen {
     ghost bytes: { List ℕ },
@@ -25,7 +25,7 @@ impl Seen {
         Seen {}
     }
 
-    /// Puts more behind them. It does nothing.
+    /// Appends more bytes. It does nothing at run time.
     pub(crate) fn add(&mut self, _more: &[u8])
         ensures { self.new.bytes ≡ self.old.bytes ++ _more.now }
     {}

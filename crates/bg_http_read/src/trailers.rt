@@ -3,21 +3,22 @@ ghost use Rattle.std.specs.Prelude.{◌≡◌, ◌<◌, ◌≤◌, ℕ, IfOk, If
 ghost use Rattle.bg_http_read.specs.BodyFaults.{TrailersFail, cut, malformed};
 ghost use Rattle.bg_http_read.specs.Chunks.{ReadsTrailers};
 
+use crate::head_limits::{MOST_FIELDS, MOST_HEAD};
 use httparse::Status;
 use httparse::spans::{EMPTY_HEADER_SPAN, parse_headers};
 
-/// The most bytes that trailers may have.
-const MOST_TRAILERS: usize = 16_384;
+/// The most bytes that trailers may have, as many as a head.
+const MOST_TRAILERS: usize = MOST_HEAD;
 
-/// The most fields that trailers may have.
-const MOST_TRAILER_FIELDS: usize = 64;
+/// The most fields that trailers may have, as many as a head.
+const MOST_TRAILER_FIELDS: usize = MOST_FIELDS;
 
-/// No trailers can come.
+/// The bytes cannot become trailers.
 #[derive(Drop)]
 pub(crate) struct NoTrailers;
 
-/// How many bytes the trailers at the front take; nothing where they aren't whole yet, and a fault
-/// where none can come.
+/// The length in bytes of the trailers at the front. Gives `None` if they are not complete yet, and
+/// an error if the bytes cannot become trailers.
 pub(crate) fn find_trailers(bytes: &[u8]) -> Result<Option<usize>, NoTrailers>
     ensures within { IfOk result (λ found. IfSome found (λ at.
         (0 < at) × (at ≤ length bytes.now))) }

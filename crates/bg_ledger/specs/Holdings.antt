@@ -1,23 +1,23 @@
--- What a seat and its record each have: an index, the calls answered, and the request, revision and
--- port in hand (0: none).
+-- What a seat and its record each have: an index, the number of answered calls, and the request with its revision
+-- and port (0: no request).
 use Rattle.std.specs.Prelude.{◌≡◌, ◌+◌, ◌<◌, ◌≤◌, ◌^◌, ℕ}
 use Rattle.bg_ledger.specs.declared.holding.Holding.{Holding}
 
--- a new side: out, with no call answered
+-- a new side: no request, and no answered call
 abbrev pub fresh : ℕ → Holding
 fresh index = record { index = index; calls = 0; number = 0; revision = 0; port = 0 }
 
--- one more call is answered, and this request is in hand
-abbrev pub occupied : Holding → ℕ → ℕ → ℕ → Holding
-occupied before number revision port =
+-- the side after one more answered call, with this request
+abbrev pub after_enter : Holding → ℕ → ℕ → ℕ → Holding
+after_enter before number revision port =
     record before { calls = before.calls + 1; number = number; revision = revision; port = port }
 
--- one more call is answered, and no request is in hand
-abbrev pub vacated : Holding → Holding
-vacated before = record before { calls = before.calls + 1; number = 0; revision = 0; port = 0 }
+-- the side after one more answered call, without a request
+abbrev pub after_leave : Holding → Holding
+after_leave before = record before { calls = before.calls + 1; number = 0; revision = 0; port = 0 }
 
--- what holds of every seat of a book of so many: a seat that is in has room for one more call, and
--- one that is out has nothing in hand
+-- the invariant of a seat of a book with `seats` seats: a seat with a request has room for one more call, and a seat
+-- without one has no revision and no port
 pub record IsInBounds (seats : ℕ) (seat : Holding) : Type 0 where
   pub index : seat.index < seats
   pub port : seat.port < 2 ^ 16

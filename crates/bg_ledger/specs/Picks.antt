@@ -1,5 +1,4 @@
--- What a caller picks as the names, where it passes `Brand` and new blanks to a function that is
--- generic over `Names`.
+-- The names that a caller picks if it passes `Brand` and new blanks to a function that is generic over `Names`.
 use Rattle.std.specs.Prelude.{◌≤◌, ℕ, max, min}
 use Rattle.std.proofs.Common.{lit≤}
 use Rattle.std.proofs.Math.Nat.{le-max_left, max-le, min-le_right}
@@ -7,14 +6,14 @@ use Rattle.bg_ledger.specs.Blanks.{blanks_at}
 use Rattle.bg_ledger.specs.declared.blanks.Blanks.{Blanks}
 use Rattle.bg_ledger.specs.declared.names.Names.{Ghosts}
 
--- a number from 1 to 8 as it is, and in place of any other the nearer of the two
+-- the number itself if it lies from 1 to 8; else the nearer of 1 and 8
 abbrev pub seats_in_range : ℕ → ℕ
 seats_in_range n = max 1 (min n 8)
 
 pub seats_in_range-bounds : (n : ℕ) → (1 ≤ seats_in_range n) × (seats_in_range n ≤ 8)
 seats_in_range-bounds n = (le-max_left 1 (min n 8), max-le (lit≤ tt) (min-le_right n 8))
 
--- the names of the ledgers that the blanks are for, and this number of seats
+-- the names of the ledgers of the blanks, and n seats
 abbrev pub names_of : {X : Type 0} → ℕ → Blanks → Ghosts X
 names_of n blanks = record {
   seats = seats_in_range n;

@@ -1,4 +1,4 @@
--- What a side has, at the index that its variant stands for.
+-- The quantities of a side, at the index of its variant.
 use Rattle.std.specs.Prelude.{ℕ}
 use Rattle.bg_ledger.specs.declared.holding.Amounts.{Amounts}
 use Rattle.bg_ledger.specs.declared.holding.Holding.{Holding}
@@ -7,7 +7,7 @@ use Rattle.bg_ledger.specs.declared.indexed.SeatSides.TheVariants as seat
 use Rattle.bg_ledger.specs.declared.indexed.RecordSides.{RecordSides}
 use Rattle.bg_ledger.specs.declared.indexed.RecordSides.TheVariants as own
 
--- the amounts of a side, at its index
+-- the amounts of a side with its index
 abbrev pub holding_at : ℕ → Amounts → Holding
 holding_at index a =
     record {
@@ -18,7 +18,7 @@ holding_at index a =
       port = a.port;
     }
 
--- what a seat's side has
+-- the quantities of a seat's side
 unfoldable pub seat_holding : {N : Type 0} → SeatSides N → Holding
 seat_holding (seat.First a) = holding_at 0 a
 seat_holding (seat.Second a) = holding_at 1 a
@@ -29,7 +29,7 @@ seat_holding (seat.Sixth a) = holding_at 5 a
 seat_holding (seat.Seventh a) = holding_at 6 a
 seat_holding (seat.Eighth a) = holding_at 7 a
 
--- what a record's side has
+-- the quantities of a record's side
 unfoldable pub record_holding : {N : Type 0} → RecordSides N → Holding
 record_holding (own.First a) = holding_at 0 a
 record_holding (own.Second a) = holding_at 1 a

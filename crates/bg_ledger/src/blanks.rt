@@ -1,4 +1,4 @@
-//! New ledgers, with which a function over `Names` is called.
+//! New ledgers for a call of a function that is generic over `Names`.
 ghost use Rattle.std.specs.Prelude.{◌≡◌, ◌≢◌, ◌<◌, ℕ};
 
 use std::mem::replace;
@@ -9,17 +9,17 @@ use std::sync::ledger::Blank;
 pub struct SeatBlanks {
     /// For the ledger of the calls.
     pub calls: Blank,
-    /// For that of the request numbers.
+    /// For the ledger of the request numbers.
     pub number: Blank,
-    /// For that of the revision numbers.
+    /// For the ledger of the revision numbers.
     pub revision: Blank,
-    /// For that of the ports.
+    /// For the ledger of the ports.
     pub port: Blank,
     pub ghost two_parts: { (calls.parts ≡ 2) × (number.parts ≡ 2) × (revision.parts ≡ 2)
         × (port.parts ≡ 2) },
 }
 
-/// New ledgers for all eight indices, first to eighth. They take no bytes.
+/// New ledgers for all eight indices. They take no space at run time.
 #[derive(Drop)]
 pub struct Blanks {
     /// For index 0.

@@ -1,9 +1,9 @@
-//! What a side has, as plain numbers.
+//! The quantities of a side, as plain numbers.
 ghost use Rattle.std.specs.Prelude.{◌≡◌};
 ghost use Rattle.bg_ledger.specs.Sides.{holding_at};
 
-/// The four quantities: the calls answered, and the numbers of the request, its revision and its
-/// port (0: none).
+/// The four quantities: the number of answered calls, and the numbers of the request, its revision and its
+/// port (0: no request).
 #[derive(Clone, Copy)]
 pub(crate) struct Amounts {
     pub(crate) calls: u64,
@@ -12,18 +12,18 @@ pub(crate) struct Amounts {
     pub(crate) port: u64,
 }
 
-/// What a seat or a record has at its index. Contracts see both as this.
+/// What a seat or a record has at its index. Contracts see a seat and a record as a `Holding`.
 #[derive(Clone, Copy)]
 pub struct Holding {
     /// The index among the seats of a book, 0 to 7.
     pub index: u32,
-    /// How many calls were answered.
+    /// The number of answered calls.
     pub calls: u64,
-    /// The number of the request in hand, at least 1, or 0 where there is none.
+    /// The number of the seat's request, at least 1; 0 if it holds none.
     pub number: u64,
-    /// The number of that request's revision, or 0 where no request is in hand.
+    /// The number of that request's revision; 0 without a request.
     pub revision: u64,
-    /// That request's port, or 0 where no request is in hand.
+    /// The port of that request; 0 without a request.
     pub port: u64,
 }
 

@@ -1,5 +1,5 @@
-//! The sides of the eight indices. Each index has ledgers of its own, so its sides are types of
-//! their own: here alone they are told apart.
+//! The sides of the eight indices. Each index has its own ledgers, so its sides have their own types. Only this
+//! module distinguishes these types.
 ghost use Rattle.std.specs.Prelude.{◌≡◌, ◌<◌};
 ghost use Rattle.bg_ledger.specs.Blanks.{AreFor};
 ghost use Rattle.bg_ledger.specs.Holdings.{fresh};
@@ -36,7 +36,7 @@ pub(crate) enum RecordSides<N: Names> {
     Eighth(RecordSide<N, 7>),
 }
 
-/// Both sides of an index, their quantities 0.
+/// Makes both sides of an index, with all quantities 0.
 #[tactic(auto, unfolding(crate::specs::Sides::seat_holding, crate::specs::Sides::record_holding))]
 pub(crate) fn pair_at<N: Names>(index: u32, blanks: SeatBlanks) -> (RecordSides<N>, SeatSides<N>)
     requires index { index < 8 }
@@ -80,7 +80,7 @@ pub(crate) fn pair_at<N: Names>(index: u32, blanks: SeatBlanks) -> (RecordSides<
     }
 }
 
-/// What a seat's side has.
+/// The quantities of a seat's side.
 #[tactic(auto, unfolding(crate::specs::Sides::seat_holding, crate::specs::Sides::record_holding))]
 pub(crate) fn read<N: Names>(seat: &SeatSides<N>) -> Holding
     ensures { result ≡ seat_holding seat.now }
@@ -97,7 +97,7 @@ pub(crate) fn read<N: Names>(seat: &SeatSides<N>) -> Holding
     }
 }
 
-/// Makes both sides the next, and answers what they were.
+/// Sets both sides to new quantities, and gives the old ones.
 #[tactic(auto, unfolding(crate::specs::Sides::seat_holding, crate::specs::Sides::record_holding))]
 pub(crate) fn exchange<N: Names>(
     own: &mut RecordSides<N>,

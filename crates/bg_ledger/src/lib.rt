@@ -1,14 +1,13 @@
-//! Seats and the book's records of them, tied by ledgers.
+//! A worker's seat and the book's record of it, and the proof (ledgers) that the two agree.
 //!
-//! A worker has a `Seat`: its own count of the calls that it was answered, and the number, revision
-//! and port of the request in its hand. The book has a `SeatRecord` of each seat, with a copy of the
-//! same four quantities. The two are never in one place but while the book's lock is held, so no
-//! clause of either could speak of the other. A ledger can: its tokens are split between the two
-//! sides, and put together they show that the copies are equal, whatever happened in between. They
-//! take no bytes, and what is called on them does nothing when it runs.
+//! A worker has a `Seat`: the number of its answered calls, and the number, revision and port of the request that
+//! it holds. The book has a `SeatRecord` of each seat, with a copy of the same four quantities. The seat and its
+//! record come together only while the book's lock is held, so no clause of either can refer to the other. A ledger
+//! can: its tokens are split between the two sides, and together they prove that the copies are equal, regardless
+//! of the calls in between. The tokens take no space at run time, and calls on them do nothing at run time.
 //!
-//! A ledger's name is a type. A book is therefore opened and used inside a function over `N: Names`,
-//! which is called with `Brand` for `N` and with new `Blanks`. The caller's proof picks the names by
+//! A ledger's name is a type. So a caller opens and uses a book inside a function that is generic over `N: Names`.
+//! It calls this function with `Brand` for `N` and with new `Blanks`. The caller's proof picks the names with
 //! `names_of` (`specs/Picks.antt`):
 //!
 //! ```text
@@ -16,8 +15,8 @@
 //! ghosts-work_four_seats g a = names_of 4 a.blanks
 //! ```
 //!
-//! Nothing whose type names `N` can leave such a function. bg_tests has the whole example
-//! (`src/ledger/four_seats.rt`): four seats, worked from two threads and reunited with their records.
+//! No value whose type names `N` can leave such a function. bg_tests has the complete example
+//! (`src/ledger/four_seats.rt`): two threads use four seats, which are then reunited with their records.
 #![tactic(auto)]
 
 mod blanks;

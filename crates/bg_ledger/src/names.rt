@@ -1,4 +1,4 @@
-//! The types that name ledgers.
+//! The types that name the ledgers.
 ghost use Rattle.std.specs.Prelude.{◌≤◌, ℕ};
 ghost use Rattle.std.proofs.Common.{lit≤};
 
@@ -6,9 +6,9 @@ use std::marker::{Brand, PhantomData};
 use std::sync::ledger::Ledger;
 
 /// The names of the 32 ledgers of a book's seats, four for each index from 0 to 7, and the number of
-/// seats. A function over `Names` is called with `Brand`, and the caller's proof picks the members.
+/// seats. A caller passes `Brand` to a function that is generic over `Names`, and its proof picks the members.
 pub trait Names {
-    /// How many seats there are.
+    /// The number of seats.
     ghost seats: { ℕ };
 
     /// The name of the ledger of the calls, by index.
@@ -27,7 +27,7 @@ pub trait Names {
     ghost in_range: { (1 ≤ seats) × (seats ≤ 8) };
 }
 
-/// What stands where no names are picked: no blank has them.
+/// The members if the caller's proof picks none; no blank has these names.
 impl Names for Brand {
     ghost seats = { 1 };
 
@@ -43,44 +43,44 @@ impl Names for Brand {
 }
 
 /// The type of the ledger of the calls of index `I`.
-pub(crate) struct Calls<N: Names, const I: u32> {
+pub(crate) struct CallsLedger<N: Names, const I: u32> {
     names: PhantomData<N>,
 }
 
-impl<N: Names, const I: u32> Ledger for Calls<N, I> {
+impl<N: Names, const I: u32> Ledger for CallsLedger<N, I> {
     ghost name = { N.calls I };
 
     ghost parts = { 2 };
 }
 
 /// The type of the ledger of the request numbers of index `I`.
-pub(crate) struct Number<N: Names, const I: u32> {
+pub(crate) struct NumberLedger<N: Names, const I: u32> {
     names: PhantomData<N>,
 }
 
-impl<N: Names, const I: u32> Ledger for Number<N, I> {
+impl<N: Names, const I: u32> Ledger for NumberLedger<N, I> {
     ghost name = { N.number I };
 
     ghost parts = { 2 };
 }
 
 /// The type of the ledger of the revision numbers of index `I`.
-pub(crate) struct Revision<N: Names, const I: u32> {
+pub(crate) struct RevisionLedger<N: Names, const I: u32> {
     names: PhantomData<N>,
 }
 
-impl<N: Names, const I: u32> Ledger for Revision<N, I> {
+impl<N: Names, const I: u32> Ledger for RevisionLedger<N, I> {
     ghost name = { N.revision I };
 
     ghost parts = { 2 };
 }
 
 /// The type of the ledger of the ports of index `I`.
-pub(crate) struct Port<N: Names, const I: u32> {
+pub(crate) struct PortLedger<N: Names, const I: u32> {
     names: PhantomData<N>,
 }
 
-impl<N: Names, const I: u32> Ledger for Port<N, I> {
+impl<N: Names, const I: u32> Ledger for PortLedger<N, I> {
     ghost name = { N.port I };
 
     ghost parts = { 2 };

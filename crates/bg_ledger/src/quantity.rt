@@ -1,11 +1,10 @@
-//! One quantity that a seat and its record share, and the ledger that ties the two copies of it.
+//! One quantity that a seat and its record share, and the ledger that ties its two copies.
 ghost use Rattle.std.specs.Prelude.{◌≡◌};
 
 use std::marker::Model;
 use std::sync::ledger::{Blank, Ledger, Share, Total};
 
-/// The seat's copy. Of the ledger's total, which never changes, its share has as much as the copy
-/// says.
+/// The seat's copy. Its share of the ledger's total is the amount of the copy. The total never changes.
 #[derive(Drop)]
 pub(crate) struct Held<L: Ledger> {
     amount: u64,
@@ -23,8 +22,8 @@ impl<L: Ledger> Model for Held<L> {
         × (held.share.amount ≡ held.amount) };
 }
 
-/// The record's copy. Its share has what the copy lacks of the total, so the two shares make up the
-/// total exactly where the copies are equal.
+/// The record's copy. Its share is the total minus the amount of the copy, so the two shares add up to the total
+/// exactly if the copies are equal.
 #[derive(Drop)]
 pub(crate) struct Noted<L: Ledger> {
     amount: u64,
@@ -43,7 +42,7 @@ impl<L: Ledger> Model for Noted<L> {
         × (noted.lacking.parts ≡ 1) × (noted.lacking.amount + noted.amount ≡ noted.total.amount) };
 }
 
-/// Both copies of a quantity that is 0.
+/// Makes both copies of a quantity, which is 0.
 pub(crate) fn pair_quantity<L: Ledger>(blank: Blank) -> (Noted<L>, Held<L>)
     requires name { blank.name ≡ L.name }
     requires parts { blank.parts ≡ 2 }
@@ -63,7 +62,7 @@ pub(crate) fn pair_quantity<L: Ledger>(blank: Blank) -> (Noted<L>, Held<L>)
 }
 
 impl<L: Ledger> Held<L> {
-    /// The quantity, as the seat has it.
+    /// The quantity in the seat's copy.
     pub(crate) fn amount(&self) -> u64
         ensures { result ≡ self.now }
     {
@@ -72,8 +71,8 @@ impl<L: Ledger> Held<L> {
 }
 
 impl<L: Ledger> Noted<L> {
-    /// Shows that the copies are equal: the seat is lent the record's share, and has all parts of
-    /// the ledger then.
+    /// Proves that the copies are equal: the record lends its share to the seat, which then has all parts of the
+    /// ledger.
     fn compare(&mut self, held: &mut Held<L>)
         ensures equal { self.old ≡ held.old }
         ensures noted { self.new ≡ self.old }
@@ -85,7 +84,7 @@ impl<L: Ledger> Noted<L> {
         held.share.give(&mut self.lacking, 1, lacked);
     }
 
-    /// Makes both copies this amount, and answers what they were.
+    /// Sets both copies to this amount, and gives the old one.
     pub(crate) fn exchange(&mut self, held: &mut Held<L>, amount: u64) -> u64
         ensures equal { self.old ≡ held.old }
         ensures was { result ≡ held.old }

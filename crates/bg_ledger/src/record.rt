@@ -1,7 +1,7 @@
 //! The book's side.
 ghost use Rattle.std.specs.Prelude.{◌≡◌, ◌<◌, ◌^◌};
 ghost use Rattle.bg_ledger.specs.Blanks.{AreFor};
-ghost use Rattle.bg_ledger.specs.Holdings.{fresh, occupied, vacated};
+ghost use Rattle.bg_ledger.specs.Holdings.{fresh, after_enter, after_leave};
 ghost use Rattle.bg_ledger.specs.declared.holding.Holding.{Holding};
 ghost use Rattle.bg_ledger.specs.Sides.{record_holding};
 
@@ -12,7 +12,7 @@ use crate::names::Names;
 use crate::seat::Seat;
 use std::marker::Model;
 
-/// What a book knows of the calls that it answered to the seat of the same index.
+/// A book's record of the seat of the same index: the calls that the book answered to it.
 #[derive(Drop)]
 pub struct SeatRecord<N: Names> {
     side: RecordSides<N>,
@@ -24,8 +24,8 @@ impl<N: Names> Model for SeatRecord<N> {
     ghost view = { λ own. record_holding own.side };
 }
 
-/// The record and the seat of an index below the number of seats, of the blanks of that index: out,
-/// and with no call answered. Takes no memory.
+/// Makes the record and the seat of an index below the number of seats, from the blanks of that index. The seat
+/// holds no request and has no answered call. The call allocates nothing.
 pub fn pair<N: Names>(index: u32, blanks: SeatBlanks) -> (SeatRecord<N>, Seat<N>)
     requires index { index < N.seats }
     requires blanks { AreFor N.Names index blanks }
@@ -37,14 +37,14 @@ pub fn pair<N: Names>(index: u32, blanks: SeatBlanks) -> (SeatRecord<N>, Seat<N>
 }
 
 impl<N: Names> SeatRecord<N> {
-    /// Answers the seat a call that gives it a request: its number, its revision and its port.
+    /// Counts a call by which the seat gets a request, with this number, revision and port.
     pub fn enter(&mut self, seat: &mut Seat<N>, number: u64, revision: u64, port: u16)
         requires index { self.old.index ≡ seat.old.index }
         requires out { seat.old.number ≡ 0 }
         requires number { 0 < number }
         requires calls { seat.old.calls < 2 ^ 60 }
         ensures equal { self.old ≡ seat.old }
-        ensures seat { seat.new ≡ occupied seat.old number revision port }
+        ensures seat { seat.new ≡ after_enter seat.old number revision port }
         ensures own { self.new ≡ seat.new }
     {
         let before = seat.holding();
@@ -58,13 +58,13 @@ impl<N: Names> SeatRecord<N> {
         exchange::<N>(&mut self.side, &mut seat.side, next);
     }
 
-    /// Answers the seat a call that ends its request, with that request's number and revision.
+    /// Counts a call by which the seat's request leaves. Gives the number and the revision of that request.
     pub fn leave(&mut self, seat: &mut Seat<N>) -> (u64, u64)
         requires index { self.old.index ≡ seat.old.index }
         requires is_in { 0 < seat.old.number }
         ensures equal { self.old ≡ seat.old }
         ensures answer { result ≡ (seat.old.number, seat.old.revision) }
-        ensures seat { seat.new ≡ vacated seat.old }
+        ensures seat { seat.new ≡ after_leave seat.old }
         ensures own { self.new ≡ seat.new }
     {
         let before = seat.holding();
@@ -79,8 +79,8 @@ impl<N: Names> SeatRecord<N> {
         (was.number, was.revision)
     }
 
-    /// Changes nothing. What it ensures is known after it of any seat and record of one index,
-    /// whatever was done to them.
+    /// Changes nothing. It proves that the seat and the record of the same index are equal, regardless of the calls in
+    /// between.
     pub fn agree(&mut self, seat: &mut Seat<N>)
         requires { self.old.index ≡ seat.old.index }
         ensures equal { self.old ≡ seat.old }
@@ -91,7 +91,7 @@ impl<N: Names> SeatRecord<N> {
         exchange::<N>(&mut self.side, &mut seat.side, same);
     }
 
-    /// Ends both sides, and answers how many calls there were.
+    /// Ends both sides, and gives the number of answered calls.
     pub fn reunite(mut self, mut seat: Seat<N>) -> u64
         requires { self.index ≡ seat.index }
         ensures equal { self ≡ seat }
@@ -100,7 +100,7 @@ impl<N: Names> SeatRecord<N> {
         self.agree(&mut seat);
         let calls = seat.calls();
         let Seat { side } = seat;
-        // each side by a call: dropped here, its eight cases would be proved for each of the other's
+        // Each side is dropped by its own call. Dropped here, its eight cases would be proved for each of the other's.
         drop(side);
         drop(self);
         calls

@@ -9,9 +9,9 @@ use crate::indexed::{SeatSides, read};
 use crate::names::Names;
 use std::marker::Model;
 
-/// What a worker knows of the calls that it was answered. Its book has a `SeatRecord` of the same
-/// index, and only that record's calls change the seat. A seat can't be dropped: it ends in
-/// `SeatRecord::reunite`.
+/// A worker's share of the book: its answered calls, and the request that it holds. The book has a `SeatRecord` of
+/// the same index, and only the calls of that record change the seat. A seat can't be dropped: `SeatRecord::reunite`
+/// ends it.
 pub struct Seat<N: Names> {
     pub(crate) side: SeatSides<N>,
 }
@@ -25,21 +25,21 @@ impl<N: Names> Model for Seat<N> {
 }
 
 impl<N: Names> Seat<N> {
-    /// Whether the seat has a request in hand.
+    /// Whether the seat holds a request.
     pub fn is_in(&self) -> bool
         ensures { result ≡ nat_lt 0 self.now.number }
     {
         self.number() > 0
     }
 
-    /// The number of the request in hand, at least 1, or 0 where there is none.
+    /// The number of the seat's request, at least 1; 0 if it holds none.
     pub fn number(&self) -> u64
         ensures { result ≡ self.now.number }
     {
         self.holding().number
     }
 
-    /// The number of that request's revision, or 0 where no request is in hand.
+    /// The number of that request's revision; 0 without a request.
     pub fn revision(&self) -> u64
         ensures revision { result ≡ self.now.revision }
         ensures none { self.now.number ≡ 0 → result ≡ 0 }
@@ -47,7 +47,7 @@ impl<N: Names> Seat<N> {
         self.holding().revision
     }
 
-    /// That request's port, or 0 where no request is in hand.
+    /// The port of that request; 0 without a request.
     pub fn port(&self) -> u16
         ensures port { result ≡ self.now.port }
         ensures none { self.now.number ≡ 0 → result ≡ 0 }
@@ -55,7 +55,7 @@ impl<N: Names> Seat<N> {
         self.holding().port as u16
     }
 
-    /// How many calls the seat was answered, each `enter` and each `leave` one.
+    /// The number of answered calls; each `enter` and each `leave` counts as one.
     pub fn calls(&self) -> u64
         ensures { result ≡ self.now.calls }
     {
@@ -70,7 +70,7 @@ impl<N: Names> Seat<N> {
         self.holding().index
     }
 
-    /// All of it at once.
+    /// All quantities of the seat.
     pub(crate) fn holding(&self) -> Holding
         ensures all { result ≡ self.now }
         ensures bounds { IsInBounds N.seats self.now }

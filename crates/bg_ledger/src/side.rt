@@ -4,17 +4,17 @@ ghost use Rattle.bg_ledger.specs.Blanks.{AreFor};
 
 use crate::blanks::SeatBlanks;
 use crate::holding::Amounts;
-use crate::names::{Calls, Names, Number, Port, Revision};
+use crate::names::{CallsLedger, Names, NumberLedger, PortLedger, RevisionLedger};
 use crate::quantity::{Held, Noted, pair_quantity};
 use std::marker::Model;
 
 /// A seat's copies at index `I`.
 #[derive(Drop)]
 pub(crate) struct SeatSide<N: Names, const I: u32> {
-    calls: Held<Calls<N, I>>,
-    number: Held<Number<N, I>>,
-    revision: Held<Revision<N, I>>,
-    port: Held<Port<N, I>>,
+    calls: Held<CallsLedger<N, I>>,
+    number: Held<NumberLedger<N, I>>,
+    revision: Held<RevisionLedger<N, I>>,
+    port: Held<PortLedger<N, I>>,
 }
 
 impl<N: Names, const I: u32> Model for SeatSide<N, I> {
@@ -33,10 +33,10 @@ impl<N: Names, const I: u32> Model for SeatSide<N, I> {
 /// A record's copies at index `I`.
 #[derive(Drop)]
 pub(crate) struct RecordSide<N: Names, const I: u32> {
-    calls: Noted<Calls<N, I>>,
-    number: Noted<Number<N, I>>,
-    revision: Noted<Revision<N, I>>,
-    port: Noted<Port<N, I>>,
+    calls: Noted<CallsLedger<N, I>>,
+    number: Noted<NumberLedger<N, I>>,
+    revision: Noted<RevisionLedger<N, I>>,
+    port: Noted<PortLedger<N, I>>,
 }
 
 impl<N: Names, const I: u32> Model for RecordSide<N, I> {
@@ -52,7 +52,7 @@ impl<N: Names, const I: u32> Model for RecordSide<N, I> {
     } };
 }
 
-/// Both sides of an index, their quantities 0.
+/// Makes both sides of an index, with all quantities 0.
 pub(crate) fn pair_sides<N: Names, const I: u32>(
     blanks: SeatBlanks,
 ) -> (RecordSide<N, I>, SeatSide<N, I>)
@@ -80,7 +80,7 @@ pub(crate) fn pair_sides<N: Names, const I: u32>(
 }
 
 impl<N: Names, const I: u32> SeatSide<N, I> {
-    /// The quantities, as the seat has them.
+    /// The quantities in the seat's copies.
     pub(crate) fn amounts(&self) -> Amounts
         ensures { result ≡ self.now }
     {
@@ -94,7 +94,7 @@ impl<N: Names, const I: u32> SeatSide<N, I> {
 }
 
 impl<N: Names, const I: u32> RecordSide<N, I> {
-    /// Makes the quantities of both sides these amounts, and answers what they were.
+    /// Sets the quantities of both sides to these amounts, and gives the old ones.
     pub(crate) fn exchange(&mut self, seat: &mut SeatSide<N, I>, amounts: Amounts) -> Amounts
         ensures equal { self.old ≡ seat.old }
         ensures was { result ≡ seat.old }

@@ -1,4 +1,4 @@
--- What each call learns of the family f that its caller knows.
+-- What each call tells of the family f that its caller knows.
 use Rattle.std.proofs.Common.{◌≡◌, ℕ, ◌+◌, ◌-◌, ◌<◌, ◌≤◌, false, true, List, [], ◌∷◌, length, get_or, map, slice_get, refl, sym, ap, ◌∙◌, Some, None, Option}
 use Prim.Native.Nat.{zero, suc}
 use Rattle.std.specs.Prelude.{◌≢◌, is_some, option_map}
@@ -18,7 +18,7 @@ module _ {X : Type 0} where
   only_list l None = refl
   only_list l (Some x) = refl
 
-  -- the block counts cells, and its callers nodes
+  -- the block counts cells, and callers count nodes
   pub less_none : (n : ℕ) (o : Option X) → None ≡ beside n o → None ≡ beside (n - 64) o
   less_none n None e = refl
   less_none n (Some x) e = absurd (none_some (n, x) e)
@@ -70,7 +70,7 @@ get_or-map_nil h e (x ∷ xs) zero = refl
 get_or-map_nil h e (x ∷ xs) (suc l) = get_or-map_nil h e xs l
 
 module _ {X : Type 0} where
-  -- the lists of other nodes stay
+  -- the lists of other nodes are unchanged
   pub others_stay : (f : Family X) (lists : List (List (ℕ × X))) (k : ℕ) → IsFamily f → lists ≡ map (without_node k) f.lists → (l : ℕ) → (list_of f k ≢ Some l) → get_or lists l [] ≡ list_at f l
   others_stay f lists k ok e l n =
       let none : value_in (list_at f l) k ≡ None = ⊎_elim (λ h. h) (λ h. absurd (n (ap (option_map (λ p. p.0)) (ok.found l k h.0 h.1)))) (none_or_some (value_in (list_at f l) k)) in

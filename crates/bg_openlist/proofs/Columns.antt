@@ -1,21 +1,21 @@
--- Short names for what a block stores, column by column, and for its lists.
+-- Short names for the fields of a block, column by column, and for its lists.
 use Rattle.std.proofs.Common.{◌≡◌, ℕ, List, length, get_or, map, set, sym, ap, ◌∙◌, arith, Option}
 use mathlib.Core.Path.{subst}
 use Rattle.std.proofs.lemmas.List.{length-map}
 use Rattle.std.proofs.Math.Seq.{map-set_same}
 use Rattle.std_alloc.specs.declared.vec.Vec.{Vec}
 use Rattle.bg_openlist.specs.declared.nodes.Node.{Node}
-use Rattle.bg_openlist.specs.Block.{AreLists, HoldsLists, lists_of, pairs_of}
+use Rattle.bg_openlist.specs.Block.{AreLists, HoldsLists, stored_nodes, pairs_of}
 use Rattle.bg_openlist.specs.Nodes.{AllLinked, nexts, prevs, tags, values}
 use Rattle.bg_openlist.specs.Rings.{walk}
 
 pub record Columns (X : Type 0) : Type 0 where
-  -- of each cell the next one, the previous one, its list's number and what it holds
+  -- the next cell, the previous cell, the list's number and the value of each cell
   pub nx : List ℕ
   pub pv : List ℕ
   pub tg : List ℕ
   pub vs : List (Option X)
-  -- the nodes of each list, and its pairs as a caller sees them
+  -- the nodes of each list, and its pairs as callers see them
   pub fam : ℕ → List ℕ
   pub row : ℕ → List (ℕ × X)
 
@@ -26,8 +26,8 @@ module _ {X Z : Type 0} (nodes : Vec (Node X) Z) where
     pv = prevs nodes.items;
     tg = tags nodes.items;
     vs = values nodes.items;
-    fam = lists_of nodes.items lens;
-    row = λ l. pairs_of (values nodes.items) (lists_of nodes.items lens l);
+    fam = stored_nodes nodes.items lens;
+    row = λ l. pairs_of (values nodes.items) (stored_nodes nodes.items lens l);
   }
 
   pub length-nexts : length (nexts nodes.items) ≡ nodes.len
@@ -42,11 +42,11 @@ module _ {X Z : Type 0} (nodes : Vec (Node X) Z) where
   pub length-values : length (values nodes.items) ≡ nodes.len
   length-values = length-map nodes.items (λ (n : Node X). n.value) ∙ sym nodes.ok.0
 
--- where a cell is written, the column of a field that stays is as it was
+-- if a cell is written, the column of an unchanged field is unchanged
 pub column_same : {X Y : Type 0} (field : Node X → Y) (ns : List (Node X)) (i : ℕ) (now was : Node X) → was ≡ get_or ns i was → field now ≡ field was → map field (set ns i now) ≡ map field ns
 column_same field ns i now was is same = map-set_same field ns i now was (same ∙ ap field is)
 
--- the block after a change of its links, if its columns are now these
+-- the block after a change of its links, if its columns become these
 pub holds_now : {X Z : Type 0} {s : ℕ} {nodes nodes' : Vec (Node X) Z} {lens : List ℕ} (old : HoldsLists s nodes lens) (nx pv tg : List ℕ) (vs : List (Option X)) (lens' : List ℕ)
     → AllLinked s nodes' → nodes'.len ≡ nodes.len → nexts nodes'.items ≡ nx → prevs nodes'.items ≡ pv → tags nodes'.items ≡ tg → values nodes'.items ≡ vs → length lens' ≡ length lens
     → AreLists nx pv tg vs (λ l. walk nx (get_or lens' l 0) l) → HoldsLists s nodes' lens'

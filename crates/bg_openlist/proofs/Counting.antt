@@ -1,4 +1,4 @@
--- A list without repetition holds no more numbers below n than n.
+-- A list without repetition has at most n numbers below n.
 use Rattle.std.proofs.Common.{ℕ, ◌<◌, ◌≤◌, List, [], ◌∷◌, ◌++◌, length, sym, ap, arith, length-append}
 use Prim.Native.Nat.{zero, suc}
 use Rattle.std.specs.Prelude.{◌⊎◌}

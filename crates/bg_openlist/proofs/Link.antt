@@ -1,4 +1,4 @@
--- The block after a node is put in at the end of a list.
+-- The block after a node was appended to a list.
 use Rattle.std.proofs.Common.{◌≡◌, ℕ, ◌+◌, ◌-◌, ◌<◌, ◌≤◌, List, [], ◌∷◌, ◌++◌, length, get_or, set, refl, sym, ap, ◌∙◌, arith, Some, None, Option, length-append, length-set}
 use Rattle.std.specs.Prelude.{◌≢◌}
 use mathlib.Core.Path.{subst}
@@ -40,7 +40,7 @@ module _ {X : Type 0} where
   nodes_below tg vs l (k ∷ ks) b = (⊎_elim (λ h. absurd (none_some b.0.item (sym (get_or_past vs k None h.1) ∙ b.0.held))) (λ h. h.1) (leb_tells (length vs) k), nodes_below tg vs l ks b.1)
 
 module _ {X Z : Type 0} where
-  -- the free node i is filled, and joined to the head of the list m and to what stood before it
+  -- the free node i is filled, and linked to the head of list m and to the node before the head
   pub record Joined {s : ℕ} {nodes : Vec (Node X) Z} {lens : List ℕ} (inv : HoldsLists s nodes lens) (m i : ℕ) (v : X) (nodes' : Vec (Node X) Z) : Type 0 where
     pub low : m < 64
     pub within : i < nodes.len - 64
@@ -60,7 +60,7 @@ module _ {X Z : Type 0} {s : ℕ} {nodes : Vec (Node X) Z} {lens : List ℕ} {in
   abbrev k : ℕ
   k = 64 + i
 
-  -- a list is no longer than the block
+  -- a list is at most as long as the block
   pub short : get_or lens m 0 ≤ nodes.len
   short = let h = inv.lists.each m low in omega (arith, length-values nodes, length-walk nx (get_or lens m 0) m, fits_below (length vs) (fam m) h.once (nodes_below tg vs m (fam m) h.nodes))
 
@@ -189,7 +189,7 @@ module _ {X Z : Type 0} {s : ℕ} {nodes : Vec (Node X) Z} {lens : List ℕ} {in
       (λ j le lt n0. let n : j ≢ m = λ e. n0 (e ∙ sym zero_m) in ap (pairs_of vs') (at_l j lt n) ∙ pairs_keep vs k (Some v) (fam j) (fresh j lt))
       ∙ ap (λ t. set (seen_of nodes.items lens) m (t ++ (i, v) ∷ [])) (sym (row_at inv m low))
 
-  -- what is stored of each node
+  -- what the block has of each node
   pub places_linked : places (family_of nodes' lens') ≡ set (places (family_of nodes lens)) i (Some (m, v))
   places_linked =
       places_change inv holds_linked i (Some (m, v)) joined.len within

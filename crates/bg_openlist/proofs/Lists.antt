@@ -1,4 +1,4 @@
--- How the sixty-four lists change where a node is taken out of one.
+-- The sixty-four lists after a node was removed from one.
 use Rattle.std.proofs.Common.{◌≡◌, ℕ, ◌<◌, ◌≤◌, List, [], ◌∷◌, ◌++◌, length, get_or, set, refl, sym, ap, ◌∙◌, arith, None, Option}
 use Rattle.std.specs.Prelude.{◌≢◌, ◌⊎◌}
 use mathlib.Core.Path.{subst}
@@ -10,7 +10,7 @@ use Rattle.bg_openlist.specs.Rings.{Path}
 use Rattle.bg_openlist.proofs.Cases.{none_some, same_or_not}
 use Rattle.bg_openlist.proofs.Rings.{frame, sides, cut, distinct_cut, distinct_at, first_of, last_from}
 
--- a list, cut at one of its nodes
+-- a list, split at one of its nodes
 pub record CutAt (x : ℕ) (ks : List ℕ) : Type 0 where
   pub before : List ℕ
   pub after : List ℕ
@@ -33,7 +33,7 @@ pub near_apart : (tg : List ℕ) (m l y : ℕ) → l < 64 → (l ≢ m) → Near
 near_apart tg m l y low n near = ⊎_elim (λ e f. n (f ∙ e)) (λ h. let high = h.0 in λ f. absurd (omega arith)) near
 
 module _ {X : Type 0} where
-  -- what holds of each node but k stays
+  -- what holds of each node but k still holds
   pub nodes_keeps : (tg tg' : List ℕ) (vs vs' : List (Option X)) (k l : ℕ) → ((y : ℕ) → (y ≢ k) → (get_or tg' y 0 ≡ get_or tg y 0) × (get_or vs' y None ≡ get_or vs y None))
       → (ks : List ℕ) → AreNodes tg vs l ks → Fresh k ks → AreNodes tg' vs' l ks
   nodes_keeps tg tg' vs vs' k l h [] b f = tt
@@ -57,7 +57,7 @@ module _ {X : Type 0} where
   nodes_back tg vs l [] k qs b = b.1
   nodes_back tg vs l (p ∷ ps) k qs b = nodes_back tg vs l ps k qs b.1
 
-  -- a free node, a node of another list and a head are not in the list
+  -- a free node, a node of another list, and a head are not in the list
   pub fresh_by_free : (tg : List ℕ) (vs : List (Option X)) (l y : ℕ) → get_or vs y None ≡ None → (ks : List ℕ) → AreNodes tg vs l ks → Fresh y ks
   fresh_by_free tg vs l y free [] b = tt
   fresh_by_free tg vs l y free (k ∷ ks) b = ((λ e. none_some b.0.item (sym free ∙ ap (λ j. get_or vs j None) (sym e) ∙ b.0.held)), fresh_by_free tg vs l y free ks b.1)
@@ -120,7 +120,7 @@ module _ {X : Type 0} where
     others : (y : ℕ) → (y ≢ k) → (get_or tg y 0 ≡ get_or tg y 0) × (get_or vs' y None ≡ get_or vs y None)
     others y n = (refl, get_or-set_other vs k y None None n)
 
-    -- the list of k, without it
+    -- the list of k, without k
     pub here : IsList nx' pv' tg vs' m (place.before ++ place.after)
     here =
         let fresh = fresh_by_low tg vs m m low (place.before ++ k ∷ place.after) was.nodes in
@@ -141,7 +141,7 @@ module _ {X : Type 0} where
           nodes = nodes_keeps tg tg vs vs' k l others (fam l) h.nodes (fresh_by_tag tg vs l k (λ e. n (sym e ∙ tagged)) (fam l) h.nodes);
         }
 
-    -- all of them
+    -- all lists
     pub taken_out : (fam' : ℕ → List ℕ) → fam' m ≡ place.before ++ place.after → ((l : ℕ) → l < 64 → (l ≢ m) → fam' l ≡ fam l) → AreLists nx' pv' tg vs' fam'
     taken_out fam' at_m at_l = record {
       each = λ l lt. ⊎_elim (λ e. subst (λ (j : ℕ). IsList nx' pv' tg vs' j (fam' j)) (sym e) (subst (IsList nx' pv' tg vs' m) (sym at_m) here)) (λ n. subst (IsList nx' pv' tg vs' l) (sym (at_l l lt n)) (there l lt n)) (same_or_not l m);

@@ -14,7 +14,7 @@ use Rattle.bg_openlist.proofs.Cases.{same_or_not}
 below : (j k : ℕ) → j < k + 1 → (j ≢ k) → j < k
 below j k l n = ⊎_elim (λ h. absurd (n (omega arith))) (λ h. h.1) (leb_tells k j)
 
--- what holds of the nodes below k, and of the one that is written at k, holds of those below k + 1
+-- a fact of the nodes below k and of the node written at k holds of the nodes below k + 1
 one_more : {X : Type 0} (P : ℕ → X → Type 0) (ns : List X) (k : ℕ) (m : X) → k < length ns → P k m → ((j : ℕ) (d : X) → j < k → P j (get_or ns j d)) → (j : ℕ) (d : X) → j < k + 1 → P j (get_or (set ns k m) j d)
 one_more P ns k m inside h below_k j d l =
     ⊎_elim

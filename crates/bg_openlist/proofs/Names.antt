@@ -1,4 +1,4 @@
--- No node stands twice in the lists that a caller sees.
+-- No node occurs twice in the lists that callers see.
 use Rattle.std.proofs.Common.{◌≡◌, ℕ, ◌+◌, ◌-◌, ◌<◌, ◌≤◌, List, [], ◌∷◌, ◌++◌, get_or, map, sym, ap, ◌∙◌, arith, Option}
 use Prim.Native.Nat.{zero, suc}
 use mathlib.Core.Path.{subst}
@@ -8,7 +8,7 @@ use Rattle.bg_openlist.specs.Family.{linked_nodes}
 use Rattle.bg_openlist.specs.Tables.{table}
 use Rattle.bg_openlist.proofs.Pairs.{first_pair}
 
--- by the number of its list each node is told from those of later lists
+-- the number of its list distinguishes each node from those of later lists
 module _ (t : ℕ → ℕ) where
   abbrev pub AllAt : ℕ → List ℕ → Type 0
   AllAt l [] = Unit {0}

@@ -1,4 +1,4 @@
--- A list of nodes, and what a caller sees of it.
+-- A list of nodes, and what callers see of it.
 use Rattle.std.proofs.Common.{◌≡◌, ℕ, ◌+◌, ◌-◌, ◌≤◌, Bool, true, false, List, [], ◌∷◌, ◌++◌, get_or, set, slice_get, refl, sym, ap, ◌∙◌, arith, Some, None, Option, append_assoc}
 use Rattle.std.specs.Prelude.{◌≢◌, ◌==◌, if◌then◌else◌, not}
 use Rattle.std.proofs.lemmas.List.{get_or-set_other}
@@ -27,7 +27,7 @@ module _ {X : Type 0} where
   pub first_pair : (tg : List ℕ) (vs : List (Option X)) (l y : ℕ) (ys : List ℕ) (n : IsNode tg vs l y) → pairs_of vs (y ∷ ys) ≡ (y - 64, n.item) ∷ pairs_of vs ys
   first_pair tg vs l y ys n = ap (λ o. pair_at o y ++ pairs_of vs ys) n.held
 
-  -- a node that is not among them has no value there
+  -- a node that is not in the list has no value there
   pub value_none : (tg : List ℕ) (vs : List (Option X)) (l s : ℕ) (ks : List ℕ) → AreNodes tg vs l ks → Fresh (64 + s) ks → value_in (pairs_of vs ks) s ≡ None
   value_none tg vs l s [] b f = refl
   value_none tg vs l s (y ∷ ys) b f =
@@ -37,7 +37,7 @@ module _ {X : Type 0} where
   not_first true x o e = absurd (none_some x (sym e))
   not_first false x o e = (refl, e)
 
-  -- what stands before a node does not matter
+  -- the nodes before a node don't matter
   pub value_past : (s : ℕ) (ps qs : List (ℕ × X)) → value_in ps s ≡ None → value_in (ps ++ qs) s ≡ value_in qs s
   value_past s [] qs h = refl
   value_past s (p ∷ ps) qs h = let n = not_first (p.0 == s) p.1 (value_in ps s) h in ap (λ b. if b then Some p.1 else value_in (ps ++ qs) s) n.0 ∙ value_past s ps qs n.1

@@ -1,4 +1,4 @@
--- Which of many lists has a node.
+-- Finding the list that has a node.
 use Rattle.std.proofs.Common.{◌≡◌, ℕ, ◌+◌, ◌<◌, ◌≤◌, List, ◌∷◌, refl, ap, ◌∙◌, arith, Some, None, Option}
 use Prim.Native.Nat.{zero, suc}
 use Rattle.std.specs.Prelude.{◌≢◌, option_map}

@@ -1,16 +1,16 @@
--- How a ring changes where a node is taken out or put in at its end.
+-- A ring after a node was removed, or appended at its end.
 use Rattle.std.proofs.Common.{◌≡◌, ℕ, ◌<◌, List, [], ◌∷◌, ◌++◌, length, get_or, set, refl, sym, ap, ◌∙◌}
 use Rattle.std.specs.Prelude.{◌≢◌}
 use Rattle.std.proofs.lemmas.List.{get_or-set_same, get_or-set_other}
 use Rattle.bg_openlist.specs.Distinct.{Fresh, Distinct}
 use Rattle.bg_openlist.specs.Rings.{Path, walk}
 
--- the last of the nodes, or a where there is none
+-- the last of the nodes, or a if there is none
 abbrev pub last_from : ℕ → List ℕ → ℕ
 last_from a [] = a
 last_from a (k ∷ ks) = last_from k ks
 
--- the first of the nodes, or b where there is none
+-- the first of the nodes, or b if there is none
 abbrev pub first_of : List ℕ → ℕ → ℕ
 first_of [] b = b
 first_of (k ∷ ks) b = k
@@ -18,7 +18,7 @@ first_of (k ∷ ks) b = k
 turn : {x y : ℕ} → (x ≢ y) → y ≢ x
 turn n e = n (sym e)
 
--- links of other nodes do not matter
+-- links of other nodes don't matter
 pub frame : (nx pv : List ℕ) (p x q y a : ℕ) (ks : List ℕ) (b : ℕ) → Path nx pv a ks b → (a ≢ p) → Fresh p ks → Fresh q ks → (b ≢ q) → Path (set nx p x) (set pv q y) a ks b
 frame nx pv p x q y a [] b h na fp fq nb = (get_or-set_other nx p a x 0 na ∙ h.0, get_or-set_other pv q b y 0 nb ∙ h.1)
 frame nx pv p x q y a (k ∷ ks) b h na fp fq nb =
@@ -28,7 +28,7 @@ pub starts : (nx pv : List ℕ) (a : ℕ) (ks : List ℕ) (b : ℕ) → Path nx 
 starts nx pv a [] b h = h.0
 starts nx pv a (k ∷ ks) b h = h.0
 
--- what lies on either side of a node
+-- the neighbours of a node
 pub sides : (nx pv : List ℕ) (a : ℕ) (ps : List ℕ) (k : ℕ) (qs : List ℕ) (b : ℕ) → Path nx pv a (ps ++ k ∷ qs) b → (get_or pv k 0 ≡ last_from a ps) × (get_or nx k 0 ≡ first_of qs b)
 sides nx pv a [] k qs b h = (h.1, starts nx pv k qs b h.2)
 sides nx pv a (d ∷ ps) k qs b h = sides nx pv d ps k qs b h.2
@@ -58,7 +58,7 @@ pub distinct_cut : (ps : List ℕ) (k : ℕ) (qs : List ℕ) → Distinct (ps ++
 distinct_cut [] k qs d = d.1
 distinct_cut (p ∷ ps) k qs d = (fresh_cut p ps k qs d.0, distinct_cut ps k qs d.1)
 
--- and the node is in no other place
+-- the node occurs in no other place
 pub distinct_at : (ps : List ℕ) (k : ℕ) (qs : List ℕ) → Distinct (ps ++ k ∷ qs) → Fresh k (ps ++ qs)
 distinct_at [] k qs d = d.0
 distinct_at (p ∷ ps) k qs d = (turn (fresh_at p ps k qs d.0), distinct_at ps k qs d.1)
@@ -79,7 +79,7 @@ pub distinct_push : (ks : List ℕ) (k : ℕ) → Distinct ks → Fresh k ks →
 distinct_push [] k d f = (tt, tt)
 distinct_push (y ∷ ys) k d f = (fresh_push y ys k d.0 (turn f.0), distinct_push ys k d.1 f.1)
 
--- a node is taken out
+-- a node is removed
 pub cut : (nx pv : List ℕ) (a : ℕ) (ps : List ℕ) (k : ℕ) (qs : List ℕ) (b : ℕ) → Path nx pv a (ps ++ k ∷ qs) b → Fresh a (ps ++ k ∷ qs) → Distinct (ps ++ k ∷ qs) → Fresh b (ps ++ k ∷ qs)
     → last_from a ps < length nx → first_of qs b < length pv
     → Path (set nx (last_from a ps) (first_of qs b)) (set pv (first_of qs b) (last_from a ps)) a (ps ++ qs) b
@@ -92,7 +92,7 @@ cut nx pv a (p ∷ ps) k qs b h fa d fb lp lq = (
   cut nx pv p ps k qs b h.2 d.0 d.1 fb.1 lp lq,
 )
 
--- a node whose own links are set is put in at the end
+-- a node whose own links are set is appended at the end
 pub push : (nx pv : List ℕ) (a : ℕ) (ks : List ℕ) (k b : ℕ) → Path nx pv a ks b → get_or nx k 0 ≡ b → get_or pv k 0 ≡ last_from a ks → Fresh a ks → Distinct ks → Fresh b ks → Fresh k ks → (a ≢ k) → (b ≢ k)
     → last_from a ks < length nx → b < length pv
     → Path (set nx (last_from a ks) k) (set pv b k) a (ks ++ k ∷ []) b
@@ -108,6 +108,6 @@ walk_all : (nx pv : List ℕ) (a : ℕ) (ks : List ℕ) (b : ℕ) → Path nx pv
 walk_all nx pv a [] b h = refl
 walk_all nx pv a (k ∷ ks) b h = (λ i. h.0 i ∷ walk nx (length ks) (h.0 i)) ∙ ap (λ l. k ∷ l) (walk_all nx pv k ks b h.2)
 
--- the walk along nx, of as many steps as there are nodes, sees the nodes
+-- the walk along nx, with as many steps as there are nodes, visits the nodes
 pub walk_is : (nx pv : List ℕ) (a : ℕ) (ks : List ℕ) (b n : ℕ) → n ≡ length ks → Path nx pv a ks b → walk nx n a ≡ ks
 walk_is nx pv a ks b n e h = ap (λ j. walk nx j a) e ∙ walk_all nx pv a ks b h

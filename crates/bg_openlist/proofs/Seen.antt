@@ -1,4 +1,4 @@
--- What a caller sees of a block that holds the lists.
+-- What callers see of a block that holds the lists.
 use Rattle.std.proofs.Common.{◌≡◌, ℕ, ◌+◌, ◌-◌, ◌<◌, ◌≤◌, true, List, [], ◌∷◌, ◌++◌, length, get_or, set, slice_get, refl, sym, ap, ◌∙◌, arith, Some, None, Option}
 use Prim.Native.Nat.{zero, suc}
 use Rattle.std.specs.Prelude.{◌≢◌, is_some, option_map, option_and_then}
@@ -31,11 +31,11 @@ module _ {X : Type 0} where
   length-pairs tg vs l [] b = refl
   length-pairs tg vs l (k ∷ ks) b = ap length (first_pair tg vs l k ks b.0) ∙ ap (λ n. suc n) (length-pairs tg vs l ks b.1)
 
-  -- a node beside what it holds
+  -- a node with its value
   abbrev pub beside : ℕ → Option X → Option (ℕ × X)
   beside n o = option_map (λ x. (n, x)) o
 
-  -- the first pair of a list is that of the node after its head
+  -- the first pair of a list is the pair of the node after its head
   first_shown : (tg : List ℕ) (vs : List (Option X)) (l : ℕ) (ks : List ℕ) → AreNodes tg vs l ks → (h : ℕ) → get_or vs h None ≡ None → slice_get (pairs_of vs ks) 0 ≡ beside (first_of ks h - 64) (get_or vs (first_of ks h) None)
   first_shown tg vs l [] b h e = sym (ap (beside (h - 64)) e)
   first_shown tg vs l (k ∷ ks) b h e = ap (λ ps. slice_get ps 0) (first_pair tg vs l k ks b.0) ∙ sym (ap (beside (k - 64)) b.0.held)
@@ -60,7 +60,7 @@ module _ {X Z : Type 0} {s : ℕ} {nodes : Vec (Node X) Z} {lens : List ℕ} (in
   pub len_is : (l : ℕ) → l < 64 → get_or lens l 0 ≡ length (list_at view l)
   len_is l low = sym (ap length (row_at l low) ∙ length-pairs tg vs l (fam l) (inv.lists.each l low).nodes ∙ length-walk nx (get_or lens l 0) l)
 
-  -- where a linked node stands
+  -- the place of a linked node
   pub record Linked (k : ℕ) : Type 0 where
     pub list : ℕ
     pub value : X
@@ -74,7 +74,7 @@ module _ {X Z : Type 0} {s : ℕ} {nodes : Vec (Node X) Z} {lens : List ℕ} (in
       let old = inv.lists.every (64 + k) x (omega arith) e in
       record { list = get_or tg (64 + k) 0; value = x; low = old.0; tagged = refl; held = e; place = cut_at (64 + k) (fam (get_or tg (64 + k) 0)) old.1 }
 
-  -- what is stored of a node
+  -- what the block has of a node
   abbrev pub stored : ℕ → Option (ℕ × X)
   stored k = beside (get_or tg (64 + k) 0) (get_or vs (64 + k) None)
 
@@ -201,7 +201,7 @@ module _ {X Z : Type 0} {s : ℕ} {nodes : Vec (Node X) Z} {lens : List ℕ} (in
     held = held;
   }
 
--- where the place of one node changes, and of no other
+-- the place of one node changes, and no other place
 pub places_change : {X Z : Type 0} {s : ℕ} {nodes nodes' : Vec (Node X) Z} {lens lens' : List ℕ} (old : HoldsLists s nodes lens) (new : HoldsLists s nodes' lens') (k : ℕ) (place : Option (ℕ × X))
     → nodes'.len ≡ nodes.len → k < nodes.len - 64 → stored new k ≡ place → ((j : ℕ) → (j ≢ k) → stored new j ≡ stored old j) → places (family_of nodes' lens') ≡ set (places (family_of nodes lens)) k place
 places_change {nodes = nodes} old new k place len within here others =

@@ -15,7 +15,7 @@ use Rattle.bg_openlist.specs.Places.{stride_owns}
 use Rattle.bg_openlist.specs.contracts.pointers.Stride as Stride
 
 module _ (R : RattleType) where
-  -- what it owns is a plain equation, which stays true
+  -- it owns a plain equation, which stays true
   pub is_lent : Law (Stride.the_row R)
   is_lent =
       of_Lends (Stride.struct R) (Stride.the_codes R.Denot R.coded (marker.the_row RawPtr).coded) (Stride.the_heap R) (Stride.the_lent R)

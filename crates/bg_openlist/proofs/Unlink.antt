@@ -1,4 +1,4 @@
--- The block after a node is taken out of its list.
+-- The block after a node was removed from its list.
 use Rattle.std.proofs.Common.{◌≡◌, ℕ, ◌+◌, ◌-◌, ◌<◌, ◌≤◌, List, ◌∷◌, ◌++◌, length, get_or, set, map, sym, ap, ◌∙◌, arith, None, Option, length-append, length-set}
 use Rattle.std.specs.Prelude.{◌≢◌}
 use mathlib.Core.Path.{subst}
@@ -32,7 +32,7 @@ module _ {X Z : Type 0} {s : ℕ} {nodes : Vec (Node X) Z} {lens : List ℕ} {in
   within = ⊎_elim (λ h. absurd (none_some w.value (sym (get_or_past vs (64 + k) None (omega (arith, length-values nodes, h.1))) ∙ w.held))) (λ h. h.1) (leb_tells nodes.len (64 + k))
 
 module _ {X Z : Type 0} where
-  -- the two neighbours of the linked node k are joined, and the node is emptied; l is its list
+  -- the neighbours of the linked node k are linked to each other, and the node is emptied; l is its list
   pub record Parted {s : ℕ} {nodes : Vec (Node X) Z} {lens : List ℕ} (inv : HoldsLists s nodes lens) (k l : ℕ) (nodes' : Vec (Node X) Z) : Type 0 where
     pub was : Linked inv k
     pub is_list : l ≡ was.list
@@ -113,7 +113,7 @@ module _ {X Z : Type 0} {s : ℕ} {nodes : Vec (Node X) Z} {lens : List ℕ} {in
       (λ i. table (λ j. pairs_of (parted.value i) (walk (parted.next i) (get_or lens' j 0) j)) 0 64)
       ∙ table_same (λ j. without_node k (row j)) (λ j. pairs_of vs' (fam' j)) 0 64 (λ j le lt. row_after j lt) ∙ sym (map-table (without_node k) row 0 64)
 
-  -- what is stored of each node
+  -- what the block has of each node
   pub places_after : places (family_of nodes' lens') ≡ set (places (family_of nodes lens)) k None
   places_after =
       places_change inv holds_after k None parted.len (omega (arith, within w))

@@ -5,7 +5,7 @@ use Rattle.std.specs.Borrow.{Bor}
 use Rattle.bg_openlist.specs.Distinct.{Distinct}
 use Rattle.bg_openlist.specs.Tables.{table}
 
--- how many nodes there are, and each list from its front: pairs of a node and its value
+-- the number of nodes, and each list from its front as pairs of a node and its value
 pub record Family (X : Type 0) : Type 0 where
   pub nodes : ℕ
   pub lists : List (List (ℕ × X))
@@ -19,22 +19,22 @@ module _ {X : Type 0} where
   abbrev pub list_at : Family X → ℕ → List (ℕ × X)
   list_at f l = get_or f.lists l []
 
-  -- the value beside the node k in one list
+  -- the value of node k in one list
   abbrev pub value_in : List (ℕ × X) → ℕ → Option X
   value_in [] k = None
   value_in (p ∷ ps) k = if p.0 == k then Some p.1 else value_in ps k
 
-  -- of lists numbered from l on, the one that has the node k, with the value there
+  -- the list that has node k, with its value; the given lists have the numbers from l on
   abbrev pub place_among : List (List (ℕ × X)) → ℕ → ℕ → Option (ℕ × X)
   place_among [] l k = None
   place_among (xs ∷ rest) l k = option_or (option_map (λ x. (l, x)) (value_in xs k))
       (place_among rest (suc l) k)
 
-  -- for each node, its list and its value, or None where it is free
+  -- for each node its list and its value, or None if it is free
   abbrev pub places : Family X → List (Option (ℕ × X))
   places f = table (place_among f.lists 0) 0 f.nodes
 
-  -- the same of one node
+  -- the list and the value of one node
   abbrev pub place_of : Family X → ℕ → Option (ℕ × X)
   place_of f k = get_or (places f) k None
 
@@ -55,7 +55,7 @@ module _ {X : Type 0} where
   following [] k = None
   following (p ∷ ps) k = if p.0 == k then slice_get ps 0 else following ps k
 
-  -- the pair that follows a node; none follows a last or a free one
+  -- the pair that follows a node; None if the node is the last one or free
   abbrev pub next_of : Family X → ℕ → Option (ℕ × X)
   next_of f k = option_and_then (λ l. following (list_at f l) k) (list_of f k)
 
@@ -68,17 +68,17 @@ module _ {X : Type 0} where
   linked_nodes [] = []
   linked_nodes (xs ∷ rest) = map (λ p. p.0) xs ++ linked_nodes rest
 
-  -- the pair that an answer lends
+  -- the pair in an answer, with the borrowed value
   abbrev pub shown : Option (ℕ × Bor X) → Option (ℕ × X)
   shown r = option_map (λ p. (p.0, p.1.now)) r
 
-  -- what holds of every family of lists
+  -- the invariant of a family of lists
   pub record IsFamily (f : Family X) : Type 0 where
     pub size : (1 ≤ f.nodes) × (f.nodes ≤ 256)
     pub count : (length f.lists ≡ 64) × (length (places f) ≡ f.nodes)
-    -- no node stands twice, in one list or in two
+    -- no node occurs twice, in one list or in two
     pub once : Distinct (linked_nodes f.lists)
-    -- a node's place is where a list has it
+    -- a node's place agrees with the list that has it
     pub found : (l k : ℕ) (x : X) → value_in (list_at f l) k ≡ Some x → place_of f k ≡ Some (l, x)
     pub held : (l k : ℕ) (x : X) → place_of f k ≡ Some (l, x) → (l < 64) × (k < f.nodes)
         × (value_in (list_at f l) k ≡ Some x)

@@ -1,4 +1,4 @@
--- The nodes of a block, seen as one list for each field.
+-- The nodes of a block, as one list for each field.
 use Rattle.std.specs.Prelude.{◌≡◌, ℕ, ◌<◌, List, map, Option, All, get_or}
 use denote.RattleType.{RattleType}
 use Rattle.core.specs.Mem.{type_size}
@@ -9,27 +9,27 @@ use Rattle.bg_openlist.specs.declared.nodes.Node.{Node}
 use Rattle.bg_openlist.specs.contracts.nodes.Node.{the_row}
 
 module _ {X : Type 0} where
-  -- the node after each
+  -- the next node of each node
   abbrev pub nexts : List (Node X) → List ℕ
   nexts = map (λ n. n.next.index)
 
-  -- the node before each
+  -- the previous node of each node
   abbrev pub prevs : List (Node X) → List ℕ
   prevs = map (λ n. n.prev.index)
 
-  -- the number of each one's list
+  -- the number of each node's list
   abbrev pub tags : List (Node X) → List ℕ
   tags = map (λ n. n.list)
 
-  -- what each one holds
+  -- the value of each node, if it holds one
   abbrev pub values : List (Node X) → List (Option X)
   values = map (λ n. n.value)
 
--- the block lies where it lay, and has as many cells
+-- the block has the same address and the same number of cells
 abbrev pub SameBlock : {X Z : Type 0} → Vec X Z → Vec X Z → Type 0
 SameBlock old new = (new.ptr ≡ old.ptr) × (new.len ≡ old.len)
 
--- the bytes of a node that holds a value of the row R
+-- the size in bytes of a node that holds a value of the row R
 abbrev pub node_size : RattleType → ℕ
 node_size R = type_size (the_row R)
 
@@ -38,11 +38,11 @@ module _ (s : ℕ) {X Z : Type 0} where
   abbrev pub IsAt : Vec (Node X) Z → Link X → Type 0
   IsAt v link = LeadsTo s v link.ptr link.index
 
-  -- so does each link of each node
+  -- each link of each node leads to the node of its number
   abbrev pub AllLinked : Vec (Node X) Z → Type 0
   AllLinked v = All (λ n. IsAt v n.prev × IsAt v n.next) v.items
 
-  -- the first k nodes lead to themselves
+  -- each link of the first k nodes leads to the node itself
   pub record IsLoop (v : Vec (Node X) Z) (k : ℕ) : Type 0 where
     pub at : (j : ℕ) (d : Node X) → j < k → IsAt v (get_or v.items j d).prev
         × IsAt v (get_or v.items j d).next

@@ -1,4 +1,4 @@
--- Where the cells of a block lie, each of s bytes.
+-- The addresses of the cells of a block; each cell has s bytes.
 use Rattle.std.specs.Prelude.{◌≡◌, ℕ, ◌*◌, ◌<◌}
 use base.Fml.{Fml, feq}
 use denote.RattleType.{RattleType}
@@ -7,11 +7,11 @@ use Rattle.core.specs.Mem.{type_size}
 use Rattle.std_alloc.specs.declared.vec.Vec.{Vec}
 
 module _ (s : ℕ) {X Z : Type 0} where
-  -- where the cell i of the block lies
+  -- the address of cell i of the block
   abbrev pub place : Vec X Z → ℕ → Ptr
   place v i = v.ptr +ₚ i * s
 
-  -- the pointer leads to the cell i
+  -- the pointer leads to cell i
   abbrev pub LeadsTo : Vec X Z → Ptr → ℕ → Type 0
   LeadsTo v p i = (i < v.len) × (p ≡ place v i)
 

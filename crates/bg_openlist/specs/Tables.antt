@@ -1,7 +1,7 @@
--- A list made of a function.
+-- The list of a function's values.
 use Rattle.std.specs.Prelude.{ℕ, zero, suc, List, [], ◌∷◌}
 
--- f of each of n numbers from a on
+-- the values of f at n numbers, from a on
 unfoldable pub table : {Y : Type 0} → (ℕ → Y) → ℕ → ℕ → List Y
 table f a zero = []
 table f a (suc n) = f a ∷ table f (suc a) n

@@ -1,11 +1,11 @@
-//! Sixty-four lists over one block of nodes, linked by raw pointers, so that a node leaves the
-//! middle of its list with no search and no memory.
+//! Sixty-four lists over one block of nodes, linked by raw pointers. Removing a node from the middle of its list
+//! needs no search and no allocation.
 //!
-//! The block is one vector of cells. The first sixty-four are the heads of the lists, and behind
-//! them lie the nodes; node k is cell 64 + k. Each list is a ring through its own head, so that a
-//! link always leads to a cell: there is no null, and the first and the last node are no special
-//! cases. Here node 4 and then node 0 are in list 1, node 2 is in list 2, and nodes 1 and 3 are
-//! free. The arrows are the links to the next cell; each cell has one back, too.
+//! The block is one vector of cells. The first sixty-four cells are the heads of the lists. The nodes follow them;
+//! node k is cell 64 + k. Each list is a ring through its own head, so a link always leads to a cell: no link is
+//! null, and the first and the last node are no special cases. In this example, node 4 and then node 0 are in list
+//! 1, node 2 is in list 2, and nodes 1 and 3 are free. The arrows are the links to the next cell; each cell also has
+//! a link to the previous one.
 //!
 //! ```text
 //! cell      0      1      2     ..    63  |   64     65     66     67     68
@@ -17,7 +17,7 @@
 //! list 0:  cell 0 ──► cell 0
 //! ```
 //!
-//! Callers see a family of lists of (node, value), in which no node stands twice.
+//! Callers see a family of lists of (node, value), in which no node occurs twice.
 #![tactic(auto)]
 
 mod nodes;

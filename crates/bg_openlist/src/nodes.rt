@@ -1,4 +1,4 @@
-//! The nodes, and the steps that each change one of them or two neighbours.
+//! The nodes, and the steps that change one node or two neighbours.
 ghost use Rattle.std.specs.Prelude.{◌≡◌, ◌+◌, ◌<◌, slice_index_or, slice_set, option_map, replicate, IfOk, Some, None};
 ghost use Rattle.std.specs.Vec.{vec_len};
 ghost use Rattle.bg_openlist.specs.Family.{shown};
@@ -7,12 +7,12 @@ ghost use Rattle.bg_openlist.specs.Nodes.{AllLinked, IsAt, IsLoop, SameBlock, ne
 use crate::pointers::{Link, follow, follow_mut, place_of};
 use std::alloc::{AllocError, Global};
 
-/// One cell of the block: a list's head, a free node or a linked one.
+/// One cell of the block: a list's head, a free node or a linked node.
 #[derive(Drop)]
 pub(crate) struct Node<T> {
     pub(crate) prev: Link<T>,
     pub(crate) next: Link<T>,
-    /// The list in which the node is linked. It says nothing of a free node or a head.
+    /// The list in which the node is linked. It has no meaning for a free node or a head.
     pub(crate) list: usize,
     /// A linked node holds a value; a free node and a head hold none.
     pub(crate) value: Option<T>,
@@ -38,7 +38,7 @@ pub(crate) fn node_at<T>(nodes: &Vec<Node<T>>, at: Link<T>) -> &Node<T>
     follow(nodes, at.ptr, at.index)
 }
 
-/// The list that a node bears, where it holds a value.
+/// The list of a node, if the node holds a value.
 pub(crate) fn list_borne<T>(nodes: &Vec<Node<T>>, index: usize) -> Option<usize>
     requires { index < vec_len nodes.now }
     ensures { result ≡ option_map (λ _. slice_index_or (tags nodes.now.items) index 0)
@@ -51,7 +51,7 @@ pub(crate) fn list_borne<T>(nodes: &Vec<Node<T>>, index: usize) -> Option<usize>
     }
 }
 
-/// The number and the value of the node after this one, unless that is a head.
+/// The number and the value of the node after this one; `None` if a head follows.
 pub(crate) fn node_after<T>(nodes: &Vec<Node<T>>, index: usize) -> Option<(usize, &T)>
     requires within { index < vec_len nodes.now }
     requires linked { AllLinked (node_size T.row) nodes.now }
@@ -94,7 +94,7 @@ fn set_prev<T>(nodes: &mut Vec<Node<T>>, at: Link<T>, to: Link<T>)
     follow_mut(nodes, at.ptr, at.index).prev = to;
 }
 
-/// Fills a node, with the two nodes between which it is to stand. Returns what it held.
+/// Fills a node, and links it to the two nodes between which it will stand. Gives the value that it held.
 fn fill<T>(
     nodes: &mut Vec<Node<T>>,
     at: Link<T>,
@@ -138,7 +138,7 @@ fn take<T>(nodes: &mut Vec<Node<T>>, at: Link<T>) -> Option<T>
     follow_mut(nodes, at.ptr, at.index).value.take()
 }
 
-/// Joins the two neighbours of a node, and takes out its list's number and its value.
+/// Links the two neighbours of a node to each other. Gives the number of the node's list, and takes its value.
 pub(crate) fn detach<T>(nodes: &mut Vec<Node<T>>, at: Link<T>) -> (usize, Option<T>)
     requires at { IsAt (node_size T.row) nodes.old at }
     requires linked { AllLinked (node_size T.row) nodes.old }
@@ -166,7 +166,7 @@ pub(crate) fn detach<T>(nodes: &mut Vec<Node<T>>, at: Link<T>) -> (usize, Option
     (list, take(nodes, at))
 }
 
-/// Fills a node, and stands it before a head, after what stood there. Returns what the node held.
+/// Fills a node, and inserts it directly before a head. Gives the value that the node held.
 pub(crate) fn attach<T>(
     nodes: &mut Vec<Node<T>>,
     head: Link<T>,
@@ -198,7 +198,7 @@ pub(crate) fn attach<T>(
     held
 }
 
-/// As many nodes as are asked for, each empty and linked to itself.
+/// Makes `count` nodes, each empty and linked to itself. The only error is an allocation failure.
 pub(crate) fn empty_nodes<T: Drop>(alloc: Global, count: usize) -> Result<Vec<Node<T>>, AllocError>
     ensures { IfOk result (λ v. (vec_len v ≡ count) × IsLoop (node_size T.row) v count
         × (values v.items ≡ replicate count None)) }

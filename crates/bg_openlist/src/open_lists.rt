@@ -7,11 +7,10 @@ use crate::pointers::Stride;
 use std::alloc::{AllocError, Global};
 use std::marker::Model;
 
-/// How many lists there are, and so where the first node lies behind their heads.
+/// The number of lists. It is also the cell of the first node, which follows the heads.
 const LISTS: usize = 64;
 
-/// Sixty-four lists over one block of nodes. Each node is free, or in one of the lists with a
-/// value.
+/// Sixty-four lists over one block of nodes. Each node is free, or it is in one list and has a value.
 #[derive(Drop)]
 pub struct OpenLists<T> {
     nodes: Vec<Node<T>>,
@@ -32,8 +31,8 @@ impl<T> Model for OpenLists<T> {
 }
 
 impl<T: Drop> OpenLists<T> {
-    /// Sixty-four empty lists over 1 to 256 free nodes. No other call takes memory; this one is
-    /// refused only where memory is.
+    /// Makes sixty-four empty lists over 1 to 256 free nodes. The only error is an allocation failure. No other call
+    /// allocates.
     pub fn new(alloc: Global, nodes: usize) -> Result<OpenLists<T>, AllocError>
         requires { (1 ≤ nodes) × (nodes ≤ 256) }
         ensures empty { IfOk result (λ f. f ≡ empty_family nodes) }
@@ -50,7 +49,7 @@ impl<T: Drop> OpenLists<T> {
 }
 
 impl<T> OpenLists<T> {
-    /// How many nodes a list has.
+    /// The number of nodes in a list; 0 for a list number from 64 on.
     pub fn len(&self, list: usize) -> usize
         ensures len { result ≡ length (list_at self.now list) }
         ensures family { IsFamily self.now }
@@ -71,8 +70,7 @@ impl<T> OpenLists<T> {
         Some((index - LISTS, value))
     }
 
-    /// The node that follows another in its list, with its value. None follows a last or a free
-    /// node.
+    /// The node that follows another in its list, with its value. `None` if the node is the last one or free.
     pub fn next(&self, node: usize) -> Option<(usize, &T)>
         ensures next { shown result ≡ next_of self.now node }
         ensures family { IsFamily self.now }
@@ -83,7 +81,7 @@ impl<T> OpenLists<T> {
         Some((index - LISTS, value))
     }
 
-    /// The list in which a node is, or None where it is free.
+    /// The list of a node; `None` if it is free.
     pub fn list_of(&self, node: usize) -> Option<usize>
         ensures list { result ≡ list_of self.now node }
         ensures family { IsFamily self.now }
@@ -94,7 +92,7 @@ impl<T> OpenLists<T> {
         list_borne(&self.nodes, LISTS + node)
     }
 
-    /// Puts a free node with a value at the end of a list.
+    /// Appends a free node with a value to a list.
     pub fn link(&mut self, list: usize, node: usize, value: T)
         requires list { list < 64 }
         requires node { node < self.old.nodes }
@@ -117,7 +115,7 @@ impl<T> OpenLists<T> {
         }
     }
 
-    /// Takes a linked node out of its list, and gives back its value.
+    /// Removes a linked node from its list, and gives its value.
     pub fn unlink(&mut self, node: usize) -> T
         requires { is_linked self.old node ≡ true }
         ensures value { value_of self.old node ≡ Some result }

@@ -1,4 +1,4 @@
-//! Raw pointers into a block of cells, and the few functions that make and follow one.
+//! Raw pointers into a block of cells, and the few functions that make and dereference them.
 ghost use Rattle.std.specs.Prelude.{◌≡◌, ℕ, ◌*◌, ◌^◌, ◌<◌, slice_index_or, ⊤};
 ghost use Rattle.std.specs.Borrow.{sem};
 ghost use Rattle.std.specs.Vec.{vec_len, vec_capacity, vec_ptr, vec_follows_item};
@@ -12,8 +12,8 @@ use std::alloc::{AllocError, Allocator};
 use std::marker::{Model, PhantomData, Send, Sync};
 use std::ptr::{self, NonNull};
 
-/// Where a node of the block lies, and which one it is. It owns nothing: only the holder of the
-/// block can follow it.
+/// The address and the number of a node in the block. A link owns nothing: only the owner of the block can
+/// dereference it.
 pub(crate) struct Link<T> {
     pub(crate) ptr: *mut Node<T>,
     pub(crate) index: usize,
@@ -45,7 +45,7 @@ unsafe impl<T> Send for Link<T> {}
 
 unsafe impl<T> Sync for Link<T> {}
 
-/// How many bytes lie from one cell to the next, as a number that proofs see. It takes no space.
+/// The distance from one cell to the next in bytes, as a number that proofs see. It takes no space at run time.
 #[derive(Drop)]
 pub(crate) struct Stride<X> {
     mark: PhantomData<*const X>,
@@ -69,18 +69,18 @@ impl<X> Stride<X> {
         Stride { mark: PhantomData }
     }
 
-    /// Shows how many bytes these are. It does nothing.
+    /// Proves how many bytes these are. It does nothing at run time.
     pub(crate) fn shows(&self)
         ensures { self.now.bytes ≡ type_size X.row }
     {}
 }
 
-/// Shows that the block lies somewhere, and that its size in bytes fits. It does nothing.
+/// Proves that the block has an address and that its size in bytes is below 2^63. It does nothing at run time.
 fn is_placed<X, B: Allocator>(block: &Vec<X, B>)
     ensures { InBlock (vec_ptr block.now) × (vec_capacity block.now * type_size X.row < 2 ^ 63) }
 {}
 
-/// Where the cell of this number lies.
+/// The address of the cell of this number.
 pub(crate) fn place_of<X, B: Allocator>(block: &Vec<X, B>, index: usize) -> *mut X
     requires { index < vec_len block.now }
     ensures { result ≡ place (type_size X.row) block.now index }
@@ -90,8 +90,7 @@ pub(crate) fn place_of<X, B: Allocator>(block: &Vec<X, B>, index: usize) -> *mut
     unsafe { NonNull::new_unchecked(first.cast_mut()).add(index).as_ptr() }
 }
 
-/// The cell to which the pointer leads. The code goes by the pointer alone; contracts say by the
-/// number which cell that is.
+/// The cell to which the pointer leads. The code uses only the pointer; contracts identify the cell by its number.
 pub(crate) fn follow<X, B: Allocator>(block: &Vec<X, B>, ptr: *mut X, index: usize) -> &X
     requires { LeadsTo (type_size X.row) block.now ptr index }
     ensures { result.now ≡ slice_index_or block.now.items index result.now }
@@ -99,7 +98,7 @@ pub(crate) fn follow<X, B: Allocator>(block: &Vec<X, B>, ptr: *mut X, index: usi
     unsafe { &*ptr }
 }
 
-/// The same, to be written.
+/// The cell to which the pointer leads, for writing.
 pub(crate) fn follow_mut<X, B: Allocator>(
     block: &mut Vec<X, B>,
     ptr: *mut X,

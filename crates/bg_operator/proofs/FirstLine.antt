@@ -13,7 +13,7 @@ use Rattle.bg_operator.proofs.Pieces.{taken_break, taken_front}
 positive : (n : ℕ) → nat_lt 0 (suc n) ≡ true
 positive n = grind (arith, nat_tests)
 
--- a carriage return is taken from the end of the list alone
+-- a carriage return is removed only from the end of the list
 strip_more : (x y : ℕ) (ys : List ℕ) → strip_last 13 (x ∷ y ∷ ys) ≡ x ∷ strip_last 13 (y ∷ ys)
 strip_more x y ys =
     let n = length ys in
@@ -63,7 +63,7 @@ pub first_and_rest : (xs : List ℕ) → 0 < length xs → lines_of xs ≡ line_
 first_and_rest [] some = absurd (omega arith)
 first_and_rest (x ∷ xs) some = lines_first x xs
 
--- bytes with a break are some
+-- bytes with a break are not empty
 some_of_break : (xs : List ℕ) → has_break xs ≡ true → 0 < length xs
 some_of_break [] e = cc
 some_of_break (x ∷ xs) e = omega arith
@@ -78,7 +78,8 @@ line_of_end line xs p =
     let facts = taken_front line xs [] p in
     ap (λ t. if t then strip_last 13 (before_break xs) else before_break xs) facts.0 ∙ facts.1 ∙ append-nil line
 
--- a line that was not taken to its end is no shorter than what was taken, but for a CR
+-- a line that was not read to its end is at least as long as the bytes that were read, except for a
+-- CR
 pub line_of_room : (line xs ys : List ℕ) → TakesPieces line xs ys → length line ≤ length (line_of xs) + 1
 line_of_room line xs ys p =
     let facts = taken_front line xs ys p in

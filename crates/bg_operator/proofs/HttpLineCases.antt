@@ -1,4 +1,5 @@
--- Worked lines, by evaluation: which are lines of HTTP, and which are none, as near as can be.
+-- Worked lines, by evaluation: lines of HTTP, and lines that differ from them as little as
+-- possible.
 use Rattle.std.proofs.Common.{◌≡◌, true, false, refl, []}
 use Rattle.std.specs.Prelude.{codes}
 use Rattle.http_header.specs.Token.{is_token_byte}

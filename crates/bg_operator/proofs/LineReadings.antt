@@ -1,4 +1,4 @@
--- What a line is read as, by its bytes and its words.
+-- The result of reading a line, by its bytes and its words.
 use Rattle.std.proofs.Common.{◌≡◌, ℕ, suc, ◌<◌, true, false, List, [], ◌∷◌, map, length, Some, None, Err, if◌then◌else◌, refl, ap, ◌∙◌, arith}
 use Rattle.std.specs.Prelude.{◌&&◌, nat_lt}
 use Rattle.std.specs.List.{list_all}
@@ -22,7 +22,7 @@ unfolding line_reading
 read_by_words line words e is =
     ap (λ o. option_map_or Err o (words_reading (words_of line))) e ∙ ap words_reading is
 
--- the first wrong word of those that must be ports
+-- the first wrong word among those that have to be ports
 wrong_port : (words : List (List ℕ))
     → first_wrong (Number 16 ∷ map (λ word. Number 16) words) words ≡ (if list_all (is_number 16) words then None else Some BadNumber)
 wrong_port [] = refl
@@ -33,7 +33,7 @@ wrong_port (word ∷ words) =
 more_than_one : (n : ℕ) → 0 < n → nat_lt 1 (suc n) ≡ true
 more_than_one n some = grind (arith, nat_tests)
 
--- the fault of a name and one word or more
+-- the fault of a name and one or more words
 pub fault_of_ports : (name : List ℕ) (words : List (List ℕ)) → 0 < length words
     → shape_fault template_shape (name ∷ words) ≡ (if list_all (is_number 16) words then None else Some BadNumber)
 fault_of_ports name words some =

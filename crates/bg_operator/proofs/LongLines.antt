@@ -1,4 +1,4 @@
--- A line that is too long is read as that fault, and is no line of HTTP.
+-- A line that is too long is read as that fault, and is not a line of HTTP.
 use Rattle.std.proofs.Common.{◌≡◌, ◌<◌, ℕ, true, false, List, length, None, Some, if◌then◌else◌, Err, ap, sym, arith}
 use Rattle.std.specs.Prelude.{nat_le, nat_lt, ◌&&◌, ◌||◌}
 use Rattle.std.specs.List.{list_all}

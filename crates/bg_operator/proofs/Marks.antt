@@ -13,12 +13,12 @@ use Rattle.bg_operator.specs.Parting.{at_mark, part_from, rest_from, part_of, re
 use Rattle.bg_operator.proofs.Pieces.{before_no_break, taken_break, taken_front}
 use Rattle.bg_operator.proofs.FirstLine.{line_of_break, line_of_end, line_of_room}
 
--- part was taken so far of the bytes xs, and ys are unread, where a line starts
+-- part of the bytes xs was read so far, and ys, which begin a line, are unread
 pub record Parting (part xs ys : List ℕ) : Type 0 where
   pub front : part_of xs ≡ part ++ part_of ys
   pub rest : rest_of xs ≡ rest_of ys
 
--- whole was taken so far of the bytes xs, and ys are unread
+-- whole was read so far of the bytes xs, and ys are unread
 pub record Gathering (whole xs ys : List ℕ) : Type 0 where
   pub all : xs ≡ whole ++ ys
 
@@ -32,25 +32,25 @@ gathers_piece at_end whole piece new xs ys kept new_is split none = record {
 pub none_seen : (n : ℕ) (t : Bool) → t ≡ (n == 0) → t ≡ true → n ≡ 0
 none_seen n t e is = grind (arith, nat_tests)
 
--- lists of two lengths are two lists
+-- lists of different lengths differ
 differs : (xs ys : List ℕ) → length xs ≢ length ys → bytes_eq xs ys ≡ false
 differs xs ys h = (elim (bytes_eq xs ys) as (λ t. bytes_eq xs ys ≡ t → t ≡ false) [ true ↦ λ e. absurd (h (ap length ((bytes_eq-Decides xs ys).0 e))) | false ↦ λ e. refl ]) refl
 
--- what was taken of a line tells whether it is the mark
+-- the bytes that were read of a line decide whether it is the mark
 pub mark_is : (room : ℕ) (end : LineEnd) (kept ys zs : List ℕ) → 5 ≤ room → TakesLine room end kept ys zs → bytes_eq (line_text end kept) (codes "---") ≡ at_mark ys
 mark_is room Break kept ys zs big t = ap (λ l. bytes_eq l (codes "---")) (sym (line_of_break kept ys zs t))
 mark_is room End kept ys zs big t = ap (λ l. bytes_eq l (codes "---")) (sym (line_of_end kept ys t.0))
 mark_is room Room kept ys zs big t =
     differs kept (codes "---") (omega arith) ∙ sym (differs (line_of ys) (codes "---") (let long = line_of_room kept ys zs t.0 in omega arith))
 
--- what is unread after the mark
+-- the bytes that are unread after the mark
 pub mark_rest : (room : ℕ) (end : LineEnd) (kept ys zs : List ℕ) → 5 ≤ room → TakesLine room end kept ys zs → at_mark ys ≡ true → zs ≡ after_break ys
 mark_rest room Break kept ys zs big t m = sym (taken_break kept ys zs t).2
 mark_rest room End kept ys zs big t m = t.1 ∙ sym (taken_front kept ys [] t.0).2
 mark_rest room Room kept ys zs big t m =
     absurd (false≢true (sym (differs (line_of ys) (codes "---") (let long = line_of_room kept ys zs t.0 in omega arith)) ∙ m))
 
--- what was taken of a line is no longer than the line
+-- the bytes that were read of a line are at most as long as the line
 taken_fits : (room : ℕ) (end : LineEnd) (kept ys zs : List ℕ) → TakesLine room end kept ys zs → length kept ≤ length (before_break ys)
 taken_fits room Break kept ys zs t = omega (arith, ap length (taken_break kept ys zs t).1)
 taken_fits room End kept ys zs t = omega (arith, ap length (taken_front kept ys [] t.0).1, length-append kept [])
@@ -89,7 +89,7 @@ at_part : (xs : List ℕ) → at_mark xs ≡ true → (part_of xs ≡ []) × (re
 at_part [] e = (refl, refl)
 at_part (x ∷ xs) e = (ap (λ t. if t then [] else x ∷ part_from (x == 10) xs) e, ap (λ t. if t then after_break (x ∷ xs) else rest_from (x == 10) xs) e)
 
--- the line with its break, or all that there is
+-- the line with its break, or all bytes
 part_of_break : (ys : List ℕ) → at_mark ys ≡ false → has_break ys ≡ true → part_of ys ≡ before_break ys ++ (10 ∷ part_of (after_break ys))
 part_of_break ys m e = (starts_part ys m).0 ∙ inner_part ys e
 
@@ -136,7 +136,7 @@ too_large_by_break room most part kept xs ys zs p t m far =
     let facts = taken_break kept ys zs t in
     omega (arith, ap length p.front, length-append part (part_of ys), ap length (part_of_break ys m facts.0), length-append (before_break ys) (10 ∷ part_of (after_break ys)), ap length facts.1)
 
--- what was taken without a break is the last line, where it is short
+-- bytes that were read without a break are the last line, if they are short
 pub whole_without_break : (room most : ℕ) (end : LineEnd) (part kept new xs ys zs : List ℕ) → Parting part xs ys → TakesLine room end kept ys zs → (end ≡ Break → ⊥) → at_mark ys ≡ false
     → new ≡ part ++ kept → length new ≤ most → most < room → (new ≡ part_of xs) × (zs ≡ rest_of xs) × (length new ≤ most)
 whole_without_break room most Break part kept new xs ys zs p t other m e fits less = absurd (other refl)

@@ -40,7 +40,7 @@ first_false : (t u : Bool) → (if t then true else u) ≡ false → t ≡ false
 first_false true u e = cc
 first_false false u e = refl
 
--- what is in front of no break
+-- the front of bytes without a break has no break
 pub no_break_take : (n : ℕ) (a : List ℕ) → has_break a ≡ false → has_break (take n a) ≡ false
 no_break_take n a none =
     let e : (if has_break (take n a) then true else has_break (drop n a)) ≡ false = sym (has_break-append (take n a) (drop n a)) ∙ ap has_break (take-append-drop n a) ∙ none in
@@ -55,7 +55,7 @@ no_break_less k n a less none = ap has_break (sym (take-take k n a less)) ∙ no
 not_ten : (x : ℕ) → (x ≡ 10 → ⊥) → (x == 10) ≡ false
 not_ten x other = grind (arith, nat_tests)
 
--- a further byte that is no break
+-- a further byte that is not a break
 pub no_break_more : (xs : List ℕ) (i : ℕ) → i < length xs → has_break (take i xs) ≡ false → (get_or xs i 0 ≡ 10 → ⊥) → has_break (take (i + 1) xs) ≡ false
 no_break_more xs i h none other =
     let x = get_or xs i 0 in
@@ -72,7 +72,7 @@ taken_break line xs ys p = (
   ap after_break p.all ∙ after_break-append line (10 ∷ ys) ∙ ap (λ t. if t then after_break line ++ (10 ∷ ys) else ys) p.no_break,
 )
 
--- up to where there was no more room, or to the end
+-- up to the limit of the room, or to the end
 pub taken_front : (line xs ys : List ℕ) → TakesPieces line xs ys → (has_break xs ≡ has_break ys) × (before_break xs ≡ line ++ before_break ys) × (after_break xs ≡ after_break ys)
 taken_front line xs ys p = (
   ap has_break p.all ∙ has_break-append line ys ∙ ap (λ t. if t then true else has_break ys) p.no_break,
@@ -94,14 +94,14 @@ take_through_break at piece found =
     ∙ ap (λ l. l ++ drop at (take (at + 1) piece)) (take-take at (at + 1) piece (omega arith))
     ∙ ap (λ l. take at piece ++ l) (drop-take at 1 piece ∙ ap (take 1) found)
 
--- a break that there is room for
+-- a break for which there is room
 pub takes_break : (old piece new xs ys : List ℕ) (at : ℕ) → new ≡ old ++ take at piece → drop at piece ≡ 10 ∷ drop (at + 1) piece
     → has_break (take at piece) ≡ false → xs ≡ take (at + 1) piece ++ ys → Grows old new xs (10 ∷ ys)
 takes_break old piece new xs ys at new_is found none split =
     grows_by old (take at piece) new xs (10 ∷ ys) new_is
     (split ∙ ap (λ l. l ++ ys) (take_through_break at piece found) ∙ append_assoc (take at piece) (10 ∷ []) ys) none
 
--- bytes before a break, as far as there is room
+-- bytes before a break, up to the room
 pub takes_more : (old piece new xs ys : List ℕ) (at kept : ℕ) → kept ≤ at → new ≡ old ++ take kept piece
     → has_break (take at piece) ≡ false → xs ≡ take kept piece ++ ys → Grows old new xs ys
 takes_more old piece new xs ys at kept less new_is none split =
@@ -135,7 +135,7 @@ Known-taken P None new part f e = tt
 Known-taken P (Some xs) None part f e = absurd e
 Known-taken P (Some xs) (Some ys) part f e = f xs ys e
 
--- these bytes were taken, after which there are none where t holds
+-- these bytes were read, after which there are none if t holds
 pub Known-taken_to_end : (t : Bool) (P : List ℕ → List ℕ → Type 0) (old new : Option (List ℕ)) (part : List ℕ)
     → ((xs ys : List ℕ) → xs ≡ part ++ ys → (t ≡ true → ys ≡ []) → P xs ys) → Consumes old new part → (t ≡ true → OnSome old (IsAtEnd new)) → Known old new P
 Known-taken_to_end t P None new part f e none = tt

@@ -1,4 +1,4 @@
--- What a line of a script orders.
+-- The command of a line of a script.
 use Rattle.std.specs.Prelude.{◌≡◌, ℕ, Bool, ◌&&◌, List, [], ◌∷◌, map, find, length, if◌then◌else◌, nat_le, nat_lt, codes, bytes_eq, Option, Some, None, option_map, Result, Ok, Err, ⊤, ◌⊎◌}
 use Rattle.std.specs.Option.{ok_or, option_and_then, option_map_or}
 use Rattle.std.specs.List.{list_all}
@@ -11,8 +11,8 @@ use Rattle.bg_operator.specs.declared.line_fault.LineFault.TheVariants.{TooLong,
 use Rattle.bg_operator.specs.Words.{analyses, meaning_in, results, services, words_in, words_of}
 use Rattle.bg_operator.specs.Shapes.{Shape, AnyWord, Number, OneOf, Exactly, AtMost, AndMore, shape_fault}
 
--- A row of the table of lines: the first word, the words that may follow, and what they order.
--- Words that have a fault order nothing.
+-- A row of the table of lines: the first word, the words that may follow, and their command. Words
+-- that have a fault give no command.
 pub record Row : Type 0 where
   pub first : List ℕ
   pub shape : Shape
@@ -23,7 +23,7 @@ abbrev pub with_template : (List ℕ → List ℕ → Command) → List (List �
 with_template command (name ∷ ports) = Some (command name (map (digits_value 10) ports))
 with_template command [] = None
 
--- a revision's name, and one port or more
+-- a revision's name, and one or more ports
 abbrev pub template_shape : Shape
 template_shape = AndMore (AnyWord ∷ []) (Number 16)
 
@@ -140,13 +140,13 @@ rows =
     ∷ single_word (codes "quit") Quit
     ∷ []
 
--- What the words after the first are read as by a row: their fault, or else the command. Words
--- without a fault always have one.
+-- The result of reading the words after the first by a row: their fault, or else the command. Words
+-- without a fault always have a command.
 abbrev pub row_reading : Row → List (List ℕ) → Result Command LineFault
 row_reading row words =
     option_map_or Err (shape_fault row.shape words) (ok_or (row.order words) WrongCount)
 
--- what words are read as
+-- the result of reading words
 abbrev pub words_reading : List (List ℕ) → Result Command LineFault
 words_reading [] = Err Empty
 words_reading (first ∷ words) =
@@ -157,24 +157,24 @@ words_reading (first ∷ words) =
 abbrev pub is_printable : ℕ → Bool
 is_printable byte = nat_le 32 byte && nat_le byte 126
 
--- the fault of a line's bytes: there are too many, or one isn't printable
+-- the fault of a line's bytes: there are too many, or one is not printable
 abbrev pub text_fault : List ℕ → Option LineFault
 text_fault line =
     if nat_lt 4096 (length line) then Some TooLong
     else if list_all is_printable line then None
     else Some NotAscii
 
--- what a line is read as, where memory is not refused: its first fault, or else the command
+-- the result of reading a line, unless an allocation fails: its first fault, or else the command
 unfoldable pub line_reading : List ℕ → Result Command LineFault
 line_reading line = option_map_or Err (text_fault line) (words_reading (words_of line))
 
--- memory is needed for the name and the ports that a command has
+-- the command has a name and ports, which need memory
 abbrev pub NeedsMemory : Result Command LineFault → Type 0
 NeedsMemory (Ok (Open name ports)) = ⊤
 NeedsMemory (Ok (Control (Deploy name ports))) = ⊤
 NeedsMemory _ = ⊥
 
--- a line was read as expected, or memory was refused where it is needed
+-- a line was read as expected, or an allocation failed for a command that needs memory
 abbrev pub IsReadAs : Result Command LineFault → Result Command LineFault → Type 0
 IsReadAs expected read =
     (read ≡ expected) ⊎ ((read ≡ Err OutOfMemory) × NeedsMemory expected)

@@ -1,4 +1,4 @@
--- How the faults of a line are called.
+-- The names of the faults of a line.
 use Rattle.std.specs.Prelude.{ℕ, List, codes}
 use Rattle.bg_operator.specs.declared.line_fault.LineFault.{LineFault}
 use Rattle.bg_operator.specs.declared.line_fault.LineFault.TheVariants.{TooLong, NotAscii, Empty, UnknownWord, WrongCount, BadWord, BadNumber, OutOfMemory}

@@ -1,4 +1,4 @@
--- Lines that are written as HTTP, and so by no operator (RFC 9112).
+-- Lines in the format of HTTP, which no operator writes (RFC 9112).
 use Rattle.std.specs.Prelude.{ℕ, ◌+◌, ◌-◌, Bool, false, ◌&&◌, ◌||◌, List, [], ◌∷◌, length, take, drop, ◌==◌, nat_le, nat_lt, codes, bytes_eq, Result, Ok, Err}
 use Rattle.std.specs.Option.{option_map_or}
 use Rattle.std.specs.List.{list_all, position}
@@ -32,8 +32,8 @@ abbrev pub is_spaced_version : List ℕ → Bool
 is_spaced_version bytes =
     bytes_eq (take 6 bytes) (codes " HTTP/") && is_version_number (drop 6 bytes)
 
--- A request target, a space and an HTTP version. Any bytes are taken for a target, since a faulty one
--- comes from an HTTP client as well.
+-- A request target, a space and an HTTP version. Any bytes count as a target, because a faulty target
+-- also comes from an HTTP client.
 abbrev pub is_target_and_version : List ℕ → Bool
 is_target_and_version bytes =
     nat_lt 9 (length bytes) && is_spaced_version (drop (length bytes - 9) bytes)
@@ -45,12 +45,12 @@ is_request_line line =
     option_map_or (λ at. is_token (take at line) && is_target_and_version (drop (at + 1) line))
     (position is_space line) false
 
--- A line of HTTP. A line that is too long is passed over, so it is none.
+-- A line of HTTP. A line that is too long is skipped, so it is not one.
 abbrev pub is_http_line : List ℕ → Bool
 is_http_line line =
     nat_le (length line) 4096 && (is_field_line line || is_request_line line)
 
--- a line that was read so orders nothing, and is a line of HTTP
+-- a line with this result gives no command, and is a line of HTTP
 abbrev pub speaks_http : Result Command LineFault → List ℕ → Bool
 speaks_http (Ok command) line = false
 speaks_http (Err fault) line = is_http_line line

@@ -8,3 +8,4 @@ pub mod Commands
 pub mod HttpLines
 pub mod FaultNames
 pub mod OperatorLines
+pub mod Keeping

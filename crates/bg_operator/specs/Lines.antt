@@ -7,13 +7,13 @@ abbrev pub at_break : List ℕ → Bool
 at_break [] = false
 at_break (x ∷ xs) = x == 10
 
--- a byte more at the front of the first line
+-- one more byte at the front of the first line
 abbrev pub onto_first : ℕ → List (List ℕ) → List (List ℕ)
 onto_first x [] = (x ∷ []) ∷ []
 onto_first x (line ∷ lines) = (x ∷ line) ∷ lines
 
--- The lines, each without its break. A CR just before a break belongs to it. What follows the last
--- break is a line where it has a byte.
+-- The lines, each without its break. A CR directly before a break belongs to the break. The bytes
+-- after the last break are a line if there are any.
 abbrev pub lines_of : List ℕ → List (List ℕ)
 lines_of [] = []
 lines_of (x ∷ xs) =
@@ -36,6 +36,6 @@ abbrev pub has_break : List ℕ → Bool
 has_break [] = false
 has_break (x ∷ xs) = if x == 10 then true else has_break xs
 
--- the first line, where there is a byte
+-- the first line, if there is a byte
 abbrev pub line_of : List ℕ → List ℕ
 line_of xs = if has_break xs then strip_last 13 (before_break xs) else before_break xs

@@ -8,15 +8,15 @@ use Rattle.bg_operator.specs.declared.command.Command.{Command}
 use Rattle.bg_operator.specs.declared.command.Command.TheVariants.{Quit}
 use Rattle.bg_operator.specs.declared.line_fault.LineFault.{LineFault}
 
--- what comes next in the lines of the bytes xs, where ys are unread then: what a line orders, or why
--- it orders nothing, and whether it orders nothing and is a line of HTTP; none at the end
+-- the next line of the bytes xs, after which ys are unread: its command, or why it gives none, and
+-- whether it gives no command and is a line of HTTP; none at the end
 abbrev pub NextIs : Option (Result Command LineFault) → Bool → List ℕ → List ℕ → Type 0
 NextIs (Some read) http xs ys =
     (line : List ℕ) × (lines_of xs ≡ line ∷ lines_of ys) × IsReadAs (line_reading line) read
     × (http ≡ speaks_http read line)
 NextIs None http xs ys = (lines_of xs ≡ []) × (http ≡ false)
 
--- whether the line that was read last orders nothing and is a line of HTTP
+-- whether the last line gives no command and is a line of HTTP
 abbrev pub last_speaks_http : OperatorLines → Bool
 last_speaks_http lines = lines.speaks_http
 

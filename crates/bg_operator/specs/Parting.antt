@@ -4,7 +4,7 @@ use Rattle.bg_operator.specs.Lines.{line_of, after_break}
 use Rattle.bg_operator.specs.declared.strategy_part.StrategyPart.{StrategyPart}
 use Rattle.bg_operator.specs.declared.strategy_part.StrategyPart.TheVariants.{Whole, TooLarge}
 
--- how many bytes the text of a strategy has at most
+-- the maximum length in bytes of the text of a strategy
 abbrev pub largest_strategy : ℕ
 largest_strategy = 1048576
 
@@ -32,13 +32,13 @@ part_of xs = part_from true xs
 abbrev pub rest_of : List ℕ → List ℕ
 rest_of xs = rest_from true xs
 
--- the bytes xs were taken up to the line `---`, and ys are unread then
+-- the bytes xs were read up to the line `---`, and ys are still unread
 abbrev pub IsPart : StrategyPart → List ℕ → List ℕ → Type 0
 IsPart (Whole part) xs ys =
     (part.items ≡ part_of xs) × (ys ≡ rest_of xs) × (length part.items ≤ largest_strategy)
 IsPart TooLarge xs ys = largest_strategy < length (part_of xs)
 
--- all of the bytes xs were taken
+-- all of the bytes xs were read
 abbrev pub IsWhole : StrategyPart → List ℕ → List ℕ → Type 0
 IsWhole (Whole whole) xs ys =
     (whole.items ≡ xs) × (ys ≡ []) × (length whole.items ≤ largest_strategy)

@@ -6,14 +6,14 @@ use Rattle.bg_operator.specs.Words.{is_number}
 use Rattle.bg_operator.specs.declared.line_fault.LineFault.{LineFault}
 use Rattle.bg_operator.specs.declared.line_fault.LineFault.TheVariants.{WrongCount, BadWord, BadNumber}
 
--- what a word must be: anything, a number below 2 ^ bits, or one of these words
+-- the required form of a word: anything, a number below 2 ^ bits, or one of these words
 pub data Form : Type 0 where
   AnyWord : Form
   Number : (bits : ℕ) → Form
   OneOf : (words : List (List ℕ)) → Form
 
--- the words that follow: one of each form, in order; the same, but the last ones may be missing; or
--- one of each form and then one or more of a further form
+-- the words that follow: one of each form, in order; the same, where the last ones may be missing;
+-- or one of each form and then one or more of a further form
 pub data Shape : Type 0 where
   Exactly : (forms : List Form) → Shape
   AtMost : (forms : List Form) → Shape
@@ -25,13 +25,13 @@ word_fault AnyWord word = None
 word_fault (Number bits) word = if is_number bits word then None else Some BadNumber
 word_fault (OneOf words) word = if list_any (bytes_eq word) words then None else Some BadWord
 
--- the fault of the first word from the left that isn't of its form
+-- the fault of the first word from the left that does not have its form
 abbrev pub first_wrong : List Form → List (List ℕ) → Option LineFault
 first_wrong (form ∷ forms) (word ∷ words) =
     option_or (word_fault form word) (first_wrong forms words)
 first_wrong _ _ = None
 
--- the fault of the words that follow: their count comes before each word
+-- the fault of the words that follow: a wrong count comes before a wrong word
 abbrev pub shape_fault : Shape → List (List ℕ) → Option LineFault
 shape_fault (Exactly forms) words =
     if length words == length forms then first_wrong forms words else Some WrongCount

@@ -1,4 +1,4 @@
--- The words of a line, the numbers that words are, and the words that a user chooses from.
+-- The words of a line, words that are numbers, and the fixed words of the commands.
 use Rattle.std.specs.Prelude.{ℕ, ◌^◌, Bool, ◌&&◌, List, [], ◌∷◌, map, filter, length, ◌==◌, if◌then◌else◌, nat_le, nat_lt, codes, bytes_eq, Option, Some, None, Result, Ok, Err}
 use Rattle.std.specs.List.{list_all, slice_split}
 use Rattle.std.specs.Char.{is_ascii_digit}
@@ -13,11 +13,11 @@ use Rattle.bg_operator.specs.declared.line_fault.LineFault.{LineFault}
 use Rattle.bg_operator.specs.declared.line_fault.LineFault.TheVariants.{BadNumber}
 use Rattle.bg_operator.specs.declared.words.Words.{Words}
 
--- the words of a line: the parts between its spaces that have a byte
+-- the words of a line: the parts between its spaces that are not empty
 unfoldable pub words_of : List ℕ → List (List ℕ)
 words_of line = filter (λ part. nat_lt 0 (length part)) (slice_split (λ byte. byte == 32) line)
 
--- the words that are still to come
+-- the remaining words
 abbrev pub words_ahead : Words → List (List ℕ)
 words_ahead words = words_of words.rest.now
 
@@ -27,7 +27,7 @@ is_number bits word =
     nat_le 1 (length word) && nat_le (length word) 20 && list_all is_ascii_digit word
     && nat_lt (digits_value 10 word) (2 ^ bits)
 
--- the number that a word is read as
+-- the number as which a word is read
 abbrev pub number_reading : ℕ → List ℕ → Result ℕ LineFault
 number_reading bits word =
     if is_number bits word then Ok (digits_value 10 word) else Err BadNumber
@@ -40,7 +40,7 @@ Vocabulary A = List (List ℕ × A)
 abbrev pub words_in : {A : Type 0} → Vocabulary A → List (List ℕ)
 words_in rows = map (λ row. row.0) rows
 
--- what a word means by a table, where it stands there
+-- the meaning of a word in a table, if the table has it
 abbrev pub meaning_in : {A : Type 0} → Vocabulary A → List ℕ → Option A
 meaning_in [] word = None
 meaning_in ((text, meaning) ∷ rows) word =

@@ -1,23 +1,23 @@
-//! What a line of a script orders.
+//! The command of a line of a script.
 
 use bg_book::Control;
 use bg_revisions::{Name, Ports, Service};
 
-/// What a line of a script orders.
+/// The command of a line of a script.
 #[derive(Drop, Debug)]
 pub enum Command {
-    /// The book is opened with this first revision.
+    /// Open the book with this first revision.
     Open { name: Name, ports: Ports },
-    /// This event is given to the book.
+    /// Give this event to the book.
     Control(Control),
-    /// A request enters at a seat, for a service.
+    /// Enter a request at a seat, for a service.
     Enter { seat: u32, service: Service },
-    /// The request at a seat leaves.
+    /// End the request at a seat.
     Leave { seat: u32 },
-    /// The report is asked for.
+    /// Write the report.
     Report,
-    /// The entries of closed requests are dropped from the history.
+    /// Drop the entries of closed requests from the history.
     Compact,
-    /// The script ends here.
+    /// End the script.
     Quit,
 }

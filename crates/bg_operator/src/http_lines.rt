@@ -1,4 +1,4 @@
-//! Lines that are written as HTTP.
+//! Lines in the format of HTTP.
 ghost use Rattle.std.specs.Prelude.{◌≡◌, ◌==◌, ◌||◌, length};
 ghost use Rattle.std.specs.List.{list_all, position};
 ghost use Rattle.http_header.specs.Token.{is_token_byte};
@@ -6,7 +6,7 @@ ghost use Rattle.bg_operator.specs.HttpLines.{is_field_line, is_request_line, is
 
 use http_header::is_token_char;
 
-/// How many bytes a space and an HTTP version have.
+/// The length in bytes of a space and an HTTP version.
 const VERSION_LENGTH: usize = 9;
 
 /// Whether a line is a field line or a request line of HTTP (RFC 9112 sections 3 and 5).
@@ -68,7 +68,7 @@ fn has_token_characters_only(bytes: &[u8]) -> bool
     bytes.iter().all(|byte| is_token_char(*byte))
 }
 
-/// Where a byte stands first.
+/// The first position of a byte.
 fn first_place(line: &[u8], wanted: u8) -> Option<usize>
     ensures { result ≡ position (λ byte. byte == wanted) line.now }
 {

@@ -1,27 +1,37 @@
-//! What an operator writes: the lines of any reader, the strategy before them, and what a line orders.
+//! The input of an operator: the lines of any reader, the strategy before them, and the command of a
+//! line.
 //!
-//! [`part_before_script`] and [`whole_input`] take the bytes of a strategy from any buffered reader,
-//! [`OperatorLines`] takes one line after the other, and [`parse_line`] says what a line orders. A line
-//! of more than 4,096 bytes and a strategy of more than 1,048,576 are answered as such, and not kept.
+//! [`part_before_script`] and [`whole_input`] read the bytes of a strategy from any buffered reader,
+//! [`OperatorLines`] reads one line after the other, and [`parse_line`] gives the command of a line. A
+//! line of more than 4,096 bytes and a strategy of more than 1,048,576 bytes are reported as too large,
+//! and are not stored.
+//!
+//! [`tell_reasons`] and [`tell_reasons_before_script`] write hints about a strategy's text in addition
+//! to its finding; a reader [`Keeping`] keeps the text for this.
 #![tactic(auto)]
 
 mod command;
 mod http_lines;
+mod keeping;
 mod line_fault;
 mod lines;
 mod operator_lines;
 mod parsing;
 mod read_fault;
+mod reasons;
+mod spelling;
 mod strategy_part;
 mod taking;
 mod vocabulary;
 mod words;
 
 pub use command::Command;
+pub use keeping::Keeping;
 pub use line_fault::LineFault;
 pub use lines::{Found, next_line};
 pub use operator_lines::{OperatorLines, is_quit};
 pub use parsing::parse_line;
 pub use read_fault::ReadFault;
+pub use reasons::{tell_reasons, tell_reasons_before_script};
 pub use strategy_part::{StrategyPart, part_before_script, whole_input};
 pub use taking::MOST_TURNS;

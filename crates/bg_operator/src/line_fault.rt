@@ -5,17 +5,17 @@ ghost use Rattle.bg_operator.specs.declared.line_fault.LineFault.TheVariants as 
 use std::alloc::{AllocError, AllocFailed};
 use thiserror::Error;
 
-/// Why a line of a script gives no command: the first of these, in this order, that it has. Of
-/// `BadWord` and `BadNumber` it is that of the first wrong word from the left.
+/// Why a line of a script gives no command. If several of these apply, it is the first in this
+/// order. Between `BadWord` and `BadNumber`, the first wrong word from the left decides.
 #[derive(Clone, Copy, PartialEq, Eq, Debug, Drop, Error)]
 pub enum LineFault {
     /// It has more than 4,096 bytes.
     #[error("the line has more than 4,096 bytes")]
     TooLong,
-    /// A byte of it is outside 32 to 126.
+    /// One of its bytes is outside 32 to 126.
     #[error("the line has a byte that is no printable ASCII character")]
     NotAscii,
-    /// It has no word.
+    /// It has no words.
     #[error("the line has no word")]
     Empty,
     /// No line begins with its first word.
@@ -24,13 +24,14 @@ pub enum LineFault {
     /// Too few or too many words follow its first word.
     #[error("the line has too few or too many words")]
     WrongCount,
-    /// A word is none of those that its place allows.
+    /// A word is not one of those that its place allows.
     #[error("a word of the line is none that its place allows")]
     BadWord,
-    /// A word in the place of a number isn't 1 to 20 digits, or its value is too large there.
+    /// A word in the place of a number is not 1 to 20 digits, or its value is too large for that
+    /// place.
     #[error("a word of the line is not a number that its place allows")]
     BadNumber,
-    /// It is a well formed `open` or `deploy`, and memory for its name or its ports was refused.
+    /// It is a well-formed `open` or `deploy`, and the allocation for its name or its ports failed.
     #[error("out of memory")]
     OutOfMemory,
 }

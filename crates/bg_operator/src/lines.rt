@@ -7,28 +7,28 @@ use crate::read_fault::ReadFault;
 use crate::taking::{LineEnd, skip_line, take_line};
 use std::io::BufRead;
 
-/// How many bytes a line has at most, without its end.
+/// The maximum length of a line in bytes, without its end.
 pub(crate) const LONGEST_LINE: usize = 4096;
 
-/// What a reader has next.
+/// The next part of a reader's input.
 #[derive(Clone, Copy, Debug, Drop, PartialEq, Eq)]
 pub enum Found {
     /// A line of at most 4,096 bytes.
     Line,
-    /// A line that is longer, and was passed over.
+    /// A longer line, which was skipped.
     TooLong,
-    /// No further byte.
+    /// The end of the input.
     End,
 }
 
-/// Takes the next line. A line ends with LF, and one CR just before it belongs to the end; what
-/// follows the last LF is a line where it has a byte. `line` is the line's bytes, without its end,
-/// where a line is found.
+/// Reads the next line. A line ends with LF, and one CR directly before the LF belongs to the end.
+/// The bytes after the last LF are a line if there are any. If a line is found, `line` holds its
+/// bytes without its end.
 pub fn next_line<B: BufRead>(reader: &mut B, line: &mut Vec<u8>) -> Result<Found, ReadFault>
     ensures { IfOk result (λ found. Known (B.remaining reader.old) (B.remaining reader.new)
         (Gives found line.new.items)) }
 {
-    // a byte more than the longest line, and its CR
+    // one byte more than the longest line, and its CR
     match take_line(reader, line, LONGEST_LINE + 2)? {
         LineEnd::Break => strip_return(line),
         LineEnd::End => {
@@ -47,7 +47,7 @@ pub fn next_line<B: BufRead>(reader: &mut B, line: &mut Vec<u8>) -> Result<Found
     Ok(Found::Line)
 }
 
-/// Takes the CR from a line's end, if it has one there.
+/// Removes the CR at a line's end, if there is one.
 fn strip_return(line: &mut Vec<u8>)
     ensures { line.new.items ≡ strip_last 13 line.old.items }
 {

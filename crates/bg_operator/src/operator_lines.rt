@@ -1,5 +1,5 @@
 //! The lines of an operator, read one after the other.
-ghost use Rattle.std.specs.Prelude.{◌≡◌, ◌≤◌, List, ℕ, IfOk, length};
+ghost use Rattle.std.specs.Prelude.{◌≡◌, ◌≤◌, List, ℕ, IfOk, length, false};
 ghost use Rattle.bg_operator.specs.Reading.{Gives, Known};
 ghost use Rattle.bg_operator.specs.HttpLines.{speaks_http};
 ghost use Rattle.bg_operator.specs.OperatorLines.{NextIs, last_speaks_http, orders_quit};
@@ -13,18 +13,21 @@ use crate::read_fault::ReadFault;
 use std::alloc::Global;
 use std::io::BufRead;
 
-/// Takes the lines of a script or of a control connection. The reader is lent at each call.
+/// Reads the lines of a script or of a control connection. Each call borrows the reader.
 #[derive(Drop)]
 pub struct OperatorLines {
     alloc: Global,
     line: Vec<u8>,
-    /// Whether the line that was read last orders nothing and is a line of HTTP.
+    /// Whether the last line gives no command and is a line of HTTP.
     speaks_http: bool,
 }
 
 impl OperatorLines {
-    /// Memory for a line is asked for where it is read.
-    pub fn new(alloc: Global) -> OperatorLines {
+    /// Gives a reader that has seen no line of HTTP. Allocates nothing; the memory for a line is allocated when it is
+    /// read.
+    pub fn new(alloc: Global) -> OperatorLines
+        ensures { last_speaks_http result ≡ false }
+    {
         OperatorLines {
             alloc,
             line: Vec::new(alloc),
@@ -32,10 +35,10 @@ impl OperatorLines {
         }
     }
 
-    /// What the next line orders, or why it orders nothing; none where there is no further line. A line that is
-    /// too long is passed over, and is `TooLong`.
+    /// The command of the next line, or why it gives none; `None` if there is no further line. A line that is
+    /// too long is skipped, and gives `TooLong`.
     ///
-    /// After a `ReadFault` the reader is of no use.
+    /// After a `ReadFault` the reader must not be used any more.
     pub fn next<B: BufRead>(
         &mut self,
         reader: &mut B,
@@ -49,9 +52,9 @@ impl OperatorLines {
         Ok(read)
     }
 
-    /// Whether the line that was read last orders nothing and is a line of HTTP: a request line, or a field
-    /// line (RFC 9112 sections 3 and 5). Any bytes are taken for a request target, and a line that is too
-    /// long is no line of HTTP. False before the first line and at the end.
+    /// Whether the last line gives no command and is a line of HTTP: a request line, or a field line (RFC
+    /// 9112 sections 3 and 5). Any bytes count as a request target, and a line that is too long is not a
+    /// line of HTTP. False before the first line and at the end.
     pub fn speaks_http(&self) -> bool
         ensures { result ≡ last_speaks_http self.now }
     {
@@ -66,8 +69,8 @@ pub fn is_quit(read: &Result<Command, LineFault>) -> bool
     matches!(read, Ok(Command::Quit))
 }
 
-/// What a line that was found so orders, if there is one, and whether it orders nothing and is a line of
-/// HTTP.
+/// The command of the line that was found, if there is one, and whether it gives no command and is a
+/// line of HTTP.
 fn line_read(alloc: Global, found: Found, line: &[u8]) -> (Option<Result<Command, LineFault>>, bool)
     ensures { (xs ys : List ℕ) → Gives found line.now xs ys → NextIs result.0 result.1 xs ys }
 {
@@ -82,7 +85,7 @@ fn line_read(alloc: Global, found: Found, line: &[u8]) -> (Option<Result<Command
     }
 }
 
-/// Whether a line that was read so orders nothing and is a line of HTTP.
+/// Whether a line with this result gives no command and is a line of HTTP.
 fn is_http_fault(read: &Result<Command, LineFault>, line: &[u8]) -> bool
     ensures { length line.now ≤ 4096 → result ≡ speaks_http read.now line.now }
 {

@@ -1,4 +1,4 @@
-//! What a line of a script orders.
+//! The command of a line of a script.
 ghost use Rattle.std.specs.Prelude.{◌≡◌, [], ◌∷◌, true, map, None, MatchResult};
 ghost use Rattle.std.specs.List.{list_all};
 ghost use Rattle.std.specs.Str.Parse.{digits_value};
@@ -11,26 +11,26 @@ use crate::command::Command;
 use crate::line_fault::LineFault;
 use crate::lines::LONGEST_LINE;
 use crate::vocabulary::{analysis_named, result_named, service_named};
-use crate::words::{Words, end, is_over, long_number, number, one, short_number, two};
+use crate::words::{Words, end, is_at_end, long_number, number, one, short_number, two};
 use bg_book::Control;
 use bg_revisions::{Name, Ports};
 use std::alloc::Global;
 
-/// Reads a line of a script, given without its end. Words are separated by one or more spaces, and
-/// spaces at both ends are passed over. The lines are
+/// Parses a line of a script, which is given without its end. Words are separated by one or more
+/// spaces, and spaces at both ends are ignored. The lines are
 ///
-/// - `open NAME PORT..` and `deploy NAME PORT..`, with one port or more
+/// - `open NAME PORT..` and `deploy NAME PORT..`, with one or more ports
 /// - `tick MOMENT` and `available REVISION SIZE`
 /// - `verdict pre` or `verdict post`, and then `successful`, `failed` or `error`
 /// - `promote`, `promote full`, `abort` and `retry`
 /// - `enter SEAT active` or `enter SEAT preview`, and `leave SEAT`
 /// - `report`, `compact` and `quit`
 ///
-/// A number is 1 to 20 digits whose value is below 2^16 for a port, 2^32 for a seat and a size, and
-/// 2^64 for a moment and a revision. A name may be any word here: the book judges it.
+/// A number is 1 to 20 digits. Its value is below 2^16 for a port, 2^32 for a seat and a size, and
+/// 2^64 for a moment and a revision. A name may be any word here; the book checks it.
 ///
-/// Any other line is told the first fault that it has, in the order of [`LineFault`]. `OutOfMemory`
-/// comes only at an `open` or a `deploy` without another fault.
+/// For any other line the error is its first fault, in the order of [`LineFault`]. `OutOfMemory`
+/// comes only for an `open` or a `deploy` without another fault.
 pub fn parse_line(alloc: Global, line: &[u8]) -> Result<Command, LineFault>
     ensures { IsReadAs (line_reading line.now) result }
 {
@@ -100,7 +100,7 @@ fn deploy(alloc: Global, words: Words) -> Result<Command, LineFault>
     Ok(Command::Control(Control::Deploy { name, ports }))
 }
 
-/// The name of a revision and the words after it, which are one port or more.
+/// The name of a revision and the words after it, which are one or more ports.
 fn template(mut words: Words<'_>) -> Result<(&str, Words<'_>), LineFault>
     ensures { MatchResult result
         (λ t. (shape_fault template_shape (words_ahead words.entry) ≡ None)
@@ -109,7 +109,7 @@ fn template(mut words: Words<'_>) -> Result<(&str, Words<'_>), LineFault>
         (λ fault. shape_fault template_shape (words_ahead words.entry) ≡ Some fault) }
 {
     let name = words.next().ok_or(LineFault::WrongCount)?;
-    if is_over(words) {
+    if is_at_end(words) {
         return Err(LineFault::WrongCount);
     }
     if !are_ports(words) {
@@ -193,7 +193,7 @@ fn leave(words: Words) -> Result<Command, LineFault>
     Ok(Command::Leave { seat })
 }
 
-/// The command, where no word follows.
+/// The command, if no word follows.
 fn alone(command: Command, words: Words) -> Result<Command, LineFault>
     ensures { result ≡ row_reading (single_word [] command) (words_ahead words.entry) }
 {

@@ -1,14 +1,14 @@
-//! Why bytes were not given.
+//! Why a read gave no bytes.
 use std::alloc::AllocError;
 use thiserror::Error;
 
-/// Why bytes were not given. The reader is of no use after it.
+/// Why a read gave no bytes. The reader must not be used after it.
 #[derive(Clone, Copy, Debug, Drop, PartialEq, Eq, Error)]
 pub enum ReadFault {
-    /// A read failed, or there were 2^24 reads that gave no end.
+    /// A read failed, or 2^24 reads did not reach the end.
     #[error("the input could not be read")]
     ReadFailed,
-    /// Memory for what was read was refused.
+    /// The allocation for the bytes that were read failed.
     #[error("out of memory")]
     OutOfMemory,
 }

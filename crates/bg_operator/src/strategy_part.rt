@@ -10,7 +10,7 @@ use crate::taking::{LineEnd, MOST_TURNS, take_line};
 use std::alloc::Global;
 use std::io::{BufRead, ErrorKind};
 
-/// How many bytes the text of a strategy has at most.
+/// The maximum length in bytes of the text of a strategy.
 const LARGEST_STRATEGY: usize = 1 << 20;
 
 /// The text of a strategy.
@@ -18,12 +18,12 @@ const LARGEST_STRATEGY: usize = 1 << 20;
 pub enum StrategyPart {
     /// All of its bytes, at most 1,048,576.
     Whole(Vec<u8>),
-    /// There are more bytes than a strategy may have; they are not read to their end.
+    /// There are more bytes than a strategy may have. They are not read to their end.
     TooLarge,
 }
 
-/// Takes all bytes before the first line `---`, and that line. Where there is no such line, all bytes.
-/// After a `ReadFault` the reader is of no use.
+/// Reads all bytes before the first line `---`, and that line. If there is no such line, reads all
+/// bytes. After a `ReadFault` the reader must not be used any more.
 pub fn part_before_script<B: BufRead>(
     alloc: Global,
     reader: &mut B,
@@ -53,7 +53,7 @@ pub fn part_before_script<B: BufRead>(
     Err(ReadFault::ReadFailed)
 }
 
-/// Takes all bytes. After a `ReadFault` the reader is of no use.
+/// Reads all bytes. After a `ReadFault` the reader must not be used any more.
 pub fn whole_input<B: BufRead>(alloc: Global, reader: &mut B) -> Result<StrategyPart, ReadFault>
     ensures { IfOk result (λ part. Known (B.remaining reader.old) (B.remaining reader.new)
         (IsWhole part)) }
@@ -71,8 +71,8 @@ pub fn whole_input<B: BufRead>(alloc: Global, reader: &mut B) -> Result<Strategy
     Err(ReadFault::ReadFailed)
 }
 
-/// Takes the next bytes, up to one more than a strategy has. Returns whether the input is at its end,
-/// which isn't known where a read was interrupted.
+/// Reads the next bytes, up to one more than a strategy may have. Returns whether the input is at its
+/// end; false after an interrupted read.
 fn gather_piece<B: BufRead>(reader: &mut B, whole: &mut Vec<u8>) -> Result<bool, ReadFault>
     requires { vec_len whole.old ≤ largest_strategy }
     ensures { IfOk result (λ at_end. Known (B.remaining reader.old) (B.remaining reader.new)
@@ -95,7 +95,7 @@ fn gather_piece<B: BufRead>(reader: &mut B, whole: &mut Vec<u8>) -> Result<bool,
     Ok(at_end)
 }
 
-/// Whether a line that ends so is the line `---`.
+/// Whether a line with this end is the line `---`.
 fn is_mark(line: &[u8], end: LineEnd) -> bool
     ensures { result ≡ bytes_eq (line_text end line.now) (codes "---") }
 {

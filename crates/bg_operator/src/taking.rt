@@ -1,4 +1,4 @@
-//! What is taken of a reader's bytes, a piece at a time.
+//! Reads a reader's bytes piece by piece.
 ghost use Rattle.std.specs.Prelude.{◌≡◌, ◌+◌, ◌<◌, ◌≤◌, false, ◌∷◌, length, take, drop, IfOk, OnOk, vec_len};
 ghost use Rattle.bg_operator.specs.Lines.{has_break};
 ghost use Rattle.bg_operator.specs.Reading.{Known};
@@ -7,21 +7,22 @@ ghost use Rattle.bg_operator.specs.Taking.{PassesLine, PassesPiece, TakesLine, T
 use crate::read_fault::ReadFault;
 use std::io::{BufRead, ErrorKind};
 
-/// After so many turns a loop over a reader gives up, as over the lines of a script or of a connection.
+/// The number of turns after which a loop over a reader, for example over the lines of a script or of a
+/// connection, gives up.
 pub const MOST_TURNS: u32 = 1 << 24;
 
-/// How a line that was taken ends.
+/// How a line that was read ends.
 #[derive(Clone, Copy, Debug, Drop, PartialEq, Eq)]
 pub(crate) enum LineEnd {
-    /// With a break, which was taken too.
+    /// With a line break, which was read too.
     Break,
     /// At the end of the input.
     End,
-    /// Where there was no more room, before a break was seen. The rest of the line is unread.
+    /// At the limit of the room, before a line break. The rest of the line is unread.
     Room,
 }
 
-/// Takes the next line, as far as there is `room`.
+/// Reads at most `room` bytes of the next line.
 pub(crate) fn take_line<B: BufRead>(
     reader: &mut B,
     line: &mut Vec<u8>,
@@ -42,8 +43,8 @@ pub(crate) fn take_line<B: BufRead>(
     Err(ReadFault::ReadFailed)
 }
 
-/// Takes the next bytes of a line up to its break, which is taken too, as far as there is `room`.
-/// Returns how the line ends; none where more of it is to come, and where a read was interrupted.
+/// Reads the next bytes of a line up to and including its line break, at most `room` bytes. Returns
+/// how the line ends; `None` if more of it is to come, and after an interrupted read.
 fn take_piece<B: BufRead>(
     reader: &mut B,
     line: &mut Vec<u8>,
@@ -80,7 +81,7 @@ fn take_piece<B: BufRead>(
     Ok(None)
 }
 
-/// Passes over the rest of a line, piece by piece, with its break.
+/// Skips the rest of a line, piece by piece, with its line break.
 pub(crate) fn skip_line<B: BufRead>(reader: &mut B) -> Result<(), ReadFault>
     ensures { OnOk result
         (Known (B.remaining reader.old) (B.remaining reader.new) PassesLine) }
@@ -93,8 +94,8 @@ pub(crate) fn skip_line<B: BufRead>(reader: &mut B) -> Result<(), ReadFault>
     Err(ReadFault::ReadFailed)
 }
 
-/// Passes over the next bytes of a line up to its break, which is passed over too. Returns whether
-/// the line ends there; false where more of it is to come, and where a read was interrupted.
+/// Skips the next bytes of a line up to and including its line break. Returns whether the line ends
+/// there; false if more of it is to come, and after an interrupted read.
 fn skip_piece<B: BufRead>(reader: &mut B) -> Result<bool, ReadFault>
     ensures { IfOk result (λ ended. Known (B.remaining reader.old) (B.remaining reader.new)
         (PassesPiece ended)) }
@@ -121,7 +122,7 @@ fn skip_piece<B: BufRead>(reader: &mut B) -> Result<bool, ReadFault>
     Ok(false)
 }
 
-/// Where the first break is, or the length.
+/// The position of the first line break, or the length if there is none.
 fn find_break(bytes: &[u8]) -> usize
     ensures bound { result ≤ length bytes.now }
     ensures none_before { has_break (take result bytes.now) ≡ false }

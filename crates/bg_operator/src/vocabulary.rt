@@ -1,4 +1,4 @@
-//! The words that a user chooses from.
+//! The fixed words of the commands.
 ghost use Rattle.std.specs.Prelude.{◌≡◌};
 ghost use Rattle.std.specs.Option.{ok_or};
 ghost use Rattle.bg_operator.specs.Words.{analyses, meaning_in, results, services};

@@ -1,4 +1,4 @@
-//! The words of a line, and the numbers that words are.
+//! The words of a line, and words that are numbers.
 ghost use Rattle.std.specs.Prelude.{◌≡◌, ◌∷◌, [], false, ◌==◌, length, MatchResult};
 ghost use Rattle.std.specs.Char.{is_ascii_digit};
 ghost use Rattle.std.specs.List.{list_all};
@@ -8,11 +8,11 @@ ghost use Rattle.bg_operator.specs.declared.line_fault.LineFault.TheVariants as 
 
 use crate::line_fault::LineFault;
 
-/// How many digits a number has at most.
+/// The maximum number of digits of a number.
 const MOST_DIGITS: usize = 20;
 
-/// The words of a line that are still to come. Words are separated by one or more spaces, and
-/// spaces at both ends are passed over.
+/// The remaining words of a line. Words are separated by one or more spaces, and spaces at both
+/// ends are ignored.
 #[derive(Clone, Copy, Drop)]
 pub struct Words<'a> {
     rest: &'a str,
@@ -47,14 +47,14 @@ impl<'a> Iterator for Words<'a> {
     }
 }
 
-/// Whether no word is to come.
-pub fn is_over(mut words: Words) -> bool
+/// Whether no word is left.
+pub fn is_at_end(mut words: Words) -> bool
     ensures { result ≡ (length (words_ahead words.entry) == 0) }
 {
     words.next().is_none()
 }
 
-/// `WrongCount` where a word is still to come.
+/// `WrongCount` if a word is left.
 pub fn end(mut words: Words) -> Result<(), LineFault>
     ensures { MatchResult result (λ _. words_ahead words.entry ≡ [])
         (λ fault. ((length (words_ahead words.entry) == 0) ≡ false)
@@ -66,7 +66,7 @@ pub fn end(mut words: Words) -> Result<(), LineFault>
     }
 }
 
-/// The one word to come. `WrongCount` where there is none, or more than one.
+/// The only word that is left. `WrongCount` if there is none, or more than one.
 pub fn one(mut words: Words<'_>) -> Result<&str, LineFault>
     ensures { MatchResult result (λ word. words_ahead words.entry ≡ word.now ∷ [])
         (λ fault. ((length (words_ahead words.entry) == 1) ≡ false)
@@ -77,7 +77,7 @@ pub fn one(mut words: Words<'_>) -> Result<&str, LineFault>
     Ok(word)
 }
 
-/// The two words to come. `WrongCount` where there are fewer, or more.
+/// The two words that are left. `WrongCount` if there are fewer or more.
 pub fn two(mut words: Words<'_>) -> Result<(&str, &str), LineFault>
     ensures { MatchResult result (λ p. words_ahead words.entry ≡ p.0.now ∷ p.1.now ∷ [])
         (λ fault. ((length (words_ahead words.entry) == 2) ≡ false)
@@ -87,7 +87,8 @@ pub fn two(mut words: Words<'_>) -> Result<(&str, &str), LineFault>
     Ok((first, one(words)?))
 }
 
-/// The number that a word is: 1 to 20 digits whose value is below 2^64. Any other is `BadNumber`.
+/// Parses a word as a number: 1 to 20 digits whose value is below 2^64. Any other word is
+/// `BadNumber`.
 pub fn long_number(word: &str) -> Result<u64, LineFault>
     ensures { result ≡ number_reading 64 word.now }
 {
@@ -97,14 +98,14 @@ pub fn long_number(word: &str) -> Result<u64, LineFault>
     word.parse::<u64>().map_err(|_| LineFault::BadNumber)
 }
 
-/// The same, below 2^32.
+/// Parses a word as a number below 2^32. Any other word is `BadNumber`.
 pub fn number(word: &str) -> Result<u32, LineFault>
     ensures { result ≡ number_reading 32 word.now }
 {
     u32::try_from(long_number(word)?).map_err(|_| LineFault::BadNumber)
 }
 
-/// The same, below 2^16.
+/// Parses a word as a number below 2^16. Any other word is `BadNumber`.
 pub fn short_number(word: &str) -> Result<u16, LineFault>
     ensures { result ≡ number_reading 16 word.now }
 {

@@ -1,4 +1,4 @@
--- What follows from what stands in an attempt.
+-- Consequences of what has happened in an attempt.
 use Rattle.std.proofs.Common.{◌≡◌, ℕ, Bool, true, false, ◌&&◌, ◌||◌, List, [], ◌∷◌, Option, None, refl, arith, is_some}
 use Rattle.std.proofs.lemmas.Grind.{common_steps}
 use Rattle.bg_history.specs.declared.entry.Entry.{Entry}
@@ -31,32 +31,32 @@ is_running-turnless (Outcome (Promoted r)) before h = grind arith
 is_running-turnless (Outcome (ScaledDown r)) before h = refl
 is_running-turnless (Outcome (Removed r)) before h = refl
 
--- where an entry stands in the running attempt, an attempt runs
+-- if an entry is in the running attempt, an attempt runs
 pub in_attempt_runs : (test : Entry → Bool) (past : List Entry) → in_attempt test past ≡ true → is_running past ≡ true
 in_attempt_runs test [] h = grind arith
 in_attempt_runs test (e ∷ before) h = grind (arith, common_steps, is_running-turnless e before, in_attempt_runs test before)
 
--- an entry that passes the attempt is its Ready, or comes after it
+-- the entry with which the attempt passes is its Ready, or comes after it
 passes-ready : (s : Strategy) (e : Entry) (before : List Entry) → passes s e before ≡ true → ((is_ready e && is_running before) || has_ready before) ≡ true
 passes-ready s (Outcome (Ready r)) before h = grind (arith, common_steps)
 passes-ready s (Verdict Pre Successful) before h = grind (arith, common_steps)
 passes-ready s e before h = grind arith
 
--- what is first at a moment was kept, or comes now
+-- the first moment was kept before, or it is this moment
 first_at-some : (now : Bool) (at : ℕ) (kept : Option ℕ) → is_some (first_at now at kept) ≡ true → (now || is_some kept) ≡ true
 first_at-some true at kept h = refl
 first_at-some false at kept h = h
 
--- where the attempt has passed, its revision is ready
+-- if the attempt has passed, its revision is ready
 passed_is_ready : (s : Strategy) (past : List Entry) → is_passed s past ≡ true → has_ready past ≡ true
 passed_is_ready s [] h = grind arith
 passed_is_ready s (e ∷ before) h =
     grind (arith, common_steps, passes-ready s e before, first_at-some (passes s e before) (moment before) (pass_moment s before), passed_is_ready s before)
 
--- where the attempt has passed, an attempt runs
+-- if the attempt has passed, an attempt runs
 pub passed_runs : (s : Strategy) (past : List Entry) → is_passed s past ≡ true → is_running past ≡ true
 passed_runs s past h = in_attempt_runs is_ready past (passed_is_ready s past h)
 
--- where the revision isn't ready, the attempt hasn't passed
+-- if the revision isn't ready, the attempt hasn't passed
 pub unready_unpassed : (s : Strategy) (past : List Entry) → has_ready past ≡ false → pass_moment s past ≡ None
 unready_unpassed s past h = grind (arith, common_steps, passed_is_ready s past)

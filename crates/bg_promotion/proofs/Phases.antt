@@ -1,4 +1,4 @@
--- While no step of an attempt is left to be taken, the rollout is in a phase.
+-- While no step of an attempt is allowed, the rollout has a phase.
 use Rattle.std.proofs.Common.{◌≡◌, ℕ, Bool, true, false, not, cond, ◌&&◌, ◌||◌, List, [], ◌∷◌, Option, Some, None, refl, sym, ap, ◌∙◌, arith, is_some}
 use Rattle.std.proofs.lemmas.Grind.{common_steps}
 use Rattle.std.proofs.lemmas.Bool.Decides.{nat_tests}
@@ -13,7 +13,7 @@ use Rattle.bg_history.specs.Promotion.{attempts, waited, may_be_ready, may_resum
 use Rattle.bg_promotion.specs.declared.phase.Phase.TheVariants.{Sizing}
 use Rattle.bg_promotion.specs.Phases.{phase_of}
 
--- where no analysis is set before promotion, a Ready passes the attempt
+-- if no analysis is set before the switch, a Ready passes the attempt
 ready-passes : (s : Strategy) (e : Entry) (before : List Entry) → s.pre ≡ false → is_ready e ≡ true → is_running before ≡ true → passes s e before ≡ true
 ready-passes s (Outcome (Ready r)) before no_analysis ready runs = grind (arith, common_steps)
 ready-passes s e before no_analysis ready runs = grind arith
@@ -23,13 +23,13 @@ first_at-kept true at None h = refl
 first_at-kept true at (Some m) h = refl
 first_at-kept false at kept h = h
 
--- so there a revision that is ready has passed
+-- so a ready revision has passed
 ready_is_passed : (s : Strategy) (past : List Entry) → s.pre ≡ false → has_ready past ≡ true → is_passed s past ≡ true
 ready_is_passed s [] no_analysis h = grind arith
 ready_is_passed s (e ∷ before) no_analysis h =
     grind (arith, common_steps, ready-passes s e before no_analysis, first_at-kept (passes s e before) (moment before) (pass_moment s before), ready_is_passed s before no_analysis)
 
--- where no step is allowed, the first of two isn't, nor the rest
+-- if no step is allowed, neither the first of two is nor the rest
 none-both : {X : Type 0} (b : Bool) (v : X) (rest : Option X) → cond b (Some v) rest ≡ None → (b ≡ false) × (rest ≡ None)
 none-both true v rest h = absurd (cc)
 none-both false v rest h = (refl, h)
@@ -38,7 +38,7 @@ full_or : (full later after : Bool) → (full || true || later || after) ≡ fal
 full_or true later after h = absurd (cc)
 full_or false later after h = absurd (cc)
 
--- what no step and no other phase leave open: the pause is over, and the active service hasn't switched
+-- if no step is allowed and no other phase applies, the pause is over and the active service hasn't switched
 sizes : (resumed switched passed pre post needs full later after success : Bool) → (pre ≡ false → passed ≡ true)
     → (not resumed && pre && not passed) ≡ false → (passed && not resumed && needs) ≡ false → (switched && post) ≡ false
     → (not resumed && (full || (passed && not needs) || later || after)) ≡ false → (switched && (not post || success || full)) ≡ false
@@ -56,7 +56,7 @@ sizes false false passed pre post needs full later after success whenever pre_is
   go false true true whenever pre_is paused resume = absurd (cc)
   go false true false whenever pre_is paused resume = full_or full later after resume
 
--- it is sizing where it is no other phase
+-- the phase is sizing if no other phase applies
 pub sizing_is_left : (s : Strategy) (past : List Entry) → is_halted past ≡ false → is_running past ≡ true → has_ready past ≡ true → awaits_pre s past ≡ false
     → is_paused s past ≡ false → awaits_post s past ≡ false → first_promotion s past ≡ None → phase_of s past ≡ Some Sizing
 sizing_is_left s past halted runs ready pre paused post none =

@@ -1,4 +1,4 @@
--- What each command is answered.
+-- The answer to each command.
 use Rattle.std.specs.Prelude.{Bool, true, false, if◌then◌else◌, not, List, Result, Ok, Err}
 use Rattle.bg_history.specs.declared.entry.Entry.{Entry}
 use Rattle.bg_history.specs.declared.entry.Analysis.{Analysis}
@@ -20,27 +20,25 @@ use Rattle.bg_promotion.specs.declared.faults.PromoteFullFault.TheVariants as fu
 use Rattle.bg_promotion.specs.declared.faults.VerdictFault as verdict
 use Rattle.bg_promotion.specs.declared.faults.VerdictFault.TheVariants as verdict_fault
 
--- an abort is refused where the last attempt is stopped already, and where none runs
+-- an abort is refused if the last attempt was halted, or if none runs
 abbrev pub abort_answer : List Entry → Result (Unit {0}) abort.AbortFault
 abort_answer past =
     if is_halted past then Err abort_fault.AlreadyAborted
     else if is_running past then Ok tt
     else Err abort_fault.NothingToAbort
 
--- a retry is refused where the last attempt isn't stopped
+-- a retry is refused if the last attempt wasn't halted
 abbrev pub retry_answer : List Entry → Result (Unit {0}) retry.RetryFault
 retry_answer past = if is_halted past then Ok tt else Err retry_fault.NotAborted
 
--- a promotion is accepted in a pause alone; elsewhere it is told whether the last attempt is
--- stopped
+-- a promotion is accepted only in a pause; else the fault says whether the last attempt was halted
 abbrev pub promote_answer : Strategy → List Entry → Result (Unit {0}) promote.PromoteFault
 promote_answer s past =
     if is_paused s past then Ok tt
     else if is_halted past then Err promote_fault.Aborted
     else Err promote_fault.NotPaused
 
--- a full promotion is refused where the last attempt is stopped, where none runs, and where one was
--- given in this attempt
+-- a full promotion is refused if the last attempt was halted, if none runs, or if this attempt already has one
 abbrev pub promote_full_answer : List Entry → Result (Unit {0}) full.PromoteFullFault
 promote_full_answer past =
     if is_halted past then Err full_fault.Aborted
@@ -48,7 +46,7 @@ promote_full_answer past =
     else if has_promote_full past then Err full_fault.AlreadyFull
     else Ok tt
 
--- a verdict is refused where its analysis isn't awaited
+-- a verdict is refused if the rollout doesn't wait for its analysis
 abbrev pub verdict_answer : Analysis → Strategy → List Entry
     → Result (Unit {0}) verdict.VerdictFault
 verdict_answer analysis s past =

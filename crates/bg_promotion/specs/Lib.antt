@@ -1,5 +1,5 @@
-pub mod Standing
-pub mod Stands
+pub mod Core
+pub mod Represents
 pub mod Phases
 pub mod Answers
 pub mod PhaseNames

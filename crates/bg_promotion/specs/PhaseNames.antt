@@ -1,4 +1,4 @@
--- How a phase is called.
+-- The names of the phases.
 use Rattle.std.specs.Prelude.{ℕ, List, codes}
 use Rattle.bg_promotion.specs.declared.phase.Phase.{Phase}
 use Rattle.bg_promotion.specs.declared.phase.Phase.TheVariants.{Steady, Scaling, PreAnalysis, Paused, Sizing, PostAnalysis, Aborted}

@@ -1,8 +1,8 @@
-//! Why a command is refused.
+//! The errors of the commands.
 
 use thiserror::Error;
 
-/// Why an abort is refused.
+/// The reason why an abort is refused.
 #[derive(Clone, Copy, PartialEq, Eq, Debug, Drop, Error)]
 pub enum AbortFault {
     #[error("the last attempt was already aborted")]
@@ -11,14 +11,14 @@ pub enum AbortFault {
     NothingToAbort,
 }
 
-/// Why a retry is refused.
+/// The reason why a retry is refused.
 #[derive(Clone, Copy, PartialEq, Eq, Debug, Drop, Error)]
 pub enum RetryFault {
     #[error("the last attempt was not aborted")]
     NotAborted,
 }
 
-/// Why a promotion is refused.
+/// The reason why a promotion is refused.
 #[derive(Clone, Copy, PartialEq, Eq, Debug, Drop, Error)]
 pub enum PromoteFault {
     #[error("the last attempt was aborted")]
@@ -27,7 +27,7 @@ pub enum PromoteFault {
     NotPaused,
 }
 
-/// Why a full promotion is refused.
+/// The reason why a full promotion is refused.
 #[derive(Clone, Copy, PartialEq, Eq, Debug, Drop, Error)]
 pub enum PromoteFullFault {
     #[error("the last attempt was aborted")]
@@ -38,7 +38,7 @@ pub enum PromoteFullFault {
     AlreadyFull,
 }
 
-/// Why a verdict is refused.
+/// The reason why a verdict is refused.
 #[derive(Clone, Copy, PartialEq, Eq, Debug, Drop, Error)]
 pub enum VerdictFault {
     #[error("this analysis is not awaited")]

@@ -1,5 +1,5 @@
-//! The promotion of a new revision: which phase the rollout is in, which commands it takes, and which step
-//! comes next (Argo Rollouts, "BlueGreen Deployment Strategy", sequence of events).
+//! The promotion of a new revision: the phase of the rollout, the commands that it takes, and the next step
+//! (Argo Rollouts, "BlueGreen Deployment Strategy", sequence of events).
 #![tactic(auto)]
 
 mod faults;

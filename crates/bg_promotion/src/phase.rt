@@ -1,22 +1,22 @@
 //! The phases of a rollout.
 
-/// Where a rollout stands (Argo Rollouts, "BlueGreen Deployment Strategy").
+/// The phase of a rollout (Argo Rollouts, "BlueGreen Deployment Strategy").
 #[derive(Clone, Copy, PartialEq, Eq, Debug, Drop)]
 pub enum Phase {
-    /// No attempt runs, and none was aborted.
+    /// No attempt runs, and the phase is not `Aborted`.
     Steady,
     /// The new revision isn't ready yet.
     Scaling,
-    /// The analysis before the switch is awaited: `prePromotionAnalysis`.
+    /// The rollout waits for the verdict of the analysis before the switch: `prePromotionAnalysis`.
     PreAnalysis,
-    /// An operator, or the seconds of the pause, are awaited: `autoPromotionEnabled` and
+    /// The rollout waits for an operator or for the end of the pause: `autoPromotionEnabled` and
     /// `autoPromotionSeconds`.
     Paused,
     /// The new revision grows to full size.
     Sizing,
-    /// The analysis after the switch is awaited: `postPromotionAnalysis`.
+    /// The rollout waits for the verdict of the analysis after the switch: `postPromotionAnalysis`.
     PostAnalysis,
-    /// The last attempt was aborted or failed, and nothing was deployed or retried since.
+    /// The last attempt was halted by an abort or a verdict, and no deploy or retry followed.
     Aborted,
 }
 
@@ -24,7 +24,7 @@ impl Phase {
     ghost use Rattle.std.specs.Prelude.{◌≡◌};
     ghost use Rattle.bg_promotion.specs.PhaseNames.{phase_name};
 
-    /// The name of the phase, as a report has it: that of the variant, with a small first letter.
+    /// The name of the phase in a report: the name of the variant, with a lower-case first letter.
     pub fn name(&self) -> &'static str
         ensures { result.now ≡ phase_name self.now }
     {

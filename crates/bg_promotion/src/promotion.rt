@@ -1,9 +1,9 @@
-//! The core: where the attempt to promote the newest revision stands.
+//! The core: the state of the attempt to promote the newest revision.
 ghost use Rattle.std.specs.Prelude.{◌≡◌, List, [], Some, None, IfSome, IfNone};
 ghost use Rattle.bg_strategy.specs.declared.strategy.Strategy.{Strategy};
 ghost use Rattle.bg_history.specs.declared.entry.Entry.{Entry};
 ghost use Rattle.bg_history.specs.Promotion.{first_promotion};
-ghost use Rattle.bg_promotion.specs.Stands.{StandsFor};
+ghost use Rattle.bg_promotion.specs.Represents.{CoreRepresents};
 ghost use Rattle.bg_promotion.specs.Phases.{phase_of};
 ghost use Rattle.bg_history.specs.Selections.{selectors_of};
 
@@ -17,11 +17,11 @@ use bg_revisions::Selectors;
 use bg_strategy::Strategy;
 use std::marker::Model;
 
-/// What a rollout keeps of its history to promote a new revision.
+/// The part of a rollout's state that promotes a new revision.
 ///
-/// A core stands for a past where each thing that it keeps is what the past says (`specs/Stands.antt`).
-/// Each call is told of by every past that the core stands for. No call takes memory. A copy tells what a
-/// command would be answered before it is given.
+/// A core represents a past if each of its fields is what the past says (`specs/PartsRepresent.antt`). The contract of each
+/// call holds for every past that the core represents. No call allocates. A caller can try a command on a copy of the
+/// core to learn its answer.
 #[derive(Clone, Copy, Drop, Debug)]
 pub struct Core {
     replicas: u32,
@@ -39,9 +39,9 @@ pub struct Core {
 }
 
 impl Model for Core {
-    ghost use Rattle.bg_promotion.specs.Standing.{Standing};
+    ghost use Rattle.bg_promotion.specs.Core.{Core};
 
-    ghost Value = { Standing };
+    ghost Value = { Core };
 
     ghost view = { λ c. record {
       replicas = c.replicas;
@@ -75,9 +75,9 @@ impl Model for Core {
 }
 
 impl Core {
-    /// The core of a rollout that has just opened: revision 1 is active, stable and newest.
+    /// The core of a new rollout: revision 1 is active, stable and newest.
     pub fn new(strategy: &Strategy) -> Core
-        ensures { StandsFor strategy.now result [] }
+        ensures { CoreRepresents strategy.now result [] }
     {
         Core {
             replicas: strategy.replicas,
@@ -95,13 +95,13 @@ impl Core {
         }
     }
 
-    /// The phase. While steps of the attempt are still to be taken none may apply: then it is sizing.
+    /// The phase. While a step of the attempt is next, the history may have no phase; then the answer is `Sizing`.
     pub fn phase(&self) -> Phase
-        ensures phase { (s : Strategy) (past : List Entry) → StandsFor s self.now past
+        ensures phase { (s : Strategy) (past : List Entry) → CoreRepresents s self.now past
             → IfSome (phase_of s past) (λ p. result ≡ p) }
-        ensures none { (s : Strategy) (past : List Entry) → StandsFor s self.now past
+        ensures none { (s : Strategy) (past : List Entry) → CoreRepresents s self.now past
             → IfNone (phase_of s past) (result ≡ Phase.Sizing) }
-        ensures settled { (s : Strategy) (past : List Entry) → StandsFor s self.now past
+        ensures settled { (s : Strategy) (past : List Entry) → CoreRepresents s self.now past
             → first_promotion s past ≡ None → phase_of s past ≡ Some result }
     {
         if self.halted {
@@ -121,9 +121,9 @@ impl Core {
         }
     }
 
-    /// Which revisions are active, preview, stable and newest.
+    /// The numbers of the active, preview, stable and newest revisions.
     pub fn selectors(&self) -> Selectors
-        ensures { (s : Strategy) (past : List Entry) → StandsFor s self.now past
+        ensures { (s : Strategy) (past : List Entry) → CoreRepresents s self.now past
             → result ≡ selectors_of past }
     {
         Selectors {

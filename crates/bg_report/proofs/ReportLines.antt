@@ -11,7 +11,7 @@ next_is xs i x here =
     take_more xs i x (slice_get_within xs i x here)
     ∙ ap (λ y. take i xs ++ y ∷ []) (get_or_from_slice_get xs i x x here)
 
--- once more is written for the element at a place
+-- one more text is written, for the element at a place
 pub writes_next : {X : Type 0} (f : X → List ℕ) (xs : List X) (i : ℕ) (x : X) (first now new : Option (List ℕ))
     → slice_get xs i ≡ Some x → Appends first now (flat_map f (take i xs)) → Appends now new (f x)
     → Appends first new (flat_map f (take (i + 1) xs))

@@ -27,9 +27,9 @@ selectors_text s =
     ++ number_line (codes "stable") s.stable
     ++ number_line (codes "newest") s.newest
 
--- where the rollout stands; each book is in a phase, which has a name
-abbrev pub standing_text : Routing → List ℕ
-standing_text b =
+-- the state of the rollout; each book is in a phase, which has a name
+abbrev pub state_text : Routing → List ℕ
+state_text b =
     number_line (codes "moment") (moment b.past)
     ++ codes "phase " ++ option_map_or phase_name (phase_of b.strategy b.past) [] ++ codes "\n"
     ++ selectors_text (selectors_of b.past)
@@ -39,7 +39,7 @@ abbrev pub deadline_text : Option ℕ → List ℕ
 deadline_text None = codes "none"
 deadline_text (Some at) = decimal at
 
--- the mark of a revision that awaits its open requests alone
+-- the mark of a revision that waits only for its open requests
 abbrev pub draining_text : Bool → List ℕ
 draining_text draining = if draining then codes " draining" else codes ""
 
@@ -47,7 +47,7 @@ draining_text draining = if draining then codes " draining" else codes ""
 abbrev pub cut_text : Bool → List ℕ
 cut_text past_limit = if past_limit then codes " cut" else codes ""
 
--- a word, and the value that it tells
+-- a word, and its value
 abbrev pub told : List ℕ → List ℕ → List ℕ
 told word value = word ++ codes " " ++ value
 
@@ -58,7 +58,7 @@ sizes_text r =
     ++ told (codes " desired") (decimal r.desired)
     ++ told (codes " available") (decimal r.available)
 
--- the open requests of revision r, and when it may be scaled down
+-- the open requests of revision r, and the moment from which it may be scaled down
 abbrev pub traffic_text : Routing → ℕ → List ℕ
 traffic_text b r =
     codes " open " ++ decimal (length (open_at r b.past))
@@ -76,4 +76,4 @@ revision_lines b = flat_map (revision_line b) (revisions_of b.strategy b.opening
 
 -- the report
 abbrev pub report_text : Routing → List ℕ
-report_text b = standing_text b ++ revision_lines b ++ codes "end\n"
+report_text b = state_text b ++ revision_lines b ++ codes "end\n"

@@ -1,6 +1,7 @@
-//! What is written: the settings of a strategy, the reply of a book and its report, as exact texts.
+//! Writes the settings of a strategy, the reply of a book and its report, as exact texts.
 //!
-//! Nothing is decided here. Each function writes the whole text, or fails where the writer fails.
+//! This crate makes no decisions. Each function writes the whole text, or fails if the writer
+//! fails.
 #![tactic(auto)]
 
 mod replies;

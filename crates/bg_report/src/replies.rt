@@ -8,7 +8,7 @@ use std::io;
 use std::io::Write;
 
 /// Writes the line of a reply: `entered NUMBER revision R port P`, `left NUMBER revision R`,
-/// `ok OUTCOMES`, or `refused` and the name of the fault. Where a write fails, a part of it may be
+/// `ok OUTCOMES`, or `refused` and the name of the fault. If a write fails, a part of it may have been
 /// written.
 pub fn reply<W: Write>(reply: &Reply, writer: &mut W) -> io::Result<()>
     ensures { OnOk result (Appends (W.contents writer.old) (W.contents writer.new)

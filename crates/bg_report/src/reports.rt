@@ -1,7 +1,7 @@
-//! The report: where a rollout stands, and each of its revisions.
+//! The report: the state of a rollout, and each of its revisions.
 ghost use Rattle.std.specs.Prelude.{◌≡◌, ◌+◌, Some, OnOk};
 ghost use Rattle.std.specs.Io.KnownBytes.{Appends};
-ghost use Rattle.bg_report.specs.Reports.{cut_text, deadline_text, draining_text, report_text, revision_lines as revision_lines_of, selectors_text, sizes_text, standing_text, traffic_text};
+ghost use Rattle.bg_report.specs.Reports.{cut_text, deadline_text, draining_text, report_text, revision_lines as revision_lines_of, selectors_text, sizes_text, state_text, traffic_text};
 
 use bg_book::Book;
 use bg_ledger::Names;
@@ -10,12 +10,12 @@ use std::io::Write;
 use std::{fmt, io};
 
 /// Writes the report: the moment, the phase, the selected revisions, a line for each revision in
-/// order of number, and `end`. Where a write fails, a part of it may be written.
+/// order of number, and `end`. If a write fails, a part of it may have been written.
 pub fn report<N: Names, W: Write>(book: &Book<N>, writer: &mut W) -> io::Result<()>
     ensures { OnOk result (Appends (W.contents writer.old) (W.contents writer.new)
         (report_text book.now)) }
 {
-    write!(writer, "{}", StandingLines(book))?;
+    write!(writer, "{}", StateLines(book))?;
     revision_lines(book, writer)?;
     writeln!(writer, "end")
 }
@@ -35,12 +35,12 @@ fn revision_lines<N: Names, W: Write>(book: &Book<N>, writer: &mut W) -> io::Res
     Ok(())
 }
 
-/// Where the rollout stands.
+/// The state of the rollout.
 #[derive(Drop)]
-struct StandingLines<'a, N: Names>(&'a Book<N>);
+struct StateLines<'a, N: Names>(&'a Book<N>);
 
-impl<N: Names> fmt::Display for StandingLines<'_, N> {
-    ghost output = { λ lines. Some (standing_text lines.0.now) };
+impl<N: Names> fmt::Display for StateLines<'_, N> {
+    ghost output = { λ lines. Some (state_text lines.0.now) };
 
     fn fmt<W: fmt::Write>(&self, f: &mut fmt::Formatter<W>) -> fmt::Result {
         let book = self.0;
@@ -50,7 +50,7 @@ impl<N: Names> fmt::Display for StandingLines<'_, N> {
     }
 }
 
-/// The selected revisions; that of the preview service also where none is set.
+/// The selected revisions, also that of the preview service if no preview service is set.
 #[derive(Drop)]
 struct SelectorLines(Selectors);
 
@@ -82,7 +82,7 @@ impl fmt::Display for RevisionSizes<'_> {
     }
 }
 
-/// The requests of a revision, and when it may be scaled down.
+/// The requests of a revision, and the moment from which it may be scaled down.
 #[derive(Drop)]
 struct RevisionTraffic<'a, N: Names> {
     book: &'a Book<N>,
@@ -116,7 +116,7 @@ impl fmt::Display for Deadline {
     }
 }
 
-/// The mark of a revision that awaits its open requests alone.
+/// The mark of a revision that waits only for its open requests.
 fn draining_mark(is_draining: bool) -> &'static str
     ensures { result.now ≡ draining_text is_draining }
 {

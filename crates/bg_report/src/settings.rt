@@ -1,14 +1,14 @@
-//! The lines that tell what a strategy means, or why it is refused.
+//! The lines that say what a strategy means, or why it is refused.
 ghost use Rattle.std.specs.Prelude.{◌≡◌, Some, OnOk, codes, decimal};
 ghost use Rattle.std.specs.Io.KnownBytes.{Appends};
 ghost use Rattle.bg_report.specs.Settings.{analysis_text, fault_text, name_or_dash as name_text, number_or_dash, promotion_text, scale_down_text, service_text, size_text, strategy_text};
 
-use bg_strategy::{ServiceName, Strategy, StrategyFault};
+use bg_strategy::{Field, ServiceName, Strategy, StrategyFault};
 use std::io::Write;
 use std::{fmt, io};
 
 /// Writes a line for each of the thirteen settings, its name and its value (Argo Rollouts, "Rollout
-/// Specification"). Where a write fails, a part of them may be written.
+/// Specification"). If a write fails, a part of them may have been written.
 pub fn strategy_lines<W: Write>(strategy: &Strategy, writer: &mut W) -> io::Result<()>
     ensures { OnOk result (Appends (W.contents writer.old) (W.contents writer.new)
         (strategy_text strategy.now)) }
@@ -24,8 +24,8 @@ pub fn strategy_lines<W: Write>(strategy: &Strategy, writer: &mut W) -> io::Resu
     )
 }
 
-/// Writes `fault KIND`, or `fault KIND FIELD` where the fault concerns a field. Where a write fails,
-/// a part of it may be written.
+/// Writes `fault KIND`, or `fault KIND FIELD` if the fault concerns a field. If a write fails, a
+/// part of it may have been written.
 pub fn fault_line<W: Write>(fault: &StrategyFault, writer: &mut W) -> io::Result<()>
     ensures { OnOk result (Appends (W.contents writer.old) (W.contents writer.new)
         (fault_text fault.now)) }
@@ -46,10 +46,16 @@ impl fmt::Display for ServiceLines<'_> {
 
     fn fmt<W: fmt::Write>(&self, f: &mut fmt::Formatter<W>) -> fmt::Result {
         let strategy = self.0;
-        writeln!(f, "activeService {}", strategy.active_service.get())?;
         writeln!(
             f,
-            "previewService {}",
+            "{} {}",
+            Field::ActiveService,
+            strategy.active_service.get()
+        )?;
+        writeln!(
+            f,
+            "{} {}",
+            Field::PreviewService,
             name_or_dash(&strategy.preview_service)
         )
     }
@@ -64,8 +70,13 @@ impl fmt::Display for SizeLines<'_> {
 
     fn fmt<W: fmt::Write>(&self, f: &mut fmt::Formatter<W>) -> fmt::Result {
         let strategy = self.0;
-        writeln!(f, "replicas {}", strategy.replicas)?;
-        writeln!(f, "previewReplicaCount {}", strategy.preview_replicas)
+        writeln!(f, "{} {}", Field::Replicas, strategy.replicas)?;
+        writeln!(
+            f,
+            "{} {}",
+            Field::PreviewReplicaCount,
+            strategy.preview_replicas
+        )
     }
 }
 
@@ -78,12 +89,22 @@ impl fmt::Display for PromotionLines<'_> {
 
     fn fmt<W: fmt::Write>(&self, f: &mut fmt::Formatter<W>) -> fmt::Result {
         let strategy = self.0;
-        writeln!(f, "autoPromotionEnabled {}", strategy.auto_promotion)?;
-        writeln!(f, "autoPromotionSeconds {}", strategy.auto_seconds)
+        writeln!(
+            f,
+            "{} {}",
+            Field::AutoPromotionEnabled,
+            strategy.auto_promotion
+        )?;
+        writeln!(
+            f,
+            "{} {}",
+            Field::AutoPromotionSeconds,
+            strategy.auto_seconds
+        )
     }
 }
 
-/// When a revision is scaled down and removed, and how long its requests may stay.
+/// When a revision is scaled down and removed, and the time limit of its requests.
 #[derive(Drop)]
 struct ScaleDownLines<'a>(&'a Strategy);
 
@@ -94,11 +115,21 @@ impl fmt::Display for ScaleDownLines<'_> {
         let strategy = self.0;
         let limit = NumberOrDash(strategy.revision_limit);
         let drain_limit = NumberOrDash(strategy.drain_limit);
-        writeln!(f, "scaleDownDelaySeconds {}", strategy.delay)?;
-        writeln!(f, "scaleDownDelayRevisionLimit {limit}")?;
-        writeln!(f, "abortScaleDownDelaySeconds {}", strategy.abort_delay)?;
-        writeln!(f, "drainLimitSeconds {drain_limit}")?;
-        writeln!(f, "revisionHistoryLimit {}", strategy.history_limit)
+        writeln!(f, "{} {}", Field::ScaleDownDelaySeconds, strategy.delay)?;
+        writeln!(f, "{} {limit}", Field::ScaleDownDelayRevisionLimit)?;
+        writeln!(
+            f,
+            "{} {}",
+            Field::AbortScaleDownDelaySeconds,
+            strategy.abort_delay
+        )?;
+        writeln!(f, "{} {drain_limit}", Field::DrainLimitSeconds)?;
+        writeln!(
+            f,
+            "{} {}",
+            Field::RevisionHistoryLimit,
+            strategy.history_limit
+        )
     }
 }
 
@@ -111,12 +142,12 @@ impl fmt::Display for AnalysisLines<'_> {
 
     fn fmt<W: fmt::Write>(&self, f: &mut fmt::Formatter<W>) -> fmt::Result {
         let strategy = self.0;
-        writeln!(f, "prePromotionAnalysis {}", strategy.pre)?;
-        writeln!(f, "postPromotionAnalysis {}", strategy.post)
+        writeln!(f, "{} {}", Field::PrePromotionAnalysis, strategy.pre)?;
+        writeln!(f, "{} {}", Field::PostPromotionAnalysis, strategy.post)
     }
 }
 
-/// The name of a service, or `-` where there is none.
+/// The name of a service, or `-` if there is none.
 fn name_or_dash(name: &Option<ServiceName>) -> &str
     ensures { result.now ≡ name_text name.now }
 {
@@ -126,7 +157,7 @@ fn name_or_dash(name: &Option<ServiceName>) -> &str
     }
 }
 
-/// A number, or `-` where there is none.
+/// A number, or `-` if there is none.
 #[derive(Drop)]
 struct NumberOrDash(Option<u32>);
 

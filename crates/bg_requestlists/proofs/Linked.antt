@@ -1,4 +1,4 @@
--- The linked lists: which one is each revision's own, and what callers see of them.
+-- The linked lists: the list of each revision, and what callers see of it.
 use Rattle.std.proofs.Common.{◌≡◌, ◌≢◌, ◌<◌, ◌≤◌, ℕ, zero, suc, Bool, true, false, cond, not, ◌==◌, ◌||◌, nat_lt, List, [], ◌∷◌, ◌++◌, length, map, filter, find, get_or, replicate, set, Option, Some, None, IsSome, is_some, option_map, refl, sym, ap, ◌∙◌, subst, arith}
 use Rattle.std.specs.List.{list_all, list_any}
 use Rattle.std.proofs.lemmas.Bool.Decides.{nat_tests}
@@ -13,7 +13,7 @@ use Rattle.bg_openlist.specs.Distinct.{Distinct, Fresh}
 use Rattle.bg_openlist.specs.Family.{Family, IsFamily, empty_family, is_linked, list_at, place_of, value_in, without_node}
 use Rattle.bg_requestlists.specs.declared.request_lists.OpenRequest.{OpenRequest}
 use Rattle.bg_requestlists.specs.declared.request_lists.OwnList.{OwnList}
-use Rattle.bg_requestlists.specs.RequestLists.{OpenAt, HoldsLists, changed, has_request, is_empty_at, is_owned, request_at, requests_in, shown_at, without}
+use Rattle.bg_requestlists.specs.RequestLists.{OpenAt, OwnsLists, changed, has_request, is_empty_at, is_owned, request_at, requests_in, shown_at, without_seat}
 
 eq_refl : (n : ℕ) → (n == n) ≡ true
 eq_refl n = grind (arith, nat_tests)
@@ -21,18 +21,18 @@ eq_refl n = grind (arith, nat_tests)
 eq_from : (m n : ℕ) → (m == n) ≡ true → m ≡ n
 eq_from m n h = grind (arith, nat_tests)
 
--- a test that all pass, all that are kept pass
+-- if all elements pass a test, all kept ones pass it
 all_kept : {X : Type 0} (p k : X → Bool) (xs : List X) → list_all p xs ≡ true → list_all p (filter k xs) ≡ true
 all_kept p k xs h = list_all-from_AllPass p (filter k xs) (All-filter k (λ x. p x ≡ true) xs (AllPass-from_list_all p xs h))
 
 all_appended : {X : Type 0} (p : X → Bool) (xs : List X) (y : X) → list_all p xs ≡ true → p y ≡ true → list_all p (xs ++ y ∷ []) ≡ true
 all_appended p xs y h k = list_all-append p xs (y ∷ []) ∙ rw (h, k) refl
 
--- the linked lists that are the revisions' own
+-- the linked lists that revisions use
 abbrev pub owns : List OwnList → List ℕ
 owns owned = map (λ o. o.list) owned
 
--- what a map of lists that leaves the empty one empty makes of one of them
+-- one of the lists after a map that keeps the empty list empty
 get_or-map_none : {A : Type 0} (h : List A → List A) → h [] ≡ [] → (xs : List (List A)) (l : ℕ) → get_or (map h xs) l [] ≡ h (get_or xs l [])
 get_or-map_none h e [] l = sym e
 get_or-map_none h e (x ∷ xs) zero = refl
@@ -42,11 +42,11 @@ get_or-map_none h e (x ∷ xs) (suc l) = get_or-map_none h e xs l
 pub list_without : (f : Family ℕ) (new : Family ℕ) (node : ℕ) → new.lists ≡ map (without_node node) f.lists → (l : ℕ) → list_at new l ≡ without_node node (list_at f l)
 list_without f new node e l = ap (λ (ls : List (List (ℕ × ℕ))). get_or ls l []) e ∙ get_or-map_none (without_node node) refl f.lists l
 
--- the list to which a request was linked
+-- the list after a request was linked to it
 pub list_with : (f : Family ℕ) (new : Family ℕ) (l : ℕ) (xs : List (ℕ × ℕ)) → IsFamily f → l < 64 → new.lists ≡ set f.lists l xs → list_at new l ≡ xs
 list_with f new l xs ok low e = ap (λ (ls : List (List (ℕ × ℕ))). get_or ls l []) e ∙ get_or-set_same f.lists l xs [] (omega (arith, low, ok.count.0))
 
--- a test that one passes
+-- a test that one element passes
 any_cases : (a b : Bool) → (a || b) ≡ false → (a ≡ false) × (b ≡ false)
 any_cases true b h = absurd (cc)
 any_cases false b h = (refl, h)
@@ -62,7 +62,7 @@ any_append p (x ∷ xs) y h =
     let rest = any_append p xs y both.1 in
     (rw (both.0, rest.0) refl, rest.1)
 
--- a linked list that is no revision's own is none of theirs
+-- a linked list that no revision uses differs from those that revisions use
 pub fresh_by_unowned : (l : ℕ) (owned : List OwnList) → is_owned l owned ≡ false → Fresh l (owns owned)
 fresh_by_unowned l [] h = tt
 fresh_by_unowned l (o ∷ rest) h =
@@ -81,14 +81,14 @@ owns_end : (owned : List OwnList) (o : OwnList) → owns (owned ++ o ∷ []) ≡
 owns_end [] o = refl
 owns_end (x ∷ xs) o = ap (λ ls. x.list ∷ ls) (owns_end xs o)
 
--- a list of as many empty lists has no other
+-- a list of empty lists has only empty lists
 none_in_replicate : {A : Type 0} (n l : ℕ) → get_or (replicate {A = List A} n []) l [] ≡ []
 none_in_replicate zero l = refl
 none_in_replicate (suc n) zero = refl
 none_in_replicate (suc n) (suc l) = none_in_replicate n l
 
--- revision 1 alone has a linked list
-pub holds_first : (c : ℕ) (f : Family ℕ) → 64 ≤ c → f ≡ empty_family 8 → IsFamily f → HoldsLists (record { revision = 1; list = 0 } ∷ []) c f
+-- only revision 1 has a linked list
+pub holds_first : (c : ℕ) (f : Family ℕ) → 64 ≤ c → f ≡ empty_family 8 → IsFamily f → OwnsLists (record { revision = 1; list = 0 } ∷ []) c f
 holds_first c f room is ok = record {
   room = room;
   distinct = (tt, tt);
@@ -98,8 +98,8 @@ holds_first c f room is ok = record {
   nodes = ap (λ (g : Family ℕ). g.nodes) is;
 }
 
--- a revision got one that was no revision's own
-pub holds_added : (owned : List OwnList) (c d : ℕ) (f : Family ℕ) (o : OwnList) → HoldsLists owned c f → c ≤ d → o.list < 64 → is_owned o.list owned ≡ false → HoldsLists (owned ++ o ∷ []) d f
+-- a revision got a list that no revision used
+pub holds_added : (owned : List OwnList) (c d : ℕ) (f : Family ℕ) (o : OwnList) → OwnsLists owned c f → c ≤ d → o.list < 64 → is_owned o.list owned ≡ false → OwnsLists (owned ++ o ∷ []) d f
 holds_added owned c d f o held more low free = record {
   room = let room = held.room in omega arith;
   distinct = subst Distinct (sym (owns_end owned o)) (distinct_end (owns owned) o.list held.distinct (fresh_by_unowned o.list owned free));
@@ -113,7 +113,7 @@ pub shown_added : (owned : List OwnList) (f : Family ℕ) (o : OwnList) → list
 shown_added [] f o h = ap (λ (ps : List (ℕ × ℕ)). record { revision = o.revision; requests = map request_at ps } ∷ []) h
 shown_added (x ∷ xs) f o h = ap (λ ls. shown_at f x ∷ ls) (shown_added xs f o h)
 
--- the owner that is found
+-- the owner that the search finds
 pub found_is_owned : (r : ℕ) (owned : List OwnList) (o : OwnList) → find (λ x. x.revision == r) owned ≡ Some o → is_owned o.list owned ≡ true
 found_is_owned r [] o h = absurd (cc)
 found_is_owned r (x ∷ xs) o h = go (x.revision == r) h (found_is_owned r xs o) where
@@ -130,7 +130,7 @@ found_is_below r (x ∷ xs) o h k =
       go true e here rest = let low : nat_lt o.list 64 ≡ true = ap (λ (y : OwnList). nat_lt y.list 64) (sym (same_Some x o e)) ∙ here in grind (arith, nat_tests)
       go false e here rest = rest e
 
--- the list that callers see of a revision is that of its owner
+-- the list that callers see of a revision is the list of its owner
 pub find_shown : (f : Family ℕ) (r : ℕ) (owned : List OwnList) → find (λ l. l.revision == r) (map (shown_at f) owned) ≡ option_map (shown_at f) (find (λ o. o.revision == r) owned)
 find_shown f r [] = refl
 find_shown f r (x ∷ xs) = go (x.revision == r) (find_shown f r xs) where
@@ -152,7 +152,7 @@ pub none_shown : (f : Family ℕ) (o : Option OwnList) → option_map (λ (x : O
 none_shown f None h = refl
 none_shown f (Some x) h = absurd (cc)
 
--- what was found in a slice of the owners was found in the owners
+-- an owner found in a slice of the owners is found in the owners
 pub owner_now : (r : ℕ) (seen owned : List OwnList) (x : Option ℕ) → seen ≡ owned → option_map (λ (o : OwnList). o.list) (find (λ (o : OwnList). o.revision == r) seen) ≡ x
     → option_map (λ (o : OwnList). o.list) (find (λ (o : OwnList). o.revision == r) owned) ≡ x
 owner_now r seen owned x is h = ap (λ (os : List OwnList). option_map (λ (o : OwnList). o.list) (find (λ (o : OwnList). o.revision == r) os)) (sym is) ∙ h
@@ -174,7 +174,7 @@ owner_found r l owned h = go (find (λ o. o.revision == r) owned) refl h where
   go None e k = absurd (cc)
   go (Some x) e k = record { own = x; found = e; list_is = same_Some x.list l k }
 
--- the request at a node is one that callers see
+-- callers see the request at a node
 seen_in : (seat : ℕ) (ps : List (ℕ × ℕ)) (x : ℕ) → value_in ps seat ≡ Some x → list_any (λ q. q.seat == seat) (map request_at ps) ≡ true
 seen_in seat [] x h = absurd (cc)
 seen_in seat (p ∷ ps) x h = go (p.0 == seat) h (seen_in seat ps x) where
@@ -182,7 +182,7 @@ seen_in seat (p ∷ ps) x h = go (p.0 == seat) h (seen_in seat ps x) where
   go true e rest = refl
   go false e rest = rest e
 
--- one that callers see stands at a node
+-- a request that callers see is at a node
 in_seen : (seat : ℕ) (ps : List (ℕ × ℕ)) → list_any (λ q. q.seat == seat) (map request_at ps) ≡ true → (x : ℕ) × (value_in ps seat ≡ Some x)
 in_seen seat [] h = absurd (cc)
 in_seen seat (p ∷ ps) h = go (p.0 == seat) h (in_seen seat ps) where
@@ -203,8 +203,8 @@ seen_shown f seat l x (o ∷ rest) h k = go (o.list == l) refl h (λ e. seen_sho
       rw here refl
   go false e h tail = any_rest (list_any (λ q. q.seat == seat) requests) (has_request seat (map (shown_at f) rest)) (tail h)
 
--- the node of a seat that has no request is free
-pub free_node : (owned : List OwnList) (c : ℕ) (f : Family ℕ) (seat : ℕ) → HoldsLists owned c f → has_request seat (map (shown_at f) owned) ≡ false → is_linked f seat ≡ false
+-- the node of a seat without a request is free
+pub free_node : (owned : List OwnList) (c : ℕ) (f : Family ℕ) (seat : ℕ) → OwnsLists owned c f → has_request seat (map (shown_at f) owned) ≡ false → is_linked f seat ≡ false
 free_node owned c f seat held free = go (place_of f seat) refl where
   there : (l x : ℕ) → value_in (list_at f l) seat ≡ Some x → (b : Bool) → is_owned l owned ≡ b → is_linked f seat ≡ false
   there l x at true e = absurd (let seen : has_request seat (map (shown_at f) owned) ≡ true = seen_shown f seat l x owned e at in cc)
@@ -214,7 +214,7 @@ free_node owned c f seat held free = go (place_of f seat) refl where
   go None e = ap is_some e
   go (Some p) e = there p.0 p.1 (held.family.held p.0 seat p.1 e).2 (is_owned p.0 owned) refl
 
--- that of a seat that has one is linked
+-- the node of a seat with a request is linked
 pub linked_node : (owned : List OwnList) (f : Family ℕ) (seat : ℕ) → IsFamily f → has_request seat (map (shown_at f) owned) ≡ true → is_linked f seat ≡ true
 linked_node [] f seat ok h = absurd (cc)
 linked_node (o ∷ rest) f seat ok h = go (list_any (λ q. q.seat == seat) requests) refl h (linked_node rest f seat ok) where
@@ -225,7 +225,7 @@ linked_node (o ∷ rest) f seat ok h = go (list_any (λ q. q.seat == seat) reque
   go true e h tail = let at = in_seen seat (list_at f o.list) e in ap is_some (ok.found o.list seat at.0 at.1)
   go false e h tail = tail h
 
--- the lists after a revision's was dropped
+-- the lists after the list of a revision was dropped
 pub shown_kept : (f : Family ℕ) (r : ℕ) (owned : List OwnList) → map (shown_at f) (filter (λ (o : OwnList). not (o.revision == r)) owned) ≡ filter (λ (l : OpenAt). not (l.revision == r)) (map (shown_at f) owned)
 shown_kept f r [] = refl
 shown_kept f r (o ∷ rest) = go (not (o.revision == r)) (shown_kept f r rest) where
@@ -255,7 +255,7 @@ no_requests : (ps : List (ℕ × ℕ)) → (length (map request_at ps) == 0) ≡
 no_requests [] h = refl
 no_requests (p ∷ ps) h = absurd (let some : (suc (length (map request_at ps)) == 0) ≡ true = h in grind (arith, nat_tests))
 
--- a linked list that was a dropped revision's own is empty
+-- the linked list of a dropped revision is empty
 dropped_is_empty : (f : Family ℕ) (r l : ℕ) (owned : List OwnList) → is_owned l owned ≡ true → is_owned l (filter (λ (o : OwnList). not (o.revision == r)) owned) ≡ false
     → is_empty_at r (map (shown_at f) owned) ≡ true → list_at f l ≡ []
 dropped_is_empty f r l [] h free none = absurd (cc)
@@ -272,8 +272,8 @@ dropped_is_empty f r l (o ∷ rest) h free none =
       go false true e h free here tail = tail h free
       go false false e h free here tail = tail h (any_cases (o.list == l) (is_owned l kept) free).1
 
-pub holds_dropped : (owned : List OwnList) (c d : ℕ) (f : Family ℕ) (r : ℕ) → HoldsLists owned c f → c ≤ d → is_empty_at r (map (shown_at f) owned) ≡ true
-    → HoldsLists (filter (λ (o : OwnList). not (o.revision == r)) owned) d f
+pub holds_dropped : (owned : List OwnList) (c d : ℕ) (f : Family ℕ) (r : ℕ) → OwnsLists owned c f → c ≤ d → is_empty_at r (map (shown_at f) owned) ≡ true
+    → OwnsLists (filter (λ (o : OwnList). not (o.revision == r)) owned) d f
 holds_dropped owned c d f r held more none = record {
   room = let room = held.room in omega arith;
   distinct = distinct_kept (λ (o : OwnList). not (o.revision == r)) owned held.distinct;
@@ -323,8 +323,8 @@ shown_changed f new r (x ∷ xs) o p distinct h here same = go (x.revision == r)
       ap (λ (ps : List (ℕ × ℕ)). record { revision = x.revision; requests = map request_at ps } ∷ map (shown_at new) xs) (same x.list (λ e. found_apart r x.list xs o distinct.0 k (sym e)))
       ∙ ap (λ ls. shown_at f x ∷ ls) (rest k)
 
-pub holds_linked : (owned : List OwnList) (c : ℕ) (f new : Family ℕ) (l : ℕ) → HoldsLists owned c f → is_owned l owned ≡ true → ((k : ℕ) → k ≢ l → list_at new k ≡ list_at f k)
-    → new.nodes ≡ f.nodes → IsFamily new → HoldsLists owned c new
+pub holds_linked : (owned : List OwnList) (c : ℕ) (f new : Family ℕ) (l : ℕ) → OwnsLists owned c f → is_owned l owned ≡ true → ((k : ℕ) → k ≢ l → list_at new k ≡ list_at f k)
+    → new.nodes ≡ f.nodes → IsFamily new → OwnsLists owned c new
 holds_linked owned c f new l held mine same nodes ok = record {
   room = held.room;
   distinct = held.distinct;
@@ -343,14 +343,14 @@ requests_without seat (p ∷ ps) = go (not (p.0 == seat)) (requests_without seat
   go true h = ap (λ qs. request_at p ∷ qs) h
   go false h = h
 
-pub shown_without : (f new : Family ℕ) (seat : ℕ) (owned : List OwnList) → ((l : ℕ) → list_at new l ≡ without_node seat (list_at f l)) → map (shown_at new) owned ≡ without seat (map (shown_at f) owned)
+pub shown_without : (f new : Family ℕ) (seat : ℕ) (owned : List OwnList) → ((l : ℕ) → list_at new l ≡ without_node seat (list_at f l)) → map (shown_at new) owned ≡ without_seat seat (map (shown_at f) owned)
 shown_without f new seat [] left = refl
 shown_without f new seat (o ∷ rest) left =
     ap (λ qs. record { revision = o.revision; requests = qs } ∷ map (shown_at new) rest) (ap (map request_at) (left o.list) ∙ requests_without seat (list_at f o.list))
     ∙ ap (λ ls. record { revision = o.revision; requests = filter (λ q. not (q.seat == seat)) (map request_at (list_at f o.list)) } ∷ ls) (shown_without f new seat rest left)
 
-pub holds_unlinked : (owned : List OwnList) (c : ℕ) (f new : Family ℕ) (seat : ℕ) → HoldsLists owned c f → ((l : ℕ) → list_at new l ≡ without_node seat (list_at f l))
-    → new.nodes ≡ f.nodes → IsFamily new → HoldsLists owned c new
+pub holds_unlinked : (owned : List OwnList) (c : ℕ) (f new : Family ℕ) (seat : ℕ) → OwnsLists owned c f → ((l : ℕ) → list_at new l ≡ without_node seat (list_at f l))
+    → new.nodes ≡ f.nodes → IsFamily new → OwnsLists owned c new
 holds_unlinked owned c f new seat held left nodes ok = record {
   room = held.room;
   distinct = held.distinct;
@@ -360,7 +360,7 @@ holds_unlinked owned c f new seat held left nodes ok = record {
   nodes = nodes ∙ held.nodes;
 }
 
--- where each of n linked lists is a revision's own, there are n revisions at least
+-- if revisions use each of n linked lists, there are at least n revisions
 fewer : (l : ℕ) (owned : List OwnList) → is_owned l owned ≡ true → length (filter (λ (o : OwnList). not (o.list == l)) owned) < length owned
 fewer l [] h = absurd (cc)
 fewer l (o ∷ rest) h = go (o.list == l) h (fewer l rest) where

@@ -1,35 +1,35 @@
 //! A list of open requests for each revision.
 ghost use Rattle.std.specs.Prelude.{◌≡◌, ◌<◌, ◌==◌, ◌++◌, ◌∷◌, [], false, true, length, not, filter, find, IfOk, IsSome, option_map};
-ghost use Rattle.bg_requestlists.specs.RequestLists.{changed, has_request, is_empty_at, is_owned, list_of, without};
+ghost use Rattle.bg_requestlists.specs.RequestLists.{changed, has_request, is_empty_at, is_owned, requests_of, without_seat};
 
 use bg_openlist::OpenLists;
 use bg_revisions::MOST_REVISIONS;
 use std::alloc::{AllocError, Global};
 use std::marker::Model;
 
-/// The most seats that requests can come from.
+/// The greatest number of seats.
 pub const MOST_SEATS: u32 = 8;
 
-/// A request that has entered and not left.
+/// A request that entered and hasn't left.
 #[derive(Clone, Copy, PartialEq, Eq, Debug, Drop)]
 pub struct OpenRequest {
-    /// The index of its seat, from 0.
+    /// The index of its seat, 0 to 7.
     pub seat: u32,
-    /// Its number, from 1.
+    /// Its number, at least 1.
     pub number: u64,
 }
 
-/// A revision, and which of the linked lists is its own.
+/// A revision, and the number of its linked list.
 #[derive(Clone, Copy, Drop)]
 struct OwnList {
     revision: u64,
     list: usize,
 }
 
-/// A list of open requests for each revision that was given one, in the order of giving.
+/// A list of open requests for each revision that has one, in the order in which the lists were added.
 ///
-/// The lists are linked by pointers. A request stands at the node of its seat's index, so that it
-/// leaves the middle of its list with no search and no memory.
+/// The lists are linked by pointers. A request is at the node of its seat's index, so removing it from the middle of
+/// its list needs no search and no allocation.
 #[derive(Drop)]
 pub struct RequestLists {
     owned: Vec<OwnList>,
@@ -38,18 +38,18 @@ pub struct RequestLists {
 
 impl Model for RequestLists {
     ghost use Rattle.std.specs.Prelude.{List, map, vec_capacity};
-    ghost use Rattle.bg_requestlists.specs.RequestLists.{OpenAt, HoldsLists, shown_at};
+    ghost use Rattle.bg_requestlists.specs.RequestLists.{OpenAt, OwnsLists, shown_at};
 
     ghost Value = { List OpenAt };
 
     ghost view = { λ l. map (shown_at l.linked) l.owned.items };
 
-    ghost invariant = { λ l. HoldsLists l.owned.items (vec_capacity l.owned) l.linked };
+    ghost invariant = { λ l. OwnsLists l.owned.items (vec_capacity l.owned) l.linked };
 }
 
 impl RequestLists {
-    /// The list of revision 1 alone, without requests, room for as many as there can be revisions,
-    /// and a node for each seat that there can be; refused only where memory is.
+    /// Makes the list of revision 1 alone, without requests, with room for the greatest number of revisions and a node
+    /// for each possible seat. The only error is an allocation failure.
     pub fn new(alloc: Global) -> Result<RequestLists, AllocError>
         ensures { IfOk result (λ l. l ≡ record { revision = 1; requests = [] } ∷ []) }
     {
@@ -62,7 +62,7 @@ impl RequestLists {
         Ok(RequestLists { owned, linked })
     }
 
-    /// Adds a list without requests at the end, for a revision that has none yet; it takes no memory.
+    /// Appends a list without requests, for a revision that has no list yet. The call allocates nothing.
     pub fn add(&mut self, revision: u64)
         requires { length self.old < 64 }
         ensures { self.new ≡ self.old ++ record { revision = revision; requests = [] } ∷ [] }
@@ -71,9 +71,9 @@ impl RequestLists {
         self.owned.push_reserved(OwnList { revision, list });
     }
 
-    /// How many requests are open at a revision; 0 where it has no list.
+    /// The number of open requests at a revision; 0 if it has no list.
     pub fn count(&self, revision: u64) -> usize
-        ensures { result ≡ length (list_of revision self.now) }
+        ensures { result ≡ length (requests_of revision self.now) }
     {
         match own_list(&self.owned, revision) {
             Some(list) => self.linked.len(list),
@@ -81,7 +81,8 @@ impl RequestLists {
         }
     }
 
-    /// Puts a request of a seat that has none at the end of its revision's list. It takes no memory.
+    /// Appends a request to its revision's list. The request's seat has no request in any list. The call allocates
+    /// nothing.
     pub fn append(&mut self, revision: u64, request: OpenRequest)
         requires revision { IsSome (find (λ l. l.revision == revision) self.old) }
         requires seat { request.seat < 8 }
@@ -94,16 +95,15 @@ impl RequestLists {
         self.linked.link(list, node, request.number);
     }
 
-    /// Takes the request of a seat out of its list, by its node alone.
-    pub fn take(&mut self, seat: u32)
+    /// Removes the request of a seat from its list. It needs no search: the seat's index is the node.
+    pub fn remove(&mut self, seat: u32)
         requires { has_request seat self.old ≡ true }
-        ensures { self.new ≡ without seat self.old }
+        ensures { self.new ≡ without_seat seat self.old }
     {
         self.linked.unlink(seat as usize);
     }
 
-    /// Drops the list of a revision that has no request. The linked list that was its own may serve
-    /// a new revision.
+    /// Drops the list of a revision that has no request. A new revision can then use its linked list.
     pub fn drop_list(&mut self, revision: u64)
         requires { is_empty_at revision self.old ≡ true }
         ensures { self.new ≡ filter (λ l. not (l.revision == revision)) self.old }
@@ -112,7 +112,7 @@ impl RequestLists {
     }
 }
 
-/// The linked list that is a revision's own, if it has one.
+/// The linked list of a revision, if it has one.
 fn own_list(owned: &[OwnList], revision: u64) -> Option<usize>
     ensures { result ≡ option_map (λ o. o.list) (find (λ o. o.revision == revision) owned.now) }
 {
@@ -120,7 +120,7 @@ fn own_list(owned: &[OwnList], revision: u64) -> Option<usize>
     Some(own.list)
 }
 
-/// A linked list that is no revision's own.
+/// A linked list that no revision uses.
 fn unowned(owned: &[OwnList]) -> usize
     requires { length owned.now < 64 }
     ensures below { result < 64 }
@@ -134,7 +134,7 @@ fn unowned(owned: &[OwnList]) -> usize
     unreachable!()
 }
 
-/// Whether a linked list is some revision's own.
+/// Whether a revision uses a linked list.
 fn has_owner(owned: &[OwnList], list: usize) -> bool
     ensures { result ≡ is_owned list owned.now }
 {

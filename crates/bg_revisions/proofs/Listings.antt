@@ -1,4 +1,4 @@
--- What holds of every roster is kept by each change.
+-- Each change keeps the invariant of a roster.
 use Rattle.std.proofs.Common.{◌≡◌, ◌<◌, ◌≤◌, ◌+◌, ℕ, Bool, true, false, cond, ◌==◌, List, [], ◌∷◌, ◌++◌, length, map, filter, None, refl, arith, ap, sym, ◌∙◌, length-append, take, drop}
 use Rattle.std.specs.Str.{bytes_eq}
 use Rattle.std.proofs.lemmas.Bool.Decides.{nat_tests}
@@ -7,7 +7,7 @@ use Rattle.std.proofs.lemmas.List.{length-map, take_all, drop_all, append-nil}
 use Rattle.bg_revisions.specs.declared.revision.Revision.{Revision}
 use Rattle.bg_revisions.specs.Rosters.{Listing, named, has_form, resized, reported, AscendsWithin, HasOwnNames, HasForms, IsRoster}
 
--- a change that leaves number, name and ports alone
+-- a change that keeps number, name and ports
 record Keeps (f : Revision → Revision) : Type 0 where
   number : (v : Revision) → (f v).number ≡ v.number
   name : (v : Revision) → (f v).name ≡ v.name
@@ -42,7 +42,7 @@ keep-when : (b : Bool) (v w : Revision) → w.number ≡ v.number → w.name ≡
 keep-when true v w number name ports = (number, name, ports)
 keep-when false v w number name ports = (refl, refl, refl)
 
--- a roster stays one where a revision wants another number of endpoints
+-- a roster is still one after a revision's wanted number of endpoints is set
 pub IsRoster-resized : (number n : ℕ) (r : Listing) → IsRoster r → IsRoster (record r { revisions = map (resized number n) r.revisions })
 IsRoster-resized number n r h = IsRoster-map (resized number n) r (record {
   number = λ v. (keep-when (v.number == number) v (record v { desired = n; available = cond (n == 0) 0 v.available }) refl refl refl).0;
@@ -50,7 +50,7 @@ IsRoster-resized number n r h = IsRoster-map (resized number n) r (record {
   ports = λ v. (keep-when (v.number == number) v (record v { desired = n; available = cond (n == 0) 0 v.available }) refl refl refl).2;
 }) h
 
--- a roster stays one where a revision reports
+-- a roster is still one after a report
 pub IsRoster-reported : (number n : ℕ) (r : Listing) → IsRoster r → IsRoster (record r { revisions = map (reported number n) r.revisions })
 IsRoster-reported number n r h = IsRoster-map (reported number n) r (record {
   number = λ v. (keep-when (v.number == number) v (record v { available = n }) refl refl refl).0;
@@ -91,7 +91,7 @@ few-filter : (p : Revision → Bool) (vs : List Revision) → length (filter p v
 few-filter p [] = omega arith
 few-filter p (v ∷ vs) = grind (arith, nat_tests, few-filter p vs)
 
--- a roster stays one where revisions are removed
+-- a roster is still one after revisions are removed
 pub IsRoster-filter : (p : Revision → Bool) (r : Listing) → IsRoster r → IsRoster (record r { revisions = filter p r.revisions })
 IsRoster-filter p r h = record {
   few = omega (arith, few-filter p r.revisions, h.few);
@@ -126,7 +126,7 @@ HasForms-push : (replicas : ℕ) (vs : List Revision) (v : Revision) → has_for
 HasForms-push replicas [] v here h = (here, tt)
 HasForms-push replicas (w ∷ vs) v here h = (h.0, HasForms-push replicas vs v here h.1)
 
--- a roster stays one where a revision of a new name is added
+-- a roster is still one after a revision with a new name is added
 pub IsRoster-push : (r : Listing) (v : Revision) → v.number ≡ r.last + 1 → named v.name r.revisions ≡ None → has_form r.replicas v.name v.ports ≡ true
     → length r.revisions < 64 → IsRoster r → IsRoster (record r { revisions = r.revisions ++ v ∷ []; last = v.number })
 IsRoster-push r v next is_new form room h = record {
@@ -136,7 +136,7 @@ IsRoster-push r v next is_new form room h = record {
   forms = HasForms-push r.replicas r.revisions v form h.forms;
 }
 
--- after a loop over a whole list, each element is changed
+-- after a loop over a whole list, each element has been changed
 pub map-whole : (f : Revision → Revision) (xs items : List Revision) (n : ℕ) → items ≡ map f (take n xs) ++ drop n xs → length xs ≤ n → items ≡ map f xs
 map-whole f xs items n done all = done ∙ ap (λ ys. map f ys ++ drop n xs) (take_all n xs all) ∙ ap (λ ys. map f xs ++ ys) (drop_all n xs all) ∙ append-nil (map f xs)
 

@@ -2,12 +2,12 @@
 use Rattle.std.specs.Prelude.{ℕ, Bool, true, not, ◌==◌, ◌&&◌, nat_le, List, [], ◌∷◌, length}
 use Rattle.std.specs.List.{list_all, list_any}
 
--- no number stands twice
+-- no number occurs twice
 abbrev pub are_distinct : List ℕ → Bool
 are_distinct [] = true
 are_distinct (x ∷ xs) = not (list_any (λ y. y == x) xs) && are_distinct xs
 
--- exactly as many distinct numbers from 1 to 65535 as a revision has endpoints
+-- exactly `replicas` distinct numbers from 1 to 65535
 abbrev pub are_ports : ℕ → List ℕ → Bool
 are_ports replicas ports =
     (length ports == replicas) && list_all (λ p. nat_le 1 p && nat_le p 65535) ports

@@ -1,4 +1,4 @@
--- The revisions that exist, by ascending number.
+-- The revisions that exist, in ascending order of their numbers.
 use Rattle.std.specs.Prelude.{◌≡◌, ◌≤◌, ◌<◌, ℕ, Bool, true, false, if◌then◌else◌, ◌==◌, ◌&&◌, nat_le, List, [], ◌∷◌, length, find, Option, Some, None, Result, Ok, Err}
 use Rattle.std.specs.Str.{bytes_eq}
 use Rattle.bg_strategy.specs.Label.{is_label}
@@ -7,7 +7,7 @@ use Rattle.bg_revisions.specs.declared.revision.Revision.{Revision}
 use Rattle.bg_revisions.specs.declared.revision_fault.RevisionFault.{RevisionFault}
 use Rattle.bg_revisions.specs.declared.revision_fault.RevisionFault.TheVariants.{BadName, BadPorts, SameTemplate, PortsDiffer, TooManyRevisions, NoSuchRevision, MoreThanDesired, OutOfMemory}
 
--- the endpoints of a revision at full size, the revisions, and the greatest number ever given
+-- the number of endpoints of a revision at full size, the revisions, and the greatest number ever given
 pub record Listing : Type 0 where
   pub replicas : ℕ
   pub revisions : List Revision
@@ -21,38 +21,39 @@ numbered number revisions = find (λ v. v.number == number) revisions
 abbrev pub named : List ℕ → List Revision → Option Revision
 named name revisions = find (λ v. bytes_eq v.name name) revisions
 
--- the name is a label and the ports are those of a revision
+-- the name is a label, and the ports are distinct, one for each replica
 abbrev pub has_form : ℕ → List ℕ → List ℕ → Bool
 has_form replicas name ports = is_label name && are_ports replicas ports
 
--- a name that is no label is refused first, then wrong ports
+-- the answer to a name and ports: `BadName` if the name is not a label; else `BadPorts` if the ports are wrong
 abbrev pub form_of : ℕ → List ℕ → List ℕ → Result (Unit {0}) RevisionFault
 form_of replicas name ports =
     if is_label name
     then (if are_ports replicas ports then Ok tt else Err BadPorts)
     else Err BadName
 
--- there is a revision, and it has this name and these ports
+-- there is a revision with this name and these ports
 abbrev pub has_template : List ℕ → List ℕ → Option Revision → Bool
 has_template name ports None = false
 has_template name ports (Some v) = bytes_eq v.name name && bytes_eq v.ports ports
 
--- the number of a revision with these ports, or none where there is no revision
+-- the number of the revision, or none if there is no revision; a fault if the revision has other ports
 abbrev pub owner_of : List ℕ → Option Revision → Result (Option ℕ) RevisionFault
 owner_of ports None = Ok None
 owner_of ports (Some v) = if bytes_eq v.ports ports then Ok (Some v.number) else Err PortsDiffer
 
--- the newest revision's template is refused first, then other ports under the name of a revision
+-- the answer to a template: a fault if it is the newest revision's; else the number of the revision of that name, a
+-- fault if that has other ports
 abbrev pub template_of : ℕ → List ℕ → List ℕ → List Revision → Result (Option ℕ) RevisionFault
 template_of newest name ports revisions =
     if has_template name ports (numbered newest revisions) then Err SameTemplate
     else owner_of ports (named name revisions)
 
--- why a revision isn't added
+-- the fault if a revision isn't added
 abbrev pub refused_by : List Revision → RevisionFault
 refused_by revisions = if nat_le 64 (length revisions) then TooManyRevisions else OutOfMemory
 
--- the revision of that number wants n endpoints; where it wants none, none is available
+-- the revision of that number then wants n endpoints; if n is 0, it has none available
 abbrev pub resized : ℕ → ℕ → Revision → Revision
 resized number n v =
     if v.number == number then record v {
@@ -61,11 +62,11 @@ resized number n v =
     }
     else v
 
--- the revision of that number has n endpoints available
+-- the revision of that number then has n endpoints available
 abbrev pub reported : ℕ → ℕ → Revision → Revision
 reported number n v = if v.number == number then record v { available = n } else v
 
--- a report of n endpoints is of a revision that wants as many
+-- the answer to a report of n endpoints: a fault if no revision has the number or if it wants fewer than n
 abbrev pub report_of : ℕ → Option Revision → Result (Unit {0}) RevisionFault
 report_of n None = Err NoSuchRevision
 report_of n (Some v) = if nat_le n v.desired then Ok tt else Err MoreThanDesired
@@ -75,17 +76,17 @@ abbrev pub AscendsWithin : ℕ → ℕ → List Revision → Type 0
 AscendsWithin low last [] = low ≤ last
 AscendsWithin low last (v ∷ more) = (low < v.number) × AscendsWithin v.number last more
 
--- no two revisions have one name
+-- no two revisions have the same name
 abbrev pub HasOwnNames : List Revision → Type 0
 HasOwnNames [] = Unit {0}
 HasOwnNames (v ∷ more) = (named v.name more ≡ None) × HasOwnNames more
 
--- each revision's name is a label, and each has the ports of a revision
+-- each revision's name and ports are well formed
 abbrev pub HasForms : ℕ → List Revision → Type 0
 HasForms replicas [] = Unit {0}
 HasForms replicas (v ∷ more) = (has_form replicas v.name v.ports ≡ true) × HasForms replicas more
 
--- what holds of every roster
+-- the invariant of a roster
 pub record IsRoster (r : Listing) : Type 0 where
   pub few : length r.revisions ≤ 64
   pub ascends : AscendsWithin 0 r.last r.revisions

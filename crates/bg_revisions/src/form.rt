@@ -3,7 +3,7 @@ ghost use Rattle.std.specs.Prelude.{◌≡◌, ◌&&◌, nat_le};
 ghost use Rattle.std.specs.List.{list_all};
 ghost use Rattle.bg_revisions.specs.PortLists.{are_ports, are_distinct as are_distinct_in};
 
-/// Whether there are exactly `replicas` ports, all distinct and none of them 0.
+/// Whether there are exactly `replicas` ports, all distinct and none 0.
 pub fn has_ports_form(replicas: u32, ports: &[u16]) -> bool
     ensures { result ≡ are_ports replicas ports.now }
 {

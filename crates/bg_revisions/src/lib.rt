@@ -1,4 +1,4 @@
-//! The revisions of a rollout, and which of them the services select.
+//! The revisions of a rollout, and the revisions that the services select.
 #![tactic(auto)]
 
 mod form;

@@ -4,7 +4,7 @@ ghost use Rattle.std.specs.Prelude.{◌≡◌, IfOk};
 use std::alloc::{AllocError, Global};
 use std::marker::Model;
 
-/// The name of a revision, which contracts see as the list of its bytes. It is one pointer wide.
+/// The name of a revision. Contracts see it as the list of its bytes. The value is one pointer wide.
 #[derive(Drop, Debug)]
 pub struct Name {
     text: Box<String>,
@@ -19,7 +19,7 @@ impl Model for Name {
 }
 
 impl Name {
-    /// Copies `text`; refused only where memory is.
+    /// Makes a name from a copy of `text`. The only error is an allocation failure.
     pub fn new(alloc: Global, text: &str) -> Result<Name, AllocError>
         ensures { IfOk result (λ n. n ≡ text.now) }
     {
@@ -29,7 +29,7 @@ impl Name {
         })
     }
 
-    /// The text.
+    /// The text of the name.
     pub fn get(&self) -> &str
         ensures { result.now ≡ self.now }
     {

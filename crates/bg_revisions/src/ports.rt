@@ -4,7 +4,8 @@ ghost use Rattle.std.specs.Prelude.{◌≡◌, IfOk};
 use std::alloc::{AllocError, Global};
 use std::marker::Model;
 
-/// The ports at which a revision's endpoints listen, in order, which contracts see as a list. They are one pointer wide.
+/// The ports at which a revision's endpoints listen, in order. Contracts see them as a list. The value is one
+/// pointer wide.
 #[derive(Drop, Debug)]
 pub struct Ports {
     numbers: Box<Vec<u16>>,
@@ -19,7 +20,7 @@ impl Model for Ports {
 }
 
 impl Ports {
-    /// Copies `numbers`; refused only where memory is.
+    /// Makes the ports from a copy of `numbers`. The only error is an allocation failure.
     pub fn new(alloc: Global, numbers: &[u16]) -> Result<Ports, AllocError>
         ensures { IfOk result (λ p. p ≡ numbers.now) }
     {
@@ -27,7 +28,7 @@ impl Ports {
         Ports::from_vec(alloc, copy)
     }
 
-    /// Takes `numbers` as they are, without a copy; refused only where memory is.
+    /// Makes the ports from `numbers` without a copy. The only error is an allocation failure.
     pub fn from_vec(alloc: Global, numbers: Vec<u16>) -> Result<Ports, AllocError>
         ensures { IfOk result (λ p. p ≡ numbers.items) }
     {

@@ -3,30 +3,30 @@
 use crate::name::Name;
 use crate::ports::Ports;
 
-/// A revision of the rollout: what Argo Rollouts keeps as a ReplicaSet.
+/// A revision of the rollout. Argo Rollouts keeps a ReplicaSet for each.
 #[derive(Drop, Debug)]
 pub struct Revision {
-    /// The number, from 1; it is never given twice.
+    /// The number, at least 1. No two revisions ever get the same number.
     pub number: u64,
     pub name: Name,
     /// One port for each endpoint at full size.
     pub ports: Ports,
-    /// The endpoints that are wanted; 0 where the revision is scaled down.
+    /// The number of endpoints that the revision wants; 0 if it is scaled down.
     pub desired: u32,
-    /// The endpoints that were last reported, at most what was wanted then.
+    /// The number of available endpoints by the last report. A report has at most the number wanted at that time.
     pub available: u32,
 }
 
-/// A service before the revisions.
+/// A service, which selects a revision.
 #[derive(Clone, Copy, PartialEq, Eq, Debug, Drop)]
 pub enum Service {
-    /// The service with the live traffic.
+    /// The service that carries live traffic.
     Active,
-    /// The service before which a new revision is tested.
+    /// The service that reaches a new revision for tests.
     Preview,
 }
 
-/// The numbers of the revisions that are selected.
+/// The revisions that the services select, with the stable and the newest revision.
 #[derive(Clone, Copy, PartialEq, Eq, Debug, Drop)]
 pub struct Selectors {
     /// The revision that the active service selects.

@@ -5,7 +5,7 @@ ghost use Rattle.bg_revisions.specs.declared.revision_fault.RevisionFault.TheVar
 use std::alloc::{AllocError, AllocFailed};
 use thiserror::Error;
 
-/// Why a deployed revision, or a report of one, is refused.
+/// The reason why a deploy or a report of availability is refused.
 #[derive(Clone, Copy, PartialEq, Eq, Debug, Drop, Error)]
 pub enum RevisionFault {
     #[error("a name is 1 to 63 lower-case letters, digits and hyphens, with no hyphen at its ends")]

@@ -15,7 +15,7 @@ use std::marker::Model;
 /// The most revisions that exist at one time.
 pub const MOST_REVISIONS: usize = 64;
 
-/// The revisions that exist, by ascending number, and the greatest number ever given.
+/// The revisions that exist, in ascending order of their numbers, and the greatest number ever given.
 #[derive(Drop)]
 pub struct Roster {
     alloc: Global,
@@ -43,8 +43,8 @@ impl Model for Roster {
 }
 
 impl Roster {
-    /// A roster with no revision, for revisions of `replicas` endpoints at full size; refused only
-    /// where memory is.
+    /// A roster with no revision, for revisions of `replicas` endpoints at full size. The only error is an
+    /// allocation failure.
     pub fn new(alloc: Global, replicas: u32) -> Result<Roster, AllocError>
         ensures { IfOk result (λ r. r ≡ record { replicas = replicas; revisions = []; last = 0 }) }
     {
@@ -56,8 +56,8 @@ impl Roster {
         })
     }
 
-    /// Whether a revision may have this name and these ports: `BadName` where the name is no DNS
-    /// label, then `BadPorts` where they aren't distinct numbers from 1, one for each replica.
+    /// Checks the form of a revision's name and ports. The error is `BadName` if the name is not a DNS label;
+    /// else `BadPorts` if the ports are not distinct numbers from 1, one for each replica.
     pub fn fits(&self, name: &str, ports: &[u16]) -> Result<(), RevisionFault>
         ensures { result ≡ form_of self.now.replicas name.now ports.now }
     {
@@ -70,9 +70,9 @@ impl Roster {
         Ok(())
     }
 
-    /// The number of the revision with this name and these ports, or none where the name is new.
-    /// `SameTemplate` where the revision numbered `newest` has both, then `PortsDiffer` where a
-    /// revision of this name has other ports; their order counts.
+    /// The number of the revision with this name and these ports; `None` if no revision has the name. The error
+    /// is `SameTemplate` if the revision numbered `newest` has both; else `PortsDiffer` if the revision of this
+    /// name has other ports or has them in another order.
     pub fn find_template(
         &self,
         newest: u64,
@@ -93,8 +93,9 @@ impl Roster {
         }
     }
 
-    /// Adds a revision that wants `desired` endpoints and has none available, and answers its
-    /// number, one above all numbers ever given. `TooManyRevisions` where 64 exist.
+    /// Adds a revision that wants `desired` endpoints and has none available. Gives its number, which is one above
+    /// the greatest number ever given. The error is `TooManyRevisions` if 64 revisions exist; else `OutOfMemory` if an
+    /// allocation fails. An error changes nothing.
     pub fn add(&mut self, name: &str, ports: &[u16], desired: u32) -> Result<u64, RevisionFault>
         requires fits { has_form self.old.replicas name.now ports.now ≡ true }
         requires is_new { IsNone (named name.now self.old.revisions) }
@@ -131,7 +132,7 @@ impl Roster {
         Ok(number)
     }
 
-    /// The greatest number ever given, at first 0.
+    /// The greatest number ever given; 0 before the first.
     pub fn last(&self) -> u64
         ensures { result ≡ self.now.last }
     {
@@ -168,21 +169,21 @@ impl Roster {
         self.revisions.len()
     }
 
-    /// The revision at a place, from 0, in the order of numbers.
+    /// The revision at a place, in ascending order of the numbers; the first place is 0.
     pub fn at(&self, place: usize) -> Option<&Revision>
         ensures { option_copied result ≡ slice_get self.now.revisions place }
     {
         self.revisions.get(place)
     }
 
-    /// All revisions, in the order of numbers.
+    /// All revisions, in ascending order of their numbers.
     pub fn as_slice(&self) -> &[Revision]
         ensures { result.now ≡ self.now.revisions }
     {
         &self.revisions
     }
 
-    /// Sets how many endpoints a revision wants; where it wants none, none is available.
+    /// Sets how many endpoints a revision wants. If `desired` is 0, sets its available endpoints to 0, too.
     pub fn set_desired(&mut self, number: u64, desired: u32)
         requires { IsSome (numbered number self.old.revisions) }
         ensures { self.new ≡ record self.old {
@@ -194,8 +195,8 @@ impl Roster {
         }
     }
 
-    /// Takes in a report of how many endpoints of a revision are available. `NoSuchRevision` where
-    /// none has this number, then `MoreThanDesired` where it wants fewer.
+    /// Sets how many endpoints of a revision are available, as reported. The error is `NoSuchRevision` if no
+    /// revision has this number; else `MoreThanDesired` if the revision wants fewer. An error changes nothing.
     pub fn set_available(&mut self, number: u64, available: u32) -> Result<(), RevisionFault>
         ensures result { result ≡ report_of available (numbered number self.old.revisions) }
         ensures reported { OnOk result
@@ -217,7 +218,7 @@ impl Roster {
         Ok(())
     }
 
-    /// Removes a revision, which wants no endpoint. Its number isn't given again.
+    /// Removes a revision that wants no endpoint. No later revision gets its number.
     pub fn remove(&mut self, number: u64)
         requires { IsSomeAnd (numbered number self.old.revisions) (λ v. v.desired ≡ 0) }
         ensures { self.new ≡ record self.old
@@ -227,7 +228,7 @@ impl Roster {
     }
 }
 
-/// Sets how many endpoints the revision wants, where it has this number.
+/// Sets how many endpoints the revision wants, if it has this number.
 fn resize(revision: &mut Revision, number: u64, desired: u32)
     ensures { revision.new ≡ resized number desired revision.old }
 {
@@ -239,7 +240,7 @@ fn resize(revision: &mut Revision, number: u64, desired: u32)
     }
 }
 
-/// Sets how many endpoints of the revision are available, where it has this number.
+/// Sets how many endpoints of the revision are available, if it has this number.
 fn report(revision: &mut Revision, number: u64, available: u32)
     ensures { revision.new ≡ reported number available revision.old }
 {

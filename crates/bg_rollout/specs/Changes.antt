@@ -1,4 +1,4 @@
--- What a call makes of a book.
+-- The book after a call.
 use Rattle.std.specs.Prelude.{◌≡◌, ℕ, List, ◌<◌, ◌∷◌, [], length, slice_get, Some, replicate}
 use Rattle.bg_rollout.specs.declared.limits.Limits.{Limits}
 use Rattle.bg_strategy.specs.declared.strategy.Strategy.{Strategy}
@@ -10,24 +10,23 @@ use Rattle.bg_history.specs.declared.entry.Outcome.{Outcome}
 use Rattle.bg_history.specs.Steps.{Step}
 use Rattle.bg_rollout.specs.declared.ticket.Ticket.{Ticket}
 use Rattle.bg_ledger.specs.declared.holding.Holding.{Holding}
-use Rattle.bg_ledger.specs.Holdings.{fresh, occupied}
+use Rattle.bg_ledger.specs.Holdings.{fresh, after_enter}
 use Rattle.bg_rollout.specs.PastState.{lists_of}
 use Rattle.bg_rollout.specs.Routing.{Routing}
 use Rattle.bg_rollout.specs.State.{state_of}
 
--- the past became the new one by this event and as many outcomes, each the first that was allowed,
--- until none was
+-- the new past is the past with this event and n outcomes; each was the first allowed one, and then none was allowed
 pub record Stepped (s : Strategy) (e : Entry) (past new : List Entry) (n : ℕ) : Type 0 where
   pub outcomes : List Outcome
   pub step : Step s e past outcomes new
   pub count_is : length outcomes ≡ n
 
--- as many seats, in order of index, each without a call
+-- `count` seats in order of index, each without a call
 pub record NewSeats (count : ℕ) (seats : List Holding) : Type 0 where
   pub count_is : length seats ≡ count
   pub each : (i : ℕ) → i < count → slice_get seats i ≡ Some (fresh i)
 
--- the roster of an opening: revision 1 alone, of full size
+-- the roster of an opening: revision 1 alone, which wants its full size
 abbrev pub first_listing : ℕ → List ℕ → List ℕ → Listing
 first_listing replicas name ports = record {
   replicas = replicas;
@@ -50,8 +49,8 @@ opened s name ports count limits seats = record {
       (replicate count 0) [];
 }
 
--- the book with another past: its lists and the state that runs are those that this asks for, and
--- these are the records of its seats
+-- the book with another past: its lists and its running state are those of this past, and these are the records of
+-- its seats
 abbrev pub with_past : Routing → List Entry → List Holding → Routing
 with_past b past seats = record b {
   past = past;
@@ -62,7 +61,7 @@ with_past b past seats = record b {
 
 -- a seat after a request with this ticket entered
 abbrev pub seat_in : Holding → Ticket → Holding
-seat_in seat t = occupied seat t.number t.revision t.port
+seat_in seat t = after_enter seat t.number t.revision t.port
 
 -- the entry of a request that enters at a seat
 abbrev pub enter_entry : ℕ → Service → Ticket → Entry

@@ -1,12 +1,11 @@
 -- A rollout whose history is compacted.
 use Rattle.bg_history.specs.Compacted.{compacted, closed_after}
 use Rattle.bg_rollout.specs.Routing.{Routing}
-use Rattle.bg_rollout.specs.Invariant.{Midway}
+use Rattle.bg_rollout.specs.Invariant.{RolloutModel}
 
--- the routing with its history compacted: the dropped requests are counted for their seats, and all
--- else stays
+-- the routing with its history compacted: the dropped requests are counted for their seats, and the rest is unchanged
 abbrev pub with_compacted : Routing → Routing
 with_compacted b = record b { closed = closed_after b.past b.closed; past = compacted b.past }
 
-abbrev pub midway_compacted : Midway → Midway
+abbrev pub midway_compacted : RolloutModel → RolloutModel
 midway_compacted r = record r { routing = with_compacted r.routing }

@@ -1,4 +1,4 @@
--- The faults of the crates below as faults of an event.
+-- The faults of the crates that bg_rollout uses, as faults of an event.
 use Rattle.bg_revisions.specs.declared.revision_fault.RevisionFault as revision
 use Rattle.bg_revisions.specs.declared.revision_fault.RevisionFault.TheVariants as revision_fault
 use Rattle.bg_promotion.specs.declared.faults.AbortFault as abort

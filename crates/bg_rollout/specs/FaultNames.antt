@@ -1,4 +1,4 @@
--- How the faults of a book's calls are called.
+-- The names of the faults of a book's calls.
 use Rattle.std.specs.Prelude.{ℕ, List, codes}
 use Rattle.bg_rollout.specs.declared.fault.OpenFault.{OpenFault}
 use Rattle.bg_rollout.specs.declared.fault.OpenFault.TheVariants as open_fault
@@ -15,7 +15,7 @@ open_fault_name open_fault.BadSeats = codes "BadSeats"
 open_fault_name open_fault.BadLimits = codes "BadLimits"
 open_fault_name open_fault.OutOfMemory = codes "OutOfMemory"
 
--- the name of a fault of a request that would enter
+-- the name of a fault of an entering request
 abbrev pub enter_fault_name : EnterFault → List ℕ
 enter_fault_name enter_fault.NoPreview = codes "NoPreview"
 enter_fault_name enter_fault.NoEndpoints = codes "NoEndpoints"

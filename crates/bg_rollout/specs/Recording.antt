@@ -1,16 +1,16 @@
--- How an entry is recorded that no seat makes.
+-- Recording an entry that comes from no seat.
 use Rattle.std.specs.Prelude.{◌≡◌, ◌+◌, Bool, true, false, ◌∷◌}
 use Rattle.bg_history.specs.declared.entry.Entry.{Entry}
 use Rattle.bg_history.specs.declared.entry.Entry.TheVariants.{Verdict, Promote, PromoteFull, Abort}
 use Rattle.bg_rollout.specs.Changes.{with_past}
-use Rattle.bg_rollout.specs.Invariant.{Midway}
+use Rattle.bg_rollout.specs.Invariant.{RolloutModel}
 
--- an entry was recorded that no seat makes: it stands in front of the past, and took a place
-pub record Recorded (e : Entry) (old new : Midway) : Type 0 where
+-- an entry that comes from no seat was recorded: it is the newest of the past, and it took one reserved place
+pub record Recorded (e : Entry) (old new : RolloutModel) : Type 0 where
   pub routing : new.routing ≡ with_past old.routing (e ∷ old.routing.past) old.routing.seats
   pub spare : new.spare + 1 ≡ old.spare
 
--- the entry is a command of promotion that sizes no revision
+-- the entry is a promotion command that changes no revision's size
 abbrev pub is_command : Entry → Bool
 is_command (Verdict analysis result) = true
 is_command Promote = true

@@ -1,4 +1,4 @@
--- Which call is refused, by which fault: the first that applies, want of memory aside.
+-- The fault of each call: the first that applies, other than an allocation failure.
 use Rattle.std.specs.Prelude.{◌≡◌, ℕ, ◌+◌, ◌*◌, ◌^◌, ◌==◌, ◌⊎◌, Bool, ◌&&◌, ◌||◌, not, if◌then◌else◌, nat_lt, nat_le, List, length, Option, Some, None, is_none, unwrap_or, Result, Ok, Err}
 use Rattle.std.specs.Option.{option_or}
 use Rattle.bg_strategy.specs.declared.strategy.Strategy.{Strategy}
@@ -29,11 +29,11 @@ use Rattle.bg_rollout.specs.declared.control_fault.ControlFault.TheVariants as c
 use Rattle.bg_rollout.specs.ControlFaults.{of_revision, of_verdict, of_promote, of_promote_full, of_abort, of_retry}
 use Rattle.bg_rollout.specs.Routing.{Routing}
 
--- the fault where the test holds, else the next one
+-- the fault if the test holds, else the next one
 abbrev pub fault_if : {F : Type 0} → Bool → F → Option F → Option F
 fault_if test fault next = if test then Some fault else next
 
--- the answer of a test: refused by the fault, where there is one
+-- an optional fault as a result: an error if there is a fault
 abbrev pub refuse : {F : Type 0} → Option F → Result (Unit {0}) F
 refuse None = Ok tt
 refuse (Some e) = Err e
@@ -46,7 +46,7 @@ usual_limits = record { entries = 1000000; numbers = 2 ^ 53 }
 abbrev pub is_above_usual : Limits → Bool
 is_above_usual l = nat_lt usual_limits.entries l.entries || nat_lt usual_limits.numbers l.numbers
 
--- why no book is opened
+-- the fault of an opening, if it has one
 abbrev pub open_refusal : Strategy → List ℕ → List ℕ → ℕ → Limits → Option opening.OpenFault
 open_refusal s name ports seats limits =
     fault_if (not (is_label name)) open_fault.BadName
@@ -58,11 +58,11 @@ open_refusal s name ports seats limits =
 abbrev pub all_open : List Entry → ℕ
 all_open past = length (open_requests past)
 
--- an entry more, and three places for each open request with the new one, are more than the limit
+-- the past with one more entry, and three entries for each open request and for the new one, would exceed the limit
 abbrev pub is_full_for_enter : Limits → List Entry → Bool
 is_full_for_enter l past = nat_lt l.entries (length past + 1 + 3 * (all_open past + 1))
 
--- 141 entries more, and three places for each open request, are more than the limit
+-- the past with 141 more entries, and three entries for each open request, would exceed the limit
 abbrev pub is_full_for_control : Limits → List Entry → Bool
 is_full_for_control l past = nat_lt l.entries (length past + 141 + 3 * all_open past)
 
@@ -73,16 +73,16 @@ enter_refusal_at b (Some r) =
     (fault_if (nat_le b.limits.numbers (given b.closed b.past)) enter_fault.NumbersSpent
     (fault_if (is_full_for_enter b.limits b.past) enter_fault.HistoryFull None))
 
--- why a request doesn't enter at a service
+-- the fault of a request that enters at a service, if it has one
 abbrev pub enter_refusal : Routing → Service → Option enter.EnterFault
 enter_refusal b service = enter_refusal_at b (selection b.strategy service b.past)
 
--- the number that a deploy of this name gets: that of the revision that has it, else one above all
--- that were given
+-- the number that a deploy of this name gets: that of the revision of this name, else one above the greatest number
+-- given
 abbrev pub deployed_number : Routing → List ℕ → ℕ
 deployed_number b name = unwrap_or (owner b.opening name b.past) (last_number b.past + 1)
 
--- the event that a control is
+-- the entry of a control
 abbrev pub event_of : Routing → Control → Entry
 event_of b (Tick m) = event.Tick m
 event_of b (Deploy name ports) = event.Deploy (deployed_number b name) name ports
@@ -93,7 +93,7 @@ event_of b PromoteFull = event.PromoteFull
 event_of b Abort = event.Abort
 event_of b Retry = event.Retry
 
--- the fault of an answer, as one of an event
+-- the fault in a result as a fault of an event
 abbrev pub fault_in
     : {A F : Type 0} → (F → control.ControlFault) → Result A F → Option control.ControlFault
 fault_in told (Ok a) = None
@@ -104,7 +104,7 @@ abbrev pub has_no_place : Routing → List ℕ → Bool
 has_no_place b name =
     is_none (owner b.opening name b.past) && nat_le 64 (length (existing b.past))
 
--- the fault of a deploy: of its form, then of its template, then of the count of revisions
+-- the fault of a deploy: of its form; else of its template; else of the number of revisions
 abbrev pub deploy_fault : Routing → List ℕ → List ℕ → Option control.ControlFault
 deploy_fault b name ports =
     option_or (fault_in of_revision (form_of b.strategy.replicas name ports))
@@ -128,23 +128,23 @@ event_fault b PromoteFull = fault_in of_promote_full (promote_full_answer b.past
 event_fault b Abort = fault_in of_abort (abort_answer b.past)
 event_fault b Retry = fault_in of_retry (retry_answer b.past)
 
--- why an event is refused
+-- the fault of an event, if it has one
 abbrev pub control_refusal : Routing → Control → Option control.ControlFault
 control_refusal b c =
     option_or (event_fault b c)
     (fault_if (is_full_for_control b.limits b.past) control_fault.HistoryFull None)
 
--- refused by the refusal, or for want of memory where there is none
+-- e is the fault, or an allocation failure if there is no fault
 abbrev pub IsRefusedBy : {F : Type 0} → Option F → F → F → Type 0
 IsRefusedBy refusal out_of_memory e = (refusal ≡ Some e) ⊎ ((refusal ≡ None) × (e ≡ out_of_memory))
 
--- an answer by a refusal: accepted only where there is none
+-- the result follows the fault: it is `Ok` only if there is none
 abbrev pub AnswersBy : {A F : Type 0} → Option F → F → Result A F → Type 0
 AnswersBy refusal out_of_memory (Ok a) = refusal ≡ None
 AnswersBy refusal out_of_memory (Err e) = IsRefusedBy refusal out_of_memory e
 
--- the ticket of a request that enters at a service: the next number, the selected revision, and its
--- port in turn
+-- the ticket of a request that enters at a service: the next number, the selected revision, and one of that
+-- revision's ports in turn
 pub record IsTicket (b : Routing) (service : Service) (t : Ticket) : Type 0 where
   pub number_is : t.number ≡ given b.closed b.past + 1
   pub revision_is : selection b.strategy service b.past ≡ Some t.revision

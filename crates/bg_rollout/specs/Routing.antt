@@ -8,8 +8,8 @@ use Rattle.bg_ledger.specs.declared.holding.Holding.{Holding}
 use Rattle.bg_requestlists.specs.RequestLists.{OpenAt}
 use Rattle.bg_rollout.specs.State.{State}
 
--- the settings, the history (opening, closed requests of each seat, entries newest first), the list
--- of each existing revision, the book's record of each seat, and the state that runs
+-- the settings, the history (opening, closed requests of each seat, entries newest first), the list of open requests
+-- of each existing revision, the book's record of each seat, and the running state
 pub record Routing : Type 0 where
   pub strategy : Strategy
   pub limits : Limits

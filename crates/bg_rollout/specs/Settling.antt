@@ -1,4 +1,4 @@
--- How a past becomes another by the outcomes that it allows.
+-- The past after the outcomes that it allows.
 use Rattle.std.specs.Prelude.{◌≡◌, ℕ, Bool, not, ◌&&◌, ◌==◌, List, length}
 use Rattle.bg_revisions.specs.declared.revision.Revision.{Revision}
 use Rattle.bg_revisions.specs.declared.revision.Selectors.{Selectors}
@@ -7,7 +7,7 @@ use Rattle.bg_history.specs.Steps.{Follows, with_outcomes}
 use Rattle.bg_rollout.specs.Changes.{with_past}
 use Rattle.bg_rollout.specs.Routing.{Routing}
 
--- the routing was reached by so many outcomes, each the first that was allowed where it stands
+-- the routing was reached by n outcomes; each was the first allowed one at its place
 pub record Reached (from now : Routing) (n : ℕ) : Type 0 where
   pub outcomes : List Outcome
   pub count_is : length outcomes ≡ n

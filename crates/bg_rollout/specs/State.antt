@@ -1,4 +1,4 @@
--- The state of a rollout: what its past asks for.
+-- The state of a rollout that its past gives.
 use Rattle.std.specs.Prelude.{ℕ, zero, suc, ◌+◌, ◌==◌, List, [], ◌∷◌, map, length, find, slice_get, Option, Some, None}
 use Rattle.bg_strategy.specs.declared.strategy.Strategy.{Strategy}
 use Rattle.bg_revisions.specs.declared.revision.Revision.{Revision}
@@ -17,15 +17,14 @@ use Rattle.bg_ledger.specs.declared.holding.Holding.{Holding}
 use Rattle.bg_requestlists.specs.declared.request_lists.OpenRequest.{OpenRequest}
 use Rattle.bg_rollout.specs.PastState.{requests_at, seat_of}
 
--- an existing revision: its number, template and sizes, the moment from which it may be scaled
--- down, and its open requests
+-- an existing revision: its number, template and sizes, its deadline, and its open requests
 pub record RevisionState : Type 0 where
   pub revision : Revision
   pub deadline : Option ℕ
   pub requests : List OpenRequest
 
--- the moment, the phase, the four selections, the existing revisions in order of number, and of
--- each seat its calls and the request in hand; the phase is none while a step of an attempt is next
+-- the moment, the phase, the selectors, the existing revisions in ascending order of their numbers, and each seat's
+-- calls and request; the phase is none while a step of an attempt is next
 pub record State : Type 0 where
   pub moment : ℕ
   pub phase : Option Phase
@@ -33,8 +32,8 @@ pub record State : Type 0 where
   pub revisions : List RevisionState
   pub seats : List Holding
 
--- revision r; its deadline is read from the table of the past, which says the same as the past
--- (`table_tells_deadlines` of bg_scaledown)
+-- revision r; its deadline comes from the table of the past, which agrees with the past (`table_tells_deadlines` of
+-- bg_scaledown)
 abbrev pub revision_state : Strategy → Opening → List Entry → ℕ → RevisionState
 revision_state s o past r = record {
   revision = revision_of s o past r;
@@ -42,7 +41,7 @@ revision_state s o past r = record {
   requests = requests_at r past;
 }
 
--- as many seats, from this index on
+-- what n seats have, from index i on
 abbrev pub seats_from : List ℕ → List Entry → ℕ → ℕ → List Holding
 seats_from closed past i zero = []
 seats_from closed past i (suc n) = seat_of closed i past ∷ seats_from closed past (i + 1) n
@@ -57,8 +56,8 @@ state_of s o closed past = record {
   seats = seats_from closed past 0 o.seats;
 }
 
--- what a state says of its revisions to who asks by a place or by a number: one that isn't there has
--- no deadline and no open request
+-- the readers of a state's revisions, by place or by number; a revision that doesn't exist has no deadline and no
+-- open request
 abbrev pub revision_at : State → ℕ → Option Revision
 revision_at t place = slice_get (map (λ v. v.revision) t.revisions) place
 

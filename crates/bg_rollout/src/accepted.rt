@@ -1,27 +1,27 @@
-//! An event that isn't refused.
+//! An event that has no fault.
 
 use bg_history::Entry;
 use bg_promotion::Core;
 use bg_revisions::{Name, Ports};
 
-/// An event that isn't refused, with what was found of it: how it is recorded.
+/// An event that has no fault, with what the check found: how to record it.
 #[derive(Drop)]
 pub enum Accepted<'a> {
-    /// The moment is this, in seconds from the start.
+    /// The moment becomes this, in seconds from the start.
     Tick(u64),
-    /// A template is deployed: the revision that has the name, or a new one where none has.
+    /// A template is deployed: `owner` is the revision that has the name; `None` means a new revision.
     Deploy {
         owner: Option<u64>,
         name: &'a Name,
         ports: &'a Ports,
     },
-    /// A revision has this many endpoints.
+    /// A revision has this many available endpoints.
     Available {
         revision: u64,
         size: u32,
     },
-    /// A command of promotion that sizes no revision: its entry, and the core after it.
+    /// A promotion command that changes no revision's size: its entry, and the core after it.
     Command(Entry, Core),
-    /// An attempt of the newest revision begins again, after which this is the core.
+    /// A new attempt of the newest revision begins: the core after it.
     Retry(Core),
 }

@@ -1,19 +1,19 @@
-//! The events that no seat makes.
+//! The events that come from no seat.
 
 use bg_history::{Analysis, AnalysisResult};
 use bg_revisions::{Name, Ports};
 
-/// An event that no seat makes (Argo Rollouts, "BlueGreen Deployment Strategy").
+/// An event that comes from no seat (Argo Rollouts, "BlueGreen Deployment Strategy").
 #[derive(Debug, Drop)]
 pub enum Control {
-    /// The moment is this, in seconds from the start.
+    /// The moment becomes this, in seconds from the start.
     Tick(u64),
-    /// A template is deployed: the revision of this name, or a new one, with these ports.
+    /// A template is deployed: the existing revision of this name, or a new one, with these ports.
     Deploy {
         name: Name,
         ports: Ports,
     },
-    /// A revision has this many endpoints.
+    /// A revision has this many available endpoints.
     Available {
         revision: u64,
         size: u32,
@@ -23,12 +23,12 @@ pub enum Control {
         analysis: Analysis,
         result: AnalysisResult,
     },
-    /// The pause of the attempt ends.
+    /// An operator ends the pause of the attempt.
     Promote,
-    /// The analyses and pauses of the attempt are skipped.
+    /// An operator skips the analyses and pauses of the attempt.
     PromoteFull,
-    /// The attempt stops: the active service goes back to the stable revision.
+    /// An operator aborts the attempt: the active service goes back to the stable revision.
     Abort,
-    /// An attempt of the newest revision begins again.
+    /// An operator begins a new attempt of the newest revision.
     Retry,
 }

@@ -1,4 +1,4 @@
-//! Why an event is refused.
+//! The errors of an event.
 ghost use Rattle.std.specs.Prelude.{◌≡◌};
 ghost use Rattle.bg_rollout.specs.FaultNames.{control_fault_name};
 ghost use Rattle.bg_rollout.specs.ControlFaults.{of_abort, of_promote, of_promote_full, of_retry};
@@ -10,8 +10,8 @@ use bg_revisions::RevisionFault;
 use std::alloc::AllocError;
 use thiserror::Error;
 
-/// Why an event is refused. Those of one event stand in the order in which they are looked for; then
-/// come `HistoryFull` and `OutOfMemory`.
+/// The reason why an event is refused. The faults of one event stand in the order in which they are checked;
+/// `HistoryFull` and `OutOfMemory` come last.
 #[derive(Clone, Copy, PartialEq, Eq, Debug, Drop, Error)]
 pub enum ControlFault {
     #[error("a moment is at most 2^53 seconds")]
@@ -55,7 +55,7 @@ pub enum ControlFault {
 }
 
 impl ControlFault {
-    /// The name of the fault: that of its variant.
+    /// The name of the variant.
     pub fn name(&self) -> &'static str
         ensures { result.now ≡ control_fault_name self.now }
     {

@@ -1,9 +1,9 @@
-//! Why a call of a book is refused.
+//! The errors of the calls of a book.
 
 use std::alloc::AllocError;
 use thiserror::Error;
 
-/// Why no book is opened, in the order in which the faults are looked for.
+/// The reason why a book isn't opened. The faults stand in the order in which they are checked.
 #[derive(Clone, Copy, PartialEq, Eq, Debug, Drop, Error)]
 pub enum OpenFault {
     #[error("a name is 1 to 63 lower-case letters, digits and hyphens, with no hyphen at its ends")]
@@ -22,7 +22,7 @@ impl OpenFault {
     ghost use Rattle.std.specs.Prelude.{◌≡◌};
     ghost use Rattle.bg_rollout.specs.FaultNames.{open_fault_name};
 
-    /// The name of the fault: that of its variant.
+    /// The name of the variant.
     pub fn name(&self) -> &'static str
         ensures { result.now ≡ open_fault_name self.now }
     {
@@ -36,7 +36,7 @@ impl OpenFault {
     }
 }
 
-/// Why a request doesn't enter, in the order in which the faults are looked for.
+/// The reason why a request doesn't enter. The faults stand in the order in which they are checked.
 #[derive(Clone, Copy, PartialEq, Eq, Debug, Drop, Error)]
 pub enum EnterFault {
     #[error("no preview service is set")]
@@ -55,7 +55,7 @@ impl EnterFault {
     ghost use Rattle.std.specs.Prelude.{◌≡◌};
     ghost use Rattle.bg_rollout.specs.FaultNames.{enter_fault_name};
 
-    /// The name of the fault: that of its variant.
+    /// The name of the variant.
     pub fn name(&self) -> &'static str
         ensures { result.now ≡ enter_fault_name self.now }
     {
@@ -69,12 +69,12 @@ impl EnterFault {
     }
 }
 
-/// Why the seats of a book are not gathered, in the order in which the faults are looked for.
+/// The reason why the seats of a book aren't gathered. The faults stand in the order in which they are checked.
 #[derive(Clone, Copy, PartialEq, Eq, Debug, Drop, Error)]
 pub enum GatherFault {
     #[error("these are not exactly the seats of the book, in order of index")]
     WrongSeats,
-    /// The seat of this index has a request in hand, and none before it has.
+    /// The seat of this index is the first that holds a request.
     #[error("seat {0} has a request in hand")]
     StillIn(u32),
 }

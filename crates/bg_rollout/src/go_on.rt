@@ -1,10 +1,10 @@
-//! What becomes of a request whose revision drains.
+//! Whether a request goes on while its revision drains.
 
-/// Whether a request that is forwarded goes on.
+/// Whether a forwarded request goes on.
 #[derive(Clone, Copy, PartialEq, Eq, Debug, Drop)]
 pub enum GoOn {
-    /// It does.
+    /// The request goes on.
     Keep,
-    /// It is given up: its revision drains, and the limit for that is over.
+    /// The request has to end: its revision drains, and the drain limit is over.
     Cut,
 }

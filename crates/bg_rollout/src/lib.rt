@@ -1,8 +1,8 @@
-//! One rollout: how its events are judged, recorded and settled.
+//! One rollout: checking, recording and settling its events.
 //!
-//! A [`Rollout`] has what runs, and the history that it runs by. What it keeps running is what that history says
-//! (`specs/`), also in the middle of a call, while outcomes are still to come. Who calls it sees to it that nothing
-//! allowed is left undone and that there is room for each request to leave: the routing book above it.
+//! A [`Rollout`] has the running state and the history. The running state is what the history says (`specs/`), also
+//! in the middle of a call, while outcomes are still to come. The caller, which is the routing book, makes sure that
+//! no allowed outcome is left undone and that the history has room for each request to leave.
 #![tactic(auto)]
 
 mod accepted;

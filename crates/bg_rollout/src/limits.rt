@@ -1,15 +1,15 @@
-//! How much a rollout takes.
+//! The limits of a rollout.
 ghost use Rattle.std.specs.Prelude.{◌≡◌};
 ghost use Rattle.bg_rollout.specs.Refusals.{usual_limits};
 
-/// The places that are kept in a history for each open request: one for its leaving, and two for the
+/// The number of entries that a history reserves for each open request: one for its Leave, and two for the
 /// outcomes after it.
 pub const PLACES_OF_A_REQUEST: u64 = 3;
 
-/// The most entries that an event makes: its own, and 140 outcomes.
+/// The greatest number of entries that an event makes: its own and 140 outcomes.
 pub const MOST_ENTRIES: u64 = 141;
 
-/// The most entries that a history may have, and the most requests that may be given a number.
+/// The greatest number of entries in a history, and the greatest number of requests that get a number.
 #[derive(Clone, Copy, PartialEq, Eq, Debug, Drop)]
 pub struct Limits {
     /// At most 1,000,000.
@@ -19,7 +19,7 @@ pub struct Limits {
 }
 
 impl Limits {
-    /// 1,000,000 entries and 2^53 numbers, above which no book is opened.
+    /// The usual limits: 1,000,000 entries and 2^53 numbers. A book with greater limits can't be opened.
     pub fn usual() -> Limits
         ensures { result ≡ usual_limits }
     {

@@ -1,35 +1,40 @@
-//! The rollout.
-ghost use Rattle.std.specs.Prelude.{◌≡◌, ◌≤◌, ◌*◌, OnOk, OnErr};
+//! The rollout, and the readers of its state.
+ghost use Rattle.std.specs.Prelude.{◌≡◌, ◌≤◌, ◌*◌, OnOk, OnErr, length, Some, IsTrue, ◌+◌};
 ghost use Rattle.bg_rollout.specs.Refusals.{all_open};
-ghost use Rattle.bg_rollout.specs.Invariant.{RoutingStands};
+ghost use Rattle.bg_rollout.specs.Invariant.{RoutingInvariant};
+ghost use Rattle.bg_history.specs.Turns.{moment as moment_of};
+ghost use Rattle.bg_history.specs.Sizes.{existing};
+ghost use Rattle.bg_history.specs.Requests.{open_at};
+ghost use Rattle.bg_history.specs.Deadlines.{deadline, is_reached};
+ghost use Rattle.bg_history.specs.Selections.{selectors_of};
+ghost use Rattle.bg_history.specs.Steps.{is_settled};
+ghost use Rattle.bg_history_laws.specs.Listed.{revisions_of};
+ghost use Rattle.bg_promotion.specs.Phases.{phase_of};
+ghost use Rattle.bg_rollout.specs.PastState.{drain_end, is_draining as is_draining_in, is_past_limit};
+ghost use Rattle.bg_rollout.specs.Compaction.{midway_compacted};
 
-mod compacting;
-mod entering;
-mod gathering;
-mod judging;
-mod leaving;
-mod meeting;
-mod opening;
-mod readers;
-mod recording;
+mod events;
+mod lifecycle;
+mod requests;
 mod settling;
 
 use crate::limits::{Limits, PLACES_OF_A_REQUEST};
 use bg_history::History;
+use bg_history_laws as laws;
 use bg_ledger::{Names, SeatRecord};
-use bg_promotion::Core;
+use bg_promotion::{Core, Phase};
 use bg_requestlists::RequestLists;
-use bg_revisions::Roster;
+use bg_revisions::{Revision, Roster, Selectors};
 use bg_scaledown::Deadlines;
 use bg_strategy::Strategy;
 use std::alloc::AllocError;
 use std::marker::Model;
 
-/// A rollout, which may stand in the middle of a call: what runs is what its history says, but outcomes may still be
-/// to come.
+/// A rollout, possibly in the middle of a call: its running state is what its history says, but outcomes may still
+/// be to come.
 ///
-/// Contracts see its routing, and the places that are reserved in the history. `N` names the ledgers that tie its
-/// records to the seats.
+/// Contracts see its routing, and the number of places that are reserved in the history. `N` names the ledgers that
+/// tie its records to the seats.
 #[derive(Drop)]
 pub struct Rollout<N: Names> {
     strategy: Strategy,
@@ -43,27 +48,27 @@ pub struct Rollout<N: Names> {
     history: History,
     /// The moment.
     moment: u64,
-    /// The greatest number that a request was given.
+    /// The greatest number given to a request.
     given: u64,
-    /// The open requests of all revisions.
+    /// The number of open requests of all revisions.
     open: u64,
 }
 
 impl<N: Names> Model for Rollout<N> {
-    ghost use Rattle.bg_rollout.specs.Invariant.{Midway};
+    ghost use Rattle.bg_rollout.specs.Invariant.{RolloutModel};
 
-    ghost Value = { Midway };
+    ghost Value = { RolloutModel };
 
-    ghost use Rattle.bg_rollout.specs.Invariant.{midway_of, running_of, Stands};
+    ghost use Rattle.bg_rollout.specs.Invariant.{model_of, parts_of, PartsRepresent};
 
-    ghost view = { midway_of };
+    ghost view = { model_of };
 
-    ghost invariant = { λ r. Stands (midway_of r).routing (running_of r) };
+    ghost invariant = { λ r. PartsRepresent (model_of r).routing (parts_of r) };
 }
 
 impl<N: Names> Rollout<N> {
-    /// Reserves places in the history, `count` at least; refused only where memory is, and then
-    /// nothing changes.
+    /// Reserves at least `count` places in the history. The only error is an allocation failure, and it changes
+    /// nothing.
     pub fn reserve(&mut self, count: u64) -> Result<(), AllocError>
         requires { count ≤ 2000000 }
         ensures routing { self.new.routing ≡ self.old.routing }
@@ -74,7 +79,7 @@ impl<N: Names> Rollout<N> {
         Ok(())
     }
 
-    /// The places that are kept in the history for the open requests.
+    /// The number of places that the history reserves for the open requests.
     pub fn places_kept(&self) -> u64
         requires { all_open self.now.routing.past ≤ 1000000 }
         ensures { result ≡ 3 * all_open self.now.routing.past }
@@ -82,11 +87,118 @@ impl<N: Names> Rollout<N> {
         PLACES_OF_A_REQUEST * self.open
     }
 
-    /// What holds of every rollout, by what contracts see of it.
-    pub fn stands(&self)
-        ensures { RoutingStands self.now.routing }
+    /// Proves the invariant of a rollout in terms of its routing.
+    pub fn holds_invariant(&self)
+        ensures { RoutingInvariant self.now.routing }
     {
-        // The invariant of the type is known once a field is looked at.
+        // Reading a field makes the invariant of the type known.
         let _ = &self.strategy;
+    }
+
+    /// The moment, in seconds from the start.
+    pub fn moment(&self) -> u64
+        ensures { result ≡ moment_of self.now.routing.past }
+    {
+        self.moment
+    }
+
+    /// The phase of the rollout. While an allowed outcome is left undone, the history may have no phase.
+    pub fn phase(&self) -> Phase
+        ensures { let b = self.now.routing in IsTrue (is_settled b.strategy b.past)
+            → phase_of b.strategy b.past ≡ Some result }
+    {
+        self.core.phase()
+    }
+
+    /// The numbers of the active, preview, stable and newest revisions.
+    pub fn selectors(&self) -> Selectors
+        ensures { result ≡ selectors_of self.now.routing.past }
+    {
+        self.core.selectors()
+    }
+
+    /// The strategy that the rollout was opened with.
+    pub fn strategy(&self) -> &Strategy
+        ensures { result.now ≡ self.now.routing.strategy }
+    {
+        &self.strategy
+    }
+
+    /// The revisions that exist, in ascending order of their numbers.
+    pub fn revisions(&self) -> &[Revision]
+        ensures revisions { let b = self.now.routing in
+            result.now ≡ revisions_of b.strategy b.opening b.past }
+        ensures count { length result.now ≡ length (existing self.now.routing.past) }
+    {
+        laws::finds();
+        self.roster.as_slice()
+    }
+
+    /// The deadline of the revision of this number, if it has one: the moment from which it may be scaled down, in
+    /// seconds from the start.
+    pub fn deadline_of(&self, number: u64) -> Option<u64>
+        ensures { result ≡ deadline self.now.routing.strategy number self.now.routing.past }
+    {
+        self.deadlines.deadline(number)
+    }
+
+    /// How many requests are open at the revision of this number; 0 if no such revision exists.
+    pub fn open_count(&self, number: u64) -> usize
+        ensures { result ≡ length (open_at number self.now.routing.past) }
+    {
+        laws::reachable();
+        self.lists.count(number)
+    }
+
+    /// Whether the revision of this number drains: only its open requests keep it from being scaled down.
+    pub fn is_draining(&self, number: u64) -> bool
+        ensures { let b = self.now.routing in
+            result ≡ is_draining_in b.strategy number b.past }
+    {
+        laws::reachable();
+        let exempt = self.core.selectors();
+        self.deadlines.is_due(number, self.moment, exempt) && !self.is_empty_at(number)
+    }
+
+    /// Whether the drain limit of the revision of this number is over: the revision drains, and the strategy's
+    /// `drainLimitSeconds` have passed since its deadline.
+    pub fn past_limit(&self, number: u64) -> bool
+        ensures { let b = self.now.routing in
+            result ≡ is_past_limit b.strategy number b.past }
+    {
+        let limit = self.strategy.drain_limit;
+        self.is_draining(number) && has_passed(self.deadline_of(number), limit, self.moment)
+    }
+
+    /// The history since the opening.
+    pub fn history(&self) -> &History
+        ensures opening { result.now.opening ≡ self.now.routing.opening }
+        ensures closed { result.now.closed ≡ self.now.routing.closed }
+        ensures past { result.now.past ≡ self.now.routing.past }
+    {
+        &self.history
+    }
+
+    /// Compacts the history: drops the entries of each closed request, counts the request for its seat, and drops each
+    /// tick that another tick directly follows. Gives the number of dropped entries. The call allocates nothing.
+    pub fn compact(&mut self) -> u64
+        ensures new { self.new ≡ midway_compacted self.old }
+        ensures dropped { result + length self.new.routing.past
+            ≡ length self.old.routing.past }
+    {
+        laws::compacts();
+        laws::keeps_table();
+        laws::is_sound();
+        self.history.compact()
+    }
+}
+
+/// Whether there are a deadline and a limit, and `limit` seconds have passed since the deadline.
+fn has_passed(deadline: Option<u64>, limit: Option<u32>, now: u64) -> bool
+    ensures { result ≡ is_reached (drain_end deadline limit) now }
+{
+    match (deadline, limit) {
+        (Some(deadline), Some(limit)) => deadline <= now && limit as u64 <= now - deadline,
+        _ => false,
     }
 }

@@ -16,14 +16,14 @@ use Rattle.bg_scaledown.specs.Events.{takes_up, supersedes_newest, goes_back, wi
 use Rattle.bg_scaledown.specs.Past.{stamps_of, marks_of}
 use Rattle.bg_scaledown.proofs.PastTables.{marked, marks_without-twice, marks_without-again, marks_without-same, thrice, thrice-first, thrice-last, thrice-kinds, marks-step}
 
--- what a deploy of r is for q, where `x` was selected before it, by whether the newest one was scaled
+-- the effect of a deploy of r on q, with the selectors x before it, depending on whether the newest one was scaled
 abbrev kind : ℕ → Selectors → Bool → ℕ → Option MarkKind
 kind r x scaled q =
     cond ((x.active == q) && (r == x.stable) && not (r == q)) (Some Left)
     (cond ((x.newest == q) && not (x.active == q) && not (x.stable == q) && scaled) (Some Superseded)
     (cond ((r == q) && (not (x.stable == q) || not (x.active == q))) (Some Cleared) None))
 
--- that is its kind by the past, where q is the newest one or another
+-- this is the kind of mark by the past, for q the newest one or another one
 kind-is_kind : (s : Strategy) (r q : ℕ) (name ports : List ℕ) (past : List Entry)
     → kind_of s q (Deploy r name ports) past ≡ kind r (selectors_of past) (is_scaled s (newest_of past) past) q
 kind-is_kind s r q name ports past = elim (eqb_tells (newest_of past) q) [
@@ -31,33 +31,33 @@ kind-is_kind s r q name ports past = elim (eqb_tells (newest_of past) q) [
   | inr h ↦ rw h.0 (grind (arith, nat_tests))
 ]
 
--- the active revision leaves where the deploy goes back to the stable one
+-- if the deploy goes back to the stable revision, the active one leaves
 kind-left : (r : ℕ) (x : Selectors) (b : Bool) → goes_back r x ≡ true → kind r x b x.active ≡ Some Left
 kind-left r x b back = grind (arith, nat_tests)
 
--- the newest one is superseded where the deploy takes its place
+-- if the deploy takes the place of the newest revision, that one is superseded
 kind-superseded : (r : ℕ) (x : Selectors) (b : Bool) → supersedes_newest x b ≡ true → kind r x b x.newest ≡ Some Superseded
 kind-superseded r x b replaces = grind (arith, nat_tests)
 
--- the deployed one is cleared where the deploy takes it up, and else stays as it is
+-- the deploy clears the deployed revision if it takes it up, and doesn't change it otherwise
 kind-cleared : (r : ℕ) (x : Selectors) (b : Bool) → takes_up r x ≡ true → (supersedes_newest x b && (x.newest == r)) ≡ false → kind r x b r ≡ Some Cleared
 kind-cleared r x b takes other = grind (arith, nat_tests)
 
 kind-none : (r : ℕ) (x : Selectors) (b : Bool) → takes_up r x ≡ false → kind r x b r ≡ None
 kind-none r x b keeps = grind (arith, nat_tests)
 
--- another active or newest one stays as it is
+-- another active or newest revision isn't changed
 kind-active_none : (r : ℕ) (x : Selectors) (b : Bool) → goes_back r x ≡ false → (takes_up r x && (x.active == r)) ≡ false → kind r x b x.active ≡ None
 kind-active_none r x b stays other = grind (arith, nat_tests)
 
 kind-newest_none : (r : ℕ) (x : Selectors) (b : Bool) → (x.newest == x.active) ≡ false → supersedes_newest x b ≡ false → (x.newest == r) ≡ false → kind r x b x.newest ≡ None
 kind-newest_none r x b other keeps new = grind (arith, nat_tests)
 
--- the active one is cleared where it is the deployed one
+-- the active revision is cleared if it is the deployed one
 kind-active_cleared : (r : ℕ) (x : Selectors) (b : Bool) → takes_up r x ≡ true → (x.active == r) ≡ true → kind r x b x.active ≡ Some Cleared
 kind-active_cleared r x b takes active = grind (arith, nat_tests)
 
--- the call for the deployed revision clears it, where it isn't superseded
+-- the call for the deployed revision clears it, unless it is superseded
 marked-cleared : (s : Strategy) (r : ℕ) (x : Selectors) (b : Bool) (at : ℕ) (marks : List RevisionMark) → (supersedes_newest x b && (x.newest == r)) ≡ false
     → marked s (kind r x b r) r at marks ≡ cleared r x marks
 marked-cleared s r x b at marks other = go (takes_up r x) refl where
@@ -65,7 +65,7 @@ marked-cleared s r x b at marks other = go (takes_up r x) refl where
   go true takes = rw (kind-cleared r x b takes other) refl
   go false keeps = rw (kind-none r x b keeps) refl
 
--- what is dropped before another one is superseded needs no second drop
+-- a mark that is dropped before another one is superseded needs no second drop
 again-superseded : (a n r at : ℕ) (marks : List RevisionMark) → r ≡ a → (n == r) ≡ false → marks_without a (with_superseded n at (marks_without r marks)) ≡ with_superseded n at (marks_without r marks)
 again-superseded a n r at marks is other =
     ap (λ q. marks_without q (with_superseded n at (marks_without r marks))) (sym is)
@@ -92,7 +92,7 @@ marked-replaced s r x b at marks = go (goes_back r x) (takes_up r x && (x.active
       rw (kind-active_cleared r x b takes (grind (arith, nat_tests))) (without-replaced r x b at marks takes (grind (arith, nat_tests)))
   go false false stays is = rw (kind-active_none r x b stays is) refl
 
--- the call for the newest revision, where it is superseded
+-- the call for the newest revision if it is superseded
 marked-newest : (s : Strategy) (r : ℕ) (x : Selectors) (b : Bool) (at : ℕ) (marks : List RevisionMark) → supersedes_newest x b ≡ true → (x.newest == r) ≡ false
     → marked s (kind r x b x.newest) x.newest at (marked s (kind r x b r) r at marks) ≡ replaced r x b at marks
 marked-newest s r x b at marks replaces other =
@@ -101,7 +101,7 @@ marked-newest s r x b at marks replaces other =
     ∙ ap (with_superseded x.newest at) (marked-cleared s r x b at marks other_too)
     ∙ rw replaces refl
 
--- and is the one that is deployed
+-- the newest revision is the deployed one
 marked-redeployed : (s : Strategy) (r : ℕ) (x : Selectors) (b : Bool) (at : ℕ) (marks : List RevisionMark) → supersedes_newest x b ≡ true → x.newest ≡ r
     → marked s (kind r x b r) r at marks ≡ replaced r x b at marks
 marked-redeployed s r x b at marks replaces is =
@@ -112,11 +112,11 @@ marked-redeployed s r x b at marks replaces is =
     ∙ ap (λ q. with_superseded q at (marks_without r marks)) (sym is)
     ∙ rw (replaces, takes) refl
 
--- where it isn't superseded
+-- the call for the newest revision if it isn't superseded
 marked-kept : (s : Strategy) (r : ℕ) (x : Selectors) (b : Bool) (at : ℕ) (marks : List RevisionMark) → supersedes_newest x b ≡ false → marked s (kind r x b r) r at marks ≡ replaced r x b at marks
 marked-kept s r x b at marks keeps = marked-cleared s r x b at marks (rw keeps refl) ∙ rw keeps refl
 
--- before the last call the others have made these marks
+-- before the last call, the other calls made these marks
 thrice-replaced : (s : Strategy) (r : ℕ) (x : Selectors) (b : Bool) (at : ℕ) (marks : List RevisionMark)
     → thrice s (kind r x b) x.active x.newest r at marks ≡ marked s (kind r x b x.active) x.active at (replaced r x b at marks)
 thrice-replaced s r x b at marks = elim (eqb_tells x.newest x.active) [

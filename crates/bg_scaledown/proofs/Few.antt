@@ -1,4 +1,4 @@
--- How many marks the table of a past has.
+-- The number of marks in the table of a past.
 use Rattle.std.proofs.Common.{◌≡◌, ◌<◌, ◌≤◌, ◌+◌, ℕ, Bool, true, false, ◌==◌, List, [], ◌∷◌, ◌++◌, length, Option, Some, None, is_some, is_none, not, refl, arith, ap, ◌∙◌, inl, inr}
 use Rattle.std.specs.Option.{option_map}
 use Rattle.std.proofs.lemmas.Bool.Decides.{nat_tests, eqb_tells}
@@ -15,7 +15,7 @@ use Rattle.bg_history.specs.Deadlines.{deadline, exists_in}
 use Rattle.bg_scaledown.specs.declared.mark.RevisionMark.{RevisionMark}
 use Rattle.bg_scaledown.specs.Due.{mark_of, one_if, has_room_for}
 use Rattle.bg_scaledown.specs.Events.{replaces_newest, goes_back, only_if, marked_by_halt, may_mark}
-use Rattle.bg_scaledown.specs.Past.{Stamp, stamps_of, marks_of, table_of, DeadlinesStand}
+use Rattle.bg_scaledown.specs.Past.{Stamp, stamps_of, marks_of, table_of, DeadlinesInvariant}
 use Rattle.bg_scaledown.proofs.Counts.{member, Distinct, is_false, ascends-distinct, length-within}
 use Rattle.bg_scaledown.proofs.Once.{revisions, stamps-distinct}
 use Rattle.bg_scaledown.proofs.PastRanks.{stamped-deadline}
@@ -33,34 +33,34 @@ unstamped s q past unmarked = is_false (member q (revisions (stamps_of s past)))
     let marked : is_some (deadline s q past) ≡ true = stamped-deadline s q past h in
     absurd (cc))
 
--- one more number that exists, in front of those that do
+-- one more existing number, in front of the existing ones
 exist-more : (q x : ℕ) (xs ys : List ℕ) → member x ys ≡ true → (member q xs ≡ true → member q ys ≡ true) → member q (x ∷ xs) ≡ true → member q ys ≡ true
 exist-more q x xs ys here rest h = elim (eqb_tells x q) [
   | inl e ↦ rw (← e.1) here
   | inr e ↦ rest (rw e.0 at h)
 ]
 
--- with the active revision those that are marked are different ones that exist
-few-marks : (s : Strategy) (past : List Entry) → DeadlinesStand s past → Ascends (existing past)
+-- the marked revisions and the active one are different existing revisions
+few-marks : (s : Strategy) (past : List Entry) → DeadlinesInvariant s past → Ascends (existing past)
     → exists_in (active_of past) past ≡ true → is_some (deadline s (active_of past) past) ≡ false
     → length (existing past) ≤ 64 → length (table_of s past).marks < 64
-few-marks s past stands ascends exists unmarked few =
+few-marks s past invariant ascends exists unmarked few =
     let stamped : List ℕ = revisions (stamps_of s past) in
     let within : (q : ℕ) → member q (active_of past ∷ stamped) ≡ true → member q (existing past) ≡ true =
-    λ q. exist-more q (active_of past) stamped (existing past) exists (λ h. stands.exist q (stamped-deadline s q past h)) in
+    λ q. exist-more q (active_of past) stamped (existing past) exists (λ h. invariant.exist q (stamped-deadline s q past h)) in
     let distinct : Distinct (active_of past ∷ stamped) = (unstamped s (active_of past) past unmarked, stamps-distinct s past) in
     omega (arith, length-marks_of (stamps_of s past), length-within (active_of past ∷ stamped) (existing past) distinct (ascends-distinct (existing past) ascends) within)
 
--- and with the newest one, where it is another
-few-marks_for_two : (s : Strategy) (past : List Entry) → DeadlinesStand s past → Ascends (existing past)
+-- the same with the newest revision, if it is another one
+few-marks_for_two : (s : Strategy) (past : List Entry) → DeadlinesInvariant s past → Ascends (existing past)
     → exists_in (active_of past) past ≡ true → is_some (deadline s (active_of past) past) ≡ false
     → exists_in (newest_of past) past ≡ true → is_some (deadline s (newest_of past) past) ≡ false
     → (newest_of past == active_of past) ≡ false → length (existing past) ≤ 64 → length (table_of s past).marks < 63
-few-marks_for_two s past stands ascends exists unmarked newest bare other few =
+few-marks_for_two s past invariant ascends exists unmarked newest bare other few =
     let stamped : List ℕ = revisions (stamps_of s past) in
     let within : (q : ℕ) → member q (newest_of past ∷ active_of past ∷ stamped) ≡ true → member q (existing past) ≡ true =
     λ q. exist-more q (newest_of past) (active_of past ∷ stamped) (existing past) newest
-    (exist-more q (active_of past) stamped (existing past) exists (λ h. stands.exist q (stamped-deadline s q past h))) in
+    (exist-more q (active_of past) stamped (existing past) exists (λ h. invariant.exist q (stamped-deadline s q past h))) in
     let absent : member (newest_of past) (active_of past ∷ stamped) ≡ false = grind (arith, nat_tests, unstamped s (newest_of past) past bare) in
     let distinct : Distinct (newest_of past ∷ active_of past ∷ stamped) = (absent, (unstamped s (active_of past) past unmarked, stamps-distinct s past)) in
     omega (arith, length-marks_of (stamps_of s past), length-within (newest_of past ∷ active_of past ∷ stamped) (existing past) distinct (ascends-distinct (existing past) ascends) within)
@@ -76,21 +76,21 @@ marked-has_mark s q past h = go (mark_of q (table_of s past).marks) (ap is_some 
   go None h = absurd (cc)
   go (Some m) h = refl
 
--- there is room for the newest revision and the active one, whether the newest one has a deadline or not
-room-both : (s : Strategy) (past : List Entry) → DeadlinesStand s past → Ascends (existing past)
+-- there is room for the newest revision and the active one, whether or not the newest one has a deadline
+room-both : (s : Strategy) (past : List Entry) → DeadlinesInvariant s past → Ascends (existing past)
     → exists_in (active_of past) past ≡ true → is_some (deadline s (active_of past) past) ≡ false → exists_in (newest_of past) past ≡ true
     → length (existing past) ≤ 64 → (newest_of past == active_of past) ≡ false
     → has_room_for (newest_of past ∷ active_of past ∷ []) (table_of s past).marks ≡ true
-room-both s past stands ascends active unmarked newest few other = go (is_some (deadline s (newest_of past) past)) refl where
+room-both s past invariant ascends active unmarked newest few other = go (is_some (deadline s (newest_of past) past)) refl where
   go : (b : Bool) → is_some (deadline s (newest_of past) past) ≡ b → has_room_for (newest_of past ∷ active_of past ∷ []) (table_of s past).marks ≡ true
   go true h =
       let places : place (newest_of past) (table_of s past).marks ≡ 0 = ap one_if (marked-has_mark s (newest_of past) past h) in
-      fits-so _ (omega (arith, places, place-most (active_of past) (table_of s past).marks, few-marks s past stands ascends active unmarked few))
+      fits-so _ (omega (arith, places, place-most (active_of past) (table_of s past).marks, few-marks s past invariant ascends active unmarked few))
   go false h =
       room-left (newest_of past ∷ active_of past ∷ []) (table_of s past).marks
-      (omega (arith, few-marks_for_two s past stands ascends active unmarked newest h other few))
+      (omega (arith, few-marks_for_two s past invariant ascends active unmarked newest h other few))
 
--- so there is for what a stop of an attempt marks
+-- so there is room for the marks of a halt
 room-for_halt : (s : Strategy) (past : List Entry) → length (table_of s past).marks < 64
     → ((newest_of past == active_of past) ≡ false → has_room_for (newest_of past ∷ active_of past ∷ []) (table_of s past).marks ≡ true)
     → has_room_for (marked_by_halt (selectors_of past)) (table_of s past).marks ≡ true
@@ -100,7 +100,7 @@ room-for_halt s past few both = go (newest_of past == active_of past) both where
   go true both = room-one s (active_of past) past few
   go false both = both refl
 
--- and for what an entry marks
+-- there is room for the marks of an entry
 room-for : (s : Strategy) (past : List Entry) (next : Entry) → length (table_of s past).marks < 64
     → ((newest_of past == active_of past) ≡ false → has_room_for (newest_of past ∷ active_of past ∷ []) (table_of s past).marks ≡ true)
     → has_room_for (may_mark next (selectors_of past)) (table_of s past).marks ≡ true
@@ -118,8 +118,8 @@ room-for s past (Outcome (Switched r)) few both = room-one s (active_of past) pa
 room-for s past _ few both = room-left [] (table_of s past).marks (omega arith)
 
 -- there is room for each revision that the next entry marks
-pub next-has_room : (s : Strategy) (past : List Entry) (next : Entry) → DeadlinesStand s past → Ascends (existing past)
+pub next-has_room : (s : Strategy) (past : List Entry) (next : Entry) → DeadlinesInvariant s past → Ascends (existing past)
     → exists_in (active_of past) past ≡ true → is_some (deadline s (active_of past) past) ≡ false → exists_in (newest_of past) past ≡ true
     → length (existing past) ≤ 64 → has_room_for (may_mark next (selectors_of past)) (table_of s past).marks ≡ true
-next-has_room s past next stands ascends active unmarked newest few =
-    room-for s past next (few-marks s past stands ascends active unmarked few) (room-both s past stands ascends active unmarked newest few)
+next-has_room s past next invariant ascends active unmarked newest few =
+    room-for s past next (few-marks s past invariant ascends active unmarked few) (room-both s past invariant ascends active unmarked newest few)

@@ -1,4 +1,4 @@
--- The table of a past after an entry that stops the attempt.
+-- The table of a past after an entry that halts the attempt.
 use Rattle.std.proofs.Common.{◌≡◌, ◌+◌, ℕ, Bool, true, false, not, cond, ◌==◌, ◌&&◌, ◌||◌, nat_lt, List, ◌∷◌, Option, Some, None, refl, arith, ◌∙◌, ap, sym, ◌⊎◌, inl, inr}
 use Rattle.std.proofs.lemmas.Bool.Decides.{nat_tests, eqb_tells}
 use Rattle.bg_revisions.specs.declared.revision.Selectors.{Selectors}
@@ -18,18 +18,18 @@ use Rattle.bg_scaledown.specs.Events.{with_left, with_aborted, halted}
 use Rattle.bg_scaledown.specs.Past.{stamps_of, marks_of}
 use Rattle.bg_scaledown.proofs.PastTables.{marked, marked-twice, marks_without-twice, thrice, thrice-first, thrice-last, thrice-kinds, marks-step}
 
--- what an abort is for the newest revision
+-- the effect of an abort on the newest revision
 abbrev kind-of_newest : Bool → Option MarkKind
 kind-of_newest delayed = cond delayed (Some Aborted) (Some Cleared)
 
--- and for q, where `x` was selected before it
+-- the effect of an abort on q, with the selectors x before it
 abbrev kind : Bool → Selectors → ℕ → Option MarkKind
 kind delayed x q =
     cond ((x.active == q) && not (x.stable == q) && not (x.newest == q)) (Some Left)
     (cond (x.newest == q) (kind-of_newest delayed)
     (cond (not (x.active == q) && (x.stable == q)) (Some Cleared) None))
 
--- that is its kind by the past
+-- this is the kind of mark by the past
 kind-by : (active stable newest delayed : Bool)
     → cond (active && not stable && not newest) (Some Left) (cond (newest && delayed) (Some Aborted) (cond ((not active && stable) || (newest && not delayed)) (Some Cleared) None))
     ≡ cond (active && not stable && not newest) (Some Left) (cond newest (kind-of_newest delayed) (cond (not active && stable) (Some Cleared) None))
@@ -60,11 +60,11 @@ kind-active_newest b x newest = grind (arith, nat_tests)
 kind-stable_newest : (b : Bool) (x : Selectors) → (x.newest == x.stable) ≡ true → kind b x x.stable ≡ kind-of_newest b
 kind-stable_newest b x newest = grind (arith, nat_tests)
 
--- the stable one is cleared where it is active again
+-- the stable revision is cleared if it is active again
 kind-stable : (b : Bool) (x : Selectors) → (x.active == x.stable) ≡ false → (x.newest == x.stable) ≡ false → kind b x x.stable ≡ Some Cleared
 kind-stable b x other older = grind (arith, nat_tests)
 
--- an older active one leaves, and the stable one stays as it is
+-- an older active revision leaves, and the stable one isn't changed
 kind-left : (b : Bool) (x : Selectors) → (x.active == x.stable) ≡ false → (x.active == x.newest) ≡ false → kind b x x.active ≡ Some Left
 kind-left b x other older = grind (arith, nat_tests)
 
@@ -74,7 +74,7 @@ kind-none b x same older = grind (arith, nat_tests)
 kind-none_stable : (b : Bool) (x : Selectors) → (x.active == x.stable) ≡ true → (x.active == x.newest) ≡ false → kind b x x.stable ≡ None
 kind-none_stable b x same older = grind (arith, nat_tests)
 
--- the call for the newest one
+-- the call for the newest revision
 marked-newest : (s : Strategy) (q at : ℕ) (marks : List RevisionMark) → marked s (kind-of_newest (has_abort_delay s)) q at marks ≡ with_aborted q at s.abort_delay marks
 marked-newest s q at marks = go (nat_lt 0 s.abort_delay) where
   go : (b : Bool) → marked s (kind-of_newest b) q at marks
@@ -82,11 +82,11 @@ marked-newest s q at marks = go (nat_lt 0 s.abort_delay) where
   go true = refl
   go false = refl
 
--- what it drops needs no drop before
+-- a mark that the call drops needs no drop before
 newest-dropped : (q n at delay : ℕ) (marks : List RevisionMark) → n ≡ q → with_aborted n at delay (marks_without q marks) ≡ with_aborted n at delay marks
 newest-dropped q n at delay marks is = rw is (ap (λ ms. cond (nat_lt 0 delay) (record { revision = q; cause = cause.Aborted; deadline = at + delay } ∷ ms) ms) (marks_without-twice q marks))
 
--- the calls where the active revision is the stable one, and the newest one too or not
+-- the calls if the active revision is the stable one, which is the newest one or not
 marked-same : (s : Strategy) (x : Selectors) (at : ℕ) (marks : List RevisionMark) (b : Bool) → (x.active == x.newest) ≡ b → x.active ≡ x.stable → (x.active == x.stable) ≡ true
     → thrice s (kind (has_abort_delay s) x) x.active x.newest x.stable at marks ≡ halted x at s.delay s.abort_delay marks
 marked-same s x at marks true newest is same =
@@ -103,7 +103,7 @@ marked-same s x at marks false older is same =
     let d : Bool = has_abort_delay s in
     rw (kind-none d x same older, kind-none_stable d x same older, kind-newest d x, same) (marked-newest s x.newest at marks)
 
--- where it is another, and the newest one
+-- the calls if the active revision is another one, and the newest one
 marked-active_newest : (s : Strategy) (x : Selectors) (at : ℕ) (marks : List RevisionMark) → (x.active == x.stable) ≡ false → (x.active == x.newest) ≡ true → x.active ≡ x.newest
     → thrice s (kind (has_abort_delay s) x) x.active x.newest x.stable at marks ≡ halted x at s.delay s.abort_delay marks
 marked-active_newest s x at marks other newest is =
@@ -113,7 +113,7 @@ marked-active_newest s x at marks other newest is =
     ∙ ap (λ (q : ℕ). marked s (kind d x q) q at (marked s (kind d x x.stable) x.stable at marks)) is
     ∙ rw (kind-newest d x, kind-stable d x other older, other, newest) (marked-newest s x.newest at (marks_without x.stable marks))
 
--- where it is an older one, the stable one being the newest or not
+-- the calls if the active revision is an older one; the stable one is the newest one or not
 marked-older : (s : Strategy) (x : Selectors) (at : ℕ) (marks : List RevisionMark) (b : Bool) → (x.newest == x.stable) ≡ b → (x.active == x.stable) ≡ false → (x.active == x.newest) ≡ false
     → thrice s (kind (has_abort_delay s) x) x.active x.newest x.stable at marks ≡ halted x at s.delay s.abort_delay marks
 marked-older s x at marks true newest other older =
@@ -128,7 +128,7 @@ marked-older s x at marks false apart other older =
     rw (kind-left d x other older, kind-newest d x, kind-stable d x other apart, other, older)
     (ap (λ ms. with_left x.active (at + s.delay) ms) (marked-newest s x.newest at (marks_without x.stable marks)))
 
--- in each case the calls make the marks of a halt
+-- in each case, the calls make the marks of a halt
 thrice-halted : (s : Strategy) (x : Selectors) (at : ℕ) (marks : List RevisionMark)
     → thrice s (kind (has_abort_delay s) x) x.active x.newest x.stable at marks ≡ halted x at s.delay s.abort_delay marks
 thrice-halted s x at marks = elim (eqb_tells x.active x.stable) [
@@ -148,7 +148,7 @@ marks-abort s past =
     ∙ thrice-kinds s (λ q. kind_of s q Abort past) (kind (has_abort_delay s) x) x.active x.newest x.stable (moment past) marks (λ q. kind-is_kind s q past)
     ∙ thrice-halted s x (moment past) marks
 
--- a verdict that is failed or error marks as an abort does
+-- a verdict of failed or error makes the same marks as an abort
 pub marks-verdict : (s : Strategy) (analysis : Analysis) (finding : AnalysisResult) (past : List Entry) → (finding ≡ Failed) ⊎ (finding ≡ Error)
     → marks_of (stamps_of s (Verdict analysis finding ∷ past)) ≡ halted (selectors_of past) (moment past) s.delay s.abort_delay (marks_of (stamps_of s past))
 marks-verdict s analysis Failed past is = marks-abort s past

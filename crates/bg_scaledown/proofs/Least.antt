@@ -7,12 +7,12 @@ use Rattle.bg_scaledown.specs.Tables.{Table}
 use Rattle.bg_scaledown.specs.Due.{is_due_in, IsLeastDue}
 use Rattle.bg_scaledown.proofs.Counts.{member, is_false}
 
--- it is one of them
+-- the least number is one of them
 fold-min_member : (x : ℕ) (xs : List ℕ) → member (fold min x xs) (x ∷ xs) ≡ true
 fold-min_member x [] = grind (arith, nat_tests)
 fold-min_member x (y ∷ ys) = grind (arith, nat_tests, fold-min_member (min x y) ys)
 
--- and no greater than any of them
+-- the least number is at most each of them
 fold-min_first : (x : ℕ) (xs : List ℕ) → fold min x xs ≤ x
 fold-min_first x [] = omega arith
 fold-min_first x (y ∷ ys) = omega (arith, fold-min_first (min x y) ys)
@@ -25,7 +25,7 @@ fold-min_least x q (y ∷ ys) within = grind (arith, nat_tests, fold-min_first (
 abbrev pub is_wanted : Table → ℕ → Selectors → (ℕ → Bool) → ℕ → Bool
 is_wanted t now x p q = is_due_in t q now x && p q
 
--- the least of the numbers that are due and pass is the least revision that is and does
+-- the least number that is due and passes the test is the least revision that is due and passes it
 pub least-due : (t : Table) (now : ℕ) (x : Selectors) (p : ℕ → Bool) (numbers : List ℕ) → ((q : ℕ) → member q numbers ≡ is_wanted t now x p q) → IsLeastDue t now x p (reduce min numbers)
 least-due t now x p [] same = record {
   due = tt;

@@ -16,42 +16,42 @@ use Rattle.bg_scaledown.proofs.Filters.{filter-swap, filter-twice}
 abbrev pub stamp_has_left : Stamp → Bool
 stamp_has_left stamp = has_left stamp.mark.cause
 
--- of the stamps, each that left did so before that many entries stood
+-- each stamp of a revision that left was made before the past had that many entries
 abbrev pub LeftBefore : ℕ → List Stamp → Type 0
-LeftBefore stood [] = Unit {0}
-LeftBefore stood (stamp ∷ stamps) = (stamp_has_left stamp ≡ true → stamp.stood < stood) × LeftBefore stood stamps
+LeftBefore position [] = Unit {0}
+LeftBefore position (stamp ∷ stamps) = (stamp_has_left stamp ≡ true → stamp.position < position) × LeftBefore position stamps
 
--- of the stamps that left, the later ones stand in front
+-- of the stamps of revisions that left, the later ones are in front
 abbrev pub Ordered : List Stamp → Type 0
 Ordered [] = Unit {0}
-Ordered (stamp ∷ stamps) = (stamp_has_left stamp ≡ true → LeftBefore stamp.stood stamps) × Ordered stamps
+Ordered (stamp ∷ stamps) = (stamp_has_left stamp ≡ true → LeftBefore stamp.position stamps) × Ordered stamps
 
--- what left before fewer entries stood left before more did
+-- a revision that left before a past had few entries left before it had more
 left_before-more : (low high : ℕ) (stamps : List Stamp) → low ≤ high → LeftBefore low stamps → LeftBefore high stamps
 left_before-more low high [] le h = tt
-left_before-more low high (stamp ∷ stamps) le h = ((λ left. let lt : stamp.stood < low = h.0 left in omega arith), left_before-more low high stamps le h.1)
+left_before-more low high (stamp ∷ stamps) le h = ((λ left. let lt : stamp.position < low = h.0 left in omega arith), left_before-more low high stamps le h.1)
 
--- one more stamp, where a test holds
-left_before-cond : (b : Bool) (low : ℕ) (stamp : Stamp) (stamps : List Stamp) → (stamp_has_left stamp ≡ true → stamp.stood < low) → LeftBefore low stamps → LeftBefore low (cond b (stamp ∷ stamps) stamps)
+-- one more stamp, if a test holds
+left_before-cond : (b : Bool) (low : ℕ) (stamp : Stamp) (stamps : List Stamp) → (stamp_has_left stamp ≡ true → stamp.position < low) → LeftBefore low stamps → LeftBefore low (cond b (stamp ∷ stamps) stamps)
 left_before-cond true low stamp stamps here h = (here, h)
 left_before-cond false low stamp stamps here h = h
 
--- it stays so when stamps are dropped
+-- the same holds after stamps are dropped
 left_before-others : (low q : ℕ) (stamps : List Stamp) → LeftBefore low stamps → LeftBefore low (others q stamps)
 left_before-others low q [] h = tt
 left_before-others low q (stamp ∷ stamps) h = left_before-cond (not (stamp.mark.revision == q)) low stamp (others q stamps) h.0 (left_before-others low q stamps h.1)
 
--- so does the order
-ordered-cond : (b : Bool) (stamp : Stamp) (stamps : List Stamp) → (stamp_has_left stamp ≡ true → LeftBefore stamp.stood stamps) → Ordered stamps → Ordered (cond b (stamp ∷ stamps) stamps)
+-- the order is the same after stamps are dropped
+ordered-cond : (b : Bool) (stamp : Stamp) (stamps : List Stamp) → (stamp_has_left stamp ≡ true → LeftBefore stamp.position stamps) → Ordered stamps → Ordered (cond b (stamp ∷ stamps) stamps)
 ordered-cond true stamp stamps here h = (here, h)
 ordered-cond false stamp stamps here h = h
 
 ordered-others : (q : ℕ) (stamps : List Stamp) → Ordered stamps → Ordered (others q stamps)
 ordered-others q [] h = tt
 ordered-others q (stamp ∷ stamps) h =
-    ordered-cond (not (stamp.mark.revision == q)) stamp (others q stamps) (λ left. left_before-others stamp.stood q stamps (h.0 left)) (ordered-others q stamps h.1)
+    ordered-cond (not (stamp.mark.revision == q)) stamp (others q stamps) (λ left. left_before-others stamp.position q stamps (h.0 left)) (ordered-others q stamps h.1)
 
--- the order in which two revisions are dropped doesn't matter, nor does a second time
+-- dropping two revisions in either order, or one of them twice, gives the same
 others-swap : (a q : ℕ) (stamps : List Stamp) → others a (others q stamps) ≡ others q (others a stamps)
 others-swap a q stamps = filter-swap (λ stamp. not (stamp.mark.revision == a)) (λ stamp. not (stamp.mark.revision == q)) stamps
 
@@ -65,7 +65,7 @@ record Within (n a : ℕ) (stamps : List Stamp) : Type 0 where
   but : LeftBefore n (others a stamps)
   ordered : Ordered stamps
 
--- that is kept when a stamp is dropped
+-- dropping a stamp keeps this
 within-others : (n a q : ℕ) (stamps : List Stamp) → Within n a stamps → Within n a (others q stamps)
 within-others n a q stamps h = record {
   all = left_before-others (suc n) q stamps h.all;
@@ -73,15 +73,15 @@ within-others n a q stamps h = record {
   ordered = ordered-others q stamps h.ordered;
 }
 
--- an entry makes no other revision leave than the active one
+-- an entry makes only the active revision leave
 left_is_active : (s : Strategy) (q : ℕ) (e : Entry) (before : List Entry) → kind_of s q e before ≡ Some Left → active_of before ≡ q
 left_is_active s q e before h = grind (arith, nat_tests)
 
--- a stamp of the revision is dropped with its others
+-- a stamp of the revision is dropped with its other stamps
 others-drops : (a : ℕ) (stamp : Stamp) (stamps : List Stamp) → stamp.mark.revision ≡ a → others a (stamp ∷ stamps) ≡ others a stamps
 others-drops a stamp stamps is = grind (arith, nat_tests)
 
--- when the active revision leaves
+-- the case in which the active revision leaves
 within-left : (n a at : ℕ) (stamps : List Stamp) → Within n a stamps → Within n a (stamp_at a cause.Left at n ∷ others a stamps)
 within-left n a at stamps h = record {
   all = ((λ _. omega arith), left_before-others (suc n) a stamps h.all);
@@ -89,7 +89,7 @@ within-left n a at stamps h = record {
   ordered = ((λ _. h.but), ordered-others a stamps h.ordered);
 }
 
--- when a revision gets a mark of another cause
+-- the case in which a revision gets a mark of another cause
 within-stays : (n a q at : ℕ) (c : Cause) (stamps : List Stamp) → has_left c ≡ false → Within n a stamps → Within n a (stamp_at q c at n ∷ others q stamps)
 within-stays n a q at c stamps stays h =
     let stamp : Stamp = stamp_at q c at n in
@@ -100,7 +100,7 @@ within-stays n a q at c stamps stays h =
       ordered = ((λ left. absurd (cc)), rest.ordered);
     }
 
--- over an entry's mark for one revision, and for several
+-- the same after an entry's mark for one revision, and for several
 within-stamped : (s : Strategy) (q : ℕ) (e : Entry) (before : List Entry) (k : Option MarkKind) (at : ℕ) (stamps : List Stamp) → kind_of s q e before ≡ k
     → Within (length before) (active_of before) stamps → Within (length before) (active_of before) (stamped s k q at (length before) stamps)
 within-stamped s q e before None at stamps is h = h
@@ -115,7 +115,7 @@ within-stamp_all s e before [] stamps h = h
 within-stamp_all s e before (q ∷ qs) stamps h =
     within-stamped s q e before (kind_of s q e before) (moment (e ∷ before)) (stamp_all s e before qs stamps) refl (within-stamp_all s e before qs stamps h)
 
--- in a past's stamps those that left later stand in front
+-- in the stamps of a past, those that left later are in front
 pub stamps-ordered : (s : Strategy) (past : List Entry) → LeftBefore (length past) (stamps_of s past) × Ordered (stamps_of s past)
 stamps-ordered s [] = (tt, tt)
 stamps-ordered s (e ∷ before) =

@@ -5,41 +5,41 @@ use Rattle.bg_scaledown.specs.Due.{one_if, rank_in}
 use Rattle.bg_scaledown.specs.Past.{Stamp, stamp_of, marks_of}
 use Rattle.bg_scaledown.proofs.Orders.{stamp_has_left, LeftBefore, Ordered}
 
--- how many stamps left after that many entries and are counted
+-- the number of counted stamps that left after that many entries
 abbrev pub later : (ℕ → Bool) → ℕ → List Stamp → ℕ
-later counted stood [] = 0
-later counted stood (stamp ∷ stamps) = one_if (stamp_has_left stamp && counted stamp.mark.revision && nat_lt stood stamp.stood) + later counted stood stamps
+later counted position [] = 0
+later counted position (stamp ∷ stamps) = one_if (stamp_has_left stamp && counted stamp.mark.revision && nat_lt position stamp.position) + later counted position stamps
 
 -- no stamp of those that left earlier is later
-later-none : (counted : ℕ → Bool) (low stood : ℕ) (stamps : List Stamp) → low ≤ stood → LeftBefore low stamps → later counted stood stamps ≡ 0
-later-none counted low stood [] le before = refl
-later-none counted low stood (stamp ∷ stamps) le before = grind (arith, nat_tests, before.0, later-none counted low stood stamps le before.1)
+later-none : (counted : ℕ → Bool) (low position : ℕ) (stamps : List Stamp) → low ≤ position → LeftBefore low stamps → later counted position stamps ≡ 0
+later-none counted low position [] le before = refl
+later-none counted low position (stamp ∷ stamps) le before = grind (arith, nat_tests, before.0, later-none counted low position stamps le before.1)
 
--- a stamp of a list of stamps that left earlier left earlier
-stamp_of-left_before : (low r : ℕ) (stamps : List Stamp) (me : Stamp) → LeftBefore low stamps → stamp_of r stamps ≡ Some me → stamp_has_left me ≡ true → me.stood < low
+-- a stamp in a list of stamps that left earlier left earlier
+stamp_of-left_before : (low r : ℕ) (stamps : List Stamp) (me : Stamp) → LeftBefore low stamps → stamp_of r stamps ≡ Some me → stamp_has_left me ≡ true → me.position < low
 stamp_of-left_before low r [] me before here left = cc
 stamp_of-left_before low r (stamp ∷ stamps) me before here left = grind (arith, nat_tests, before.0, stamp_of-left_before low r stamps me before.1)
 
--- where r's stamp is the first
+-- the case in which r's stamp is the first
 rank_in-here : (counted : ℕ → Bool) (r : ℕ) (stamp : Stamp) (stamps : List Stamp) (me : Stamp) → Ordered (stamp ∷ stamps) → stamp_of r (stamp ∷ stamps) ≡ Some me → stamp_has_left me ≡ true
-    → (stamp.mark.revision == r) ≡ true → rank_in counted r (marks_of (stamp ∷ stamps)) ≡ later counted me.stood (stamp ∷ stamps)
+    → (stamp.mark.revision == r) ≡ true → rank_in counted r (marks_of (stamp ∷ stamps)) ≡ later counted me.position (stamp ∷ stamps)
 rank_in-here counted r stamp stamps me ordered here left same =
     let is : stamp ≡ me = grind (arith, nat_tests) in
     let stamp_left : stamp_has_left stamp ≡ true = rw is left in
-    let none : later counted stamp.stood stamps ≡ 0 = later-none counted stamp.stood stamp.stood stamps (omega arith) (ordered.0 stamp_left) in
+    let none : later counted stamp.position stamps ≡ 0 = later-none counted stamp.position stamp.position stamps (omega arith) (ordered.0 stamp_left) in
     grind (arith, nat_tests)
 
--- where another one is the first
+-- the case in which another stamp is the first
 rank_in-there : (counted : ℕ → Bool) (r : ℕ) (stamp : Stamp) (stamps : List Stamp) (me : Stamp) (b : Bool) → stamp_has_left stamp ≡ b → Ordered (stamp ∷ stamps) → stamp_of r stamps ≡ Some me → stamp_has_left me ≡ true
-    → (stamp.mark.revision == r) ≡ false → rank_in counted r (marks_of stamps) ≡ later counted me.stood stamps → rank_in counted r (marks_of (stamp ∷ stamps)) ≡ later counted me.stood (stamp ∷ stamps)
+    → (stamp.mark.revision == r) ≡ false → rank_in counted r (marks_of stamps) ≡ later counted me.position stamps → rank_in counted r (marks_of (stamp ∷ stamps)) ≡ later counted me.position (stamp ∷ stamps)
 rank_in-there counted r stamp stamps me true is ordered here left other below =
-    let newer : me.stood < stamp.stood = stamp_of-left_before stamp.stood r stamps me (ordered.0 is) here left in
+    let newer : me.position < stamp.position = stamp_of-left_before stamp.position r stamps me (ordered.0 is) here left in
     grind (arith, nat_tests)
 rank_in-there counted r stamp stamps me false is ordered here left other below = grind (arith, nat_tests)
 
--- the stamps in front of r's that are counted are those that left later
+-- the counted stamps in front of r's are those that left later
 pub rank_in-is_later : (counted : ℕ → Bool) (r : ℕ) (stamps : List Stamp) (me : Stamp) → Ordered stamps → stamp_of r stamps ≡ Some me → stamp_has_left me ≡ true
-    → rank_in counted r (marks_of stamps) ≡ later counted me.stood stamps
+    → rank_in counted r (marks_of stamps) ≡ later counted me.position stamps
 rank_in-is_later counted r [] me ordered here left = cc
 rank_in-is_later counted r (stamp ∷ stamps) me ordered here left =
     elim (eqb_tells stamp.mark.revision r) [

@@ -1,4 +1,4 @@
--- A table that takes in an entry becomes the table of the longer past.
+-- A table after an entry is the table of the longer past.
 use Rattle.std.proofs.Common.{◌≡◌, ℕ, List, ◌∷◌, refl}
 use Rattle.bg_revisions.specs.declared.revision.Selectors.{Selectors}
 use Rattle.bg_history.specs.declared.entry.Entry.{Entry}
@@ -9,7 +9,7 @@ use Rattle.bg_scaledown.specs.declared.mark.RevisionMark.{RevisionMark}
 use Rattle.bg_scaledown.specs.Tables.{Table}
 use Rattle.bg_scaledown.specs.Past.{stamps_of, marks_of, table_of}
 
--- where `change` is what the entry does to the marks
+-- `change` is the effect of the entry on the marks
 pub table-changed : (s : Strategy) (past : List Entry) (e : Entry) (change : Selectors → ℕ → ℕ → ℕ → List RevisionMark → List RevisionMark) (t u : Table) (x : Selectors) (now : ℕ)
     → t ≡ table_of s past → x ≡ selectors_of past → now ≡ moment past
     → u ≡ record { delay = t.delay; abort_delay = t.abort_delay; limit = t.limit; marks = change x now t.delay t.abort_delay t.marks }

@@ -28,7 +28,7 @@ before-more : (m x : RevisionMark) (xs : List RevisionMark) → comes_before m x
 before-more m x [] h all = tt
 before-more m x (y ∷ ys) h all = (transitive m x y h all.0, before-more m x ys h all.1)
 
--- what is put in its place keeps the order
+-- inserting a mark keeps the order
 before-inserted : (x m : RevisionMark) (xs : List RevisionMark) → comes_before x m ≡ true → BeforeAll x xs → BeforeAll x (inserted m xs)
 before-inserted x m [] h all = (h, tt)
 before-inserted x m (y ∷ ys) h all = go (comes_before m y) (before-inserted x m ys h all.1) where
@@ -47,12 +47,12 @@ pub ordered-sorted : (ms : List RevisionMark) → Ordered (sorted ms)
 ordered-sorted [] = tt
 ordered-sorted (m ∷ ms) = ordered-inserted m (sorted ms) (ordered-sorted ms)
 
--- before all of them it is put in front
+-- a mark that comes before all others is inserted in front
 inserted-front : (m : RevisionMark) (xs : List RevisionMark) → BeforeAll m xs → inserted m xs ≡ m ∷ xs
 inserted-front m [] all = refl
 inserted-front m (x ∷ xs) all = rw all.0 refl
 
--- those that are dropped don't matter
+-- marks that are dropped don't matter
 before-without : (m : RevisionMark) (r : ℕ) (xs : List RevisionMark) → BeforeAll m xs → BeforeAll m (marks_without r xs)
 before-without m r [] all = tt
 before-without m r (x ∷ xs) all = go (not (x.revision == r)) (before-without m r xs all.1) where
@@ -60,7 +60,7 @@ before-without m r (x ∷ xs) all = go (not (x.revision == r)) (before-without m
   go true rest = (all.0, rest)
   go false rest = rest
 
--- a mark of another revision is put in its place before or after they are dropped
+-- a mark of another revision can be inserted before or after the drop
 without-inserted : (r : ℕ) (m : RevisionMark) (xs : List RevisionMark) → (m.revision == r) ≡ false → Ordered xs → marks_without r (inserted m xs) ≡ inserted m (marks_without r xs)
 without-inserted r m [] other h = rw other refl
 without-inserted r m (x ∷ xs) other h = go (comes_before m x) (x.revision == r) refl refl (without-inserted r m xs other h.1) where
@@ -80,7 +80,7 @@ without-inserted_same r m (x ∷ xs) same = go (comes_before m x) (without-inser
   go true rest = rw same refl
   go false rest = ap (λ ys. cond (not (x.revision == r)) (x ∷ ys) ys) rest
 
--- so the marks are sorted before or after some are dropped
+-- so sorting before or after the drop gives the same
 sorted-without : (r : ℕ) (ms : List RevisionMark) → sorted (marks_without r ms) ≡ marks_without r (sorted ms)
 sorted-without r [] = refl
 sorted-without r (m ∷ ms) = go (m.revision == r) refl (sorted-without r ms) where
@@ -89,7 +89,7 @@ sorted-without r (m ∷ ms) = go (m.revision == r) refl (sorted-without r ms) wh
   go true is rest = rest ∙ sym (without-inserted_same r m (sorted ms) is)
   go false is rest = ap (inserted m) rest ∙ sym (without-inserted r m (sorted ms) is (ordered-sorted ms))
 
--- as many marks
+-- the number of marks is the same
 length-inserted : (m : RevisionMark) (xs : List RevisionMark) → length (inserted m xs) ≡ 1 + length xs
 length-inserted m [] = omega arith
 length-inserted m (x ∷ xs) = go (comes_before m x) (length-inserted m xs) where
@@ -101,7 +101,7 @@ length-sorted : (ms : List RevisionMark) → length (sorted ms) ≡ length ms
 length-sorted [] = refl
 length-sorted (m ∷ ms) = omega (arith, length-inserted m (sorted ms), length-sorted ms)
 
--- the same marks
+-- the marks are the same
 any-inserted : (t : RevisionMark → Bool) (m : RevisionMark) (xs : List RevisionMark) → list_any t (inserted m xs) ≡ (t m || list_any t xs)
 any-inserted t m [] = refl
 any-inserted t m (x ∷ xs) = go (comes_before m x) (any-inserted t m xs) where
@@ -117,7 +117,7 @@ pub any-sorted : (t : RevisionMark → Bool) (ms : List RevisionMark) → list_a
 any-sorted t [] = refl
 any-sorted t (m ∷ ms) = any-inserted t m (sorted ms) ∙ ap (λ b. t m || b) (any-sorted t ms)
 
--- those whose deadlines have passed stand in front
+-- the marks whose deadlines have passed are in front
 abbrev pub has_passed : ℕ → RevisionMark → Bool
 has_passed now m = nat_le m.deadline now
 
@@ -144,7 +144,7 @@ mark_of-still_none : (q r : ℕ) (ms : List RevisionMark) → mark_of q ms ≡ N
 mark_of-still_none q r [] none = refl
 mark_of-still_none q r (m ∷ ms) none = grind (arith, nat_tests, mark_of-still_none q r ms)
 
--- so no revision gets two
+-- so no revision gets two marks
 once-without : (r : ℕ) (ms : List RevisionMark) → OncePerRevision ms → OncePerRevision (marks_without r ms)
 once-without r [] h = tt
 once-without r (m ∷ ms) h = go (not (m.revision == r)) (once-without r ms h.1) where
@@ -155,7 +155,7 @@ once-without r (m ∷ ms) h = go (not (m.revision == r)) (once-without r ms h.1)
 once-put : (m : RevisionMark) (ms : List RevisionMark) → OncePerRevision ms → OncePerRevision (m ∷ marks_without m.revision ms)
 once-put m ms h = (mark_of-without_same m.revision ms, once-without m.revision ms h)
 
--- what the two orders keep where a mark is put or dropped
+-- inserting or dropping a mark keeps the invariant of the two orders
 pub orders-put : (m : RevisionMark) (newest_first by_deadline : List RevisionMark) → InBothOrders newest_first by_deadline → length (marks_without m.revision newest_first) < 64
     → InBothOrders (m ∷ marks_without m.revision newest_first) (inserted m (marks_without m.revision by_deadline))
 orders-put m newest_first by_deadline h room = record {
@@ -171,7 +171,7 @@ orders-dropped r newest_first by_deadline h = record {
   once = once-without r newest_first h.once;
 }
 
--- there is as much room in the one order as in the other
+-- there is as much room in one order as in the other
 pub room-sorted : (r : ℕ) (newest_first by_deadline : List RevisionMark) → InBothOrders newest_first by_deadline → length (marks_without r newest_first) < 64 → length (marks_without r by_deadline) < 64
 room-sorted r newest_first by_deadline h room =
     rw (h.sorted_is, ← sorted-without r newest_first, length-sorted (marks_without r newest_first)) room

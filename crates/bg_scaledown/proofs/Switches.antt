@@ -1,4 +1,4 @@
--- The table of a past after a switch, a scaling down or a retry.
+-- The table of a past after a switch, a scale-down or a retry.
 use Rattle.std.proofs.Common.{◌≡◌, ℕ, Bool, true, false, ◌==◌, List, ◌∷◌, Some, None, refl, arith, ◌∙◌, ap}
 use Rattle.std.proofs.lemmas.Bool.Decides.{nat_tests}
 use Rattle.bg_strategy.specs.declared.strategy.Strategy.{Strategy}
@@ -13,7 +13,7 @@ use Rattle.bg_scaledown.specs.Events.{switched}
 use Rattle.bg_scaledown.specs.Past.{stamps_of, marks_of}
 use Rattle.bg_scaledown.proofs.PastTables.{marked, marks-step}
 
--- what a switch is for the revision that was active and for the one that is
+-- the effect of a switch on the revision that was active and on the one that becomes active
 kind-left : (s : Strategy) (r : ℕ) (past : List Entry) → (active_of past == r) ≡ false → kind_of s (active_of past) (Outcome (Switched r)) past ≡ Some Left
 kind-left s r past other = grind (arith, nat_tests)
 
@@ -32,7 +32,7 @@ marks-switch s r past = marks-step s (Outcome (Switched r)) past ∙ go (active_
   go true same = rw (kind-kept s (active_of past) r past same, kind-kept s r r past same, same) refl
   go false other = rw (kind-left s r past other, kind-cleared s r past other, other) refl
 
--- after a scaling down, and after a retry
+-- the marks after a scale-down, and after a retry
 kind-scaled : (s : Strategy) (r : ℕ) (past : List Entry) → kind_of s r (Outcome (ScaledDown r)) past ≡ Some Cleared
 kind-scaled s r past = grind (arith, nat_tests)
 

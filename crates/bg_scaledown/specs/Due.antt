@@ -1,7 +1,7 @@
 -- When a revision with a mark may be scaled down.
 use Rattle.std.specs.Prelude.{◌≤◌, ℕ, Bool, true, false, not, if◌then◌else◌, ◌+◌, ◌==◌, ◌&&◌, ◌||◌, nat_le, is_none, length, List, [], ◌∷◌, filter, find, Option, Some, None, IfSome, IfNone, IsTrue, IsFalse}
 use Rattle.std.specs.Option.{option_map}
-use Rattle.bg_history.specs.Deadlines.{is_over}
+use Rattle.bg_history.specs.Deadlines.{reaches_limit}
 use Rattle.bg_scaledown.specs.declared.mark.RevisionMark.{RevisionMark}
 use Rattle.bg_scaledown.specs.declared.mark.Cause.{Cause}
 use Rattle.bg_scaledown.specs.declared.mark.Cause.TheVariants.{Left, Superseded, Aborted}
@@ -16,7 +16,7 @@ marks_without r marks = filter (λ m. not (m.revision == r)) marks
 abbrev pub mark_of : ℕ → List RevisionMark → Option RevisionMark
 mark_of r marks = find (λ m. m.revision == r) marks
 
--- one where the test holds
+-- 1 if the test holds, else 0
 abbrev pub one_if : Bool → ℕ
 one_if b = if b then 1 else 0
 
@@ -25,7 +25,7 @@ abbrev pub unmarked : List ℕ → List RevisionMark → ℕ
 unmarked [] marks = 0
 unmarked (r ∷ rest) marks = one_if (is_none (mark_of r marks)) + unmarked rest marks
 
--- each of the revisions has a mark, or there is a place for one: 64 revisions can be marked
+-- there is room for a mark of each of the revisions: at most 64 revisions can have a mark
 abbrev pub has_room_for : List ℕ → List RevisionMark → Bool
 has_room_for rs marks = nat_le (unmarked rs marks + length marks) 64
 
@@ -35,7 +35,7 @@ has_left Left = true
 has_left Superseded = false
 has_left Aborted = false
 
--- the moment from which the revision may be scaled down
+-- the deadline of the revision: the moment from which it may be scaled down
 abbrev pub deadline_in : Table → ℕ → Option ℕ
 deadline_in t r = option_map (λ m. m.deadline) (mark_of r t.marks)
 
@@ -43,22 +43,21 @@ deadline_in t r = option_map (λ m. m.deadline) (mark_of r t.marks)
 abbrev pub exempts : Selectors → ℕ → Bool
 exempts x r = (r == x.active) || (r == x.preview) || (r == x.stable)
 
--- how many marks newer than the revision's are of revisions that left the active service and pass
--- the test
+-- how many revisions that pass the test have a newer mark than this revision and left the active service
 abbrev pub rank_in : (ℕ → Bool) → ℕ → List RevisionMark → ℕ
 rank_in counted r [] = 0
 rank_in counted r (m ∷ older) =
     if m.revision == r then 0
     else one_if (has_left m.cause && counted m.revision) + rank_in counted r older
 
--- how many revisions that aren't exempt left the active service later
+-- how many revisions that aren't exempt left the active service after this one
 abbrev pub rank_among : Selectors → ℕ → List RevisionMark → ℕ
 rank_among x r marks = rank_in (λ q. not (exempts x q)) r marks
 
--- the mark's deadline has come, or it left and its rank is at least the limit
+-- the mark's deadline has come; or its revision left the active service, and the rank is at least the limit
 abbrev pub mark_is_due : Table → ℕ → ℕ → RevisionMark → Bool
 mark_is_due t now rank m =
-    nat_le m.deadline now || (has_left m.cause && is_over t.limit rank)
+    nat_le m.deadline now || (has_left m.cause && reaches_limit t.limit rank)
 
 -- there is a mark, and it is due
 abbrev pub found_is_due : Table → ℕ → ℕ → Option RevisionMark → Bool
@@ -70,8 +69,8 @@ abbrev pub is_due_in : Table → ℕ → ℕ → Selectors → Bool
 is_due_in t r now x =
     not (exempts x r) && found_is_due t now (rank_among x r t.marks) (mark_of r t.marks)
 
--- the least revision that is due and passes the test, or none where no revision is due and passes
--- it; what is due has a mark, so this is the least of the marked ones
+-- the result is the least revision that is due and passes the test, or none if there is none; every due revision has
+-- a mark, so this is the least of the marked ones
 pub record IsLeastDue (t : Table) (now : ℕ) (x : Selectors) (p : ℕ → Bool)
     (result : Option ℕ) : Type 0 where
   pub due : IfSome result (λ r. IsTrue (is_due_in t r now x))

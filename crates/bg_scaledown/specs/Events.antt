@@ -1,4 +1,4 @@
--- What an entry of the history does to the marks, by what was selected before it.
+-- The effect of a history's entry on the marks, by the selectors before it.
 use Rattle.std.specs.Prelude.{ℕ, Bool, not, if◌then◌else◌, ◌+◌, ◌==◌, ◌&&◌, ◌||◌, nat_lt, List, [], ◌∷◌, ◌++◌}
 use Rattle.bg_history.specs.declared.entry.Entry.{Entry}
 use Rattle.bg_history.specs.declared.entry.Entry.TheVariants.{Deploy, Verdict, Abort, Outcome}
@@ -9,7 +9,7 @@ use Rattle.bg_scaledown.specs.declared.mark.RevisionMark.{RevisionMark}
 use Rattle.bg_scaledown.specs.declared.mark.Cause.TheVariants.{Left, Superseded, Aborted}
 use Rattle.bg_scaledown.specs.Due.{marks_without}
 
--- the marks where r left the active service, to be scaled down from that moment on
+-- the marks after r left the active service, with this deadline
 abbrev pub with_left : ℕ → ℕ → List RevisionMark → List RevisionMark
 with_left r deadline marks =
     record {
@@ -18,7 +18,7 @@ with_left r deadline marks =
       deadline = deadline;
     } ∷ marks_without r marks
 
--- the marks where r was superseded, to be scaled down from that moment on
+-- the marks after r was superseded, with this deadline
 abbrev pub with_superseded : ℕ → ℕ → List RevisionMark → List RevisionMark
 with_superseded r deadline marks =
     record {
@@ -27,8 +27,8 @@ with_superseded r deadline marks =
       deadline = deadline;
     } ∷ marks_without r marks
 
--- the marks where the attempt of r was stopped at that moment: it has a deadline after the delay, or
--- none where the delay is 0
+-- the marks after the attempt of r was halted at that moment: r has a deadline after the delay, or none if the delay
+-- is 0
 abbrev pub with_aborted : ℕ → ℕ → ℕ → List RevisionMark → List RevisionMark
 with_aborted r at abort_delay marks =
     if nat_lt 0 abort_delay then
@@ -39,7 +39,7 @@ with_aborted r at abort_delay marks =
     } ∷ marks_without r marks
     else marks_without r marks
 
--- a deploy of r begins an attempt of it, or goes back to it
+-- a deploy of r begins an attempt of r or goes back to r
 abbrev pub takes_up : ℕ → Selectors → Bool
 takes_up r x = not (r == x.stable) || not (x.active == r)
 
@@ -47,7 +47,7 @@ takes_up r x = not (r == x.stable) || not (x.active == r)
 abbrev pub replaces_newest : Selectors → Bool
 replaces_newest x = not (x.newest == x.active) && not (x.newest == x.stable)
 
--- and supersedes it, where it is scaled
+-- a deploy supersedes the newest revision: it takes its place, and the newest revision is scaled
 abbrev pub supersedes_newest : Selectors → Bool → Bool
 supersedes_newest x scaled = replaces_newest x && scaled
 
@@ -55,23 +55,23 @@ supersedes_newest x scaled = replaces_newest x && scaled
 abbrev pub goes_back : ℕ → Selectors → Bool
 goes_back r x = (r == x.stable) && not (x.active == r)
 
--- the marks once a deploy of r has cleared it
+-- the marks after a deploy of r cleared the mark of r
 abbrev pub cleared : ℕ → Selectors → List RevisionMark → List RevisionMark
 cleared r x marks = if takes_up r x then marks_without r marks else marks
 
--- and once it has superseded the newest revision
+-- the marks after a deploy of r cleared the mark of r and superseded the newest revision, if it does
 abbrev pub replaced : ℕ → Selectors → Bool → ℕ → List RevisionMark → List RevisionMark
 replaced r x scaled at marks =
     if supersedes_newest x scaled then with_superseded x.newest at (cleared r x marks)
     else cleared r x marks
 
--- the marks after a deploy of r, by whether the newest revision is scaled
+-- the marks after a deploy of r; `scaled` says whether the newest revision is scaled
 abbrev pub deployed : ℕ → Selectors → Bool → ℕ → ℕ → List RevisionMark → List RevisionMark
 deployed r x scaled at delay marks =
     if goes_back r x then with_left x.active (at + delay) (replaced r x scaled at marks)
     else replaced r x scaled at marks
 
--- the marks after an entry that stops the attempt
+-- the marks after an entry that halts the attempt
 abbrev pub halted : Selectors → ℕ → ℕ → ℕ → List RevisionMark → List RevisionMark
 halted x at delay abort_delay marks =
     if x.active == x.stable then with_aborted x.newest at abort_delay marks
@@ -81,22 +81,22 @@ halted x at delay abort_delay marks =
     with_left x.active (at + delay)
     (with_aborted x.newest at abort_delay (marks_without x.stable marks))
 
--- the marks after the active service was switched to r
+-- the marks after the active service switched to r
 abbrev pub switched : ℕ → Selectors → ℕ → ℕ → List RevisionMark → List RevisionMark
 switched r x at delay marks =
     if x.active == r then marks
     else with_left x.active (at + delay) (marks_without r marks)
 
--- the revision alone, where the test holds
+-- the revision if the test holds, else none
 abbrev pub only_if : Bool → ℕ → List ℕ
 only_if b r = if b then r ∷ [] else []
 
--- the revisions that a deploy of r marks: the newest one where it takes its place, and the active
--- one where it goes back to the stable one
+-- the revisions that a deploy of r may mark: the newest one if the deploy takes its place, and the active one if the
+-- deploy goes back to the stable one
 abbrev pub marked_by_deploy : ℕ → Selectors → List ℕ
 marked_by_deploy r x = only_if (replaces_newest x) x.newest ++ only_if (goes_back r x) x.active
 
--- the revisions that an entry may mark that stops the attempt: the newest one and the active one
+-- the revisions that an entry may mark if it halts the attempt: the newest one and the active one
 abbrev pub marked_by_halt : Selectors → List ℕ
 marked_by_halt x = only_if (not (x.newest == x.active)) x.newest ++ x.active ∷ []
 

@@ -1,4 +1,4 @@
--- The table of marks that a past makes, for a book that keeps the deadlines beside its past.
+-- The table of marks that a past makes, for a book that keeps the deadlines in addition to its past.
 use Rattle.std.specs.Prelude.{ℕ, not, ◌+◌, ◌==◌, List, [], ◌∷◌, length, Option, Some, None, is_some, filter, find, IsTrue}
 use Rattle.bg_history.specs.declared.entry.Entry.{Entry}
 use Rattle.bg_history.specs.declared.entry.Entry.TheVariants.{Deploy, Verdict, Abort, Retry, Outcome}
@@ -15,20 +15,20 @@ use Rattle.bg_scaledown.specs.declared.mark.Cause.{Cause}
 use Rattle.bg_scaledown.specs.declared.mark.Cause.TheVariants as cause
 use Rattle.bg_scaledown.specs.Tables.{Table}
 
--- a mark, and how many entries stood before the one that made it, which tells what came later
+-- a mark, and the number of entries before the one that made it; this number orders the marks
 pub record Stamp : Type 0 where
   pub mark : RevisionMark
-  pub stood : ℕ
+  pub position : ℕ
 
--- a stamp by its parts
+-- the stamp with these parts
 abbrev pub stamp_at : ℕ → Cause → ℕ → ℕ → Stamp
-stamp_at r c deadline stood = record {
+stamp_at r c deadline position = record {
   mark = record {
     revision = r;
     cause = c;
     deadline = deadline;
   };
-  stood = stood;
+  position = position;
 }
 
 -- the stamps of other revisions
@@ -41,12 +41,12 @@ stamp_of r stamps = find (λ stamp. stamp.mark.revision == r) stamps
 
 -- the stamps after an entry that is a mark of that kind for q
 abbrev pub stamped : Strategy → Option MarkKind → ℕ → ℕ → ℕ → List Stamp → List Stamp
-stamped s None q at stood stamps = stamps
-stamped s (Some Left) q at stood stamps = stamp_at q cause.Left (at + s.delay) stood ∷ others q stamps
-stamped s (Some Superseded) q at stood stamps = stamp_at q cause.Superseded at stood ∷ others q stamps
-stamped s (Some Aborted) q at stood stamps =
-    stamp_at q cause.Aborted (at + s.abort_delay) stood ∷ others q stamps
-stamped s (Some Cleared) q at stood stamps = others q stamps
+stamped s None q at position stamps = stamps
+stamped s (Some Left) q at position stamps = stamp_at q cause.Left (at + s.delay) position ∷ others q stamps
+stamped s (Some Superseded) q at position stamps = stamp_at q cause.Superseded at position ∷ others q stamps
+stamped s (Some Aborted) q at position stamps =
+    stamp_at q cause.Aborted (at + s.abort_delay) position ∷ others q stamps
+stamped s (Some Cleared) q at position stamps = others q stamps
 
 -- the revisions that an entry may mark
 abbrev pub touched : Entry → List Entry → List ℕ
@@ -61,24 +61,24 @@ touched (Verdict analysis Error) before =
     active_of before ∷ newest_of before ∷ stable_of before ∷ []
 touched _ before = []
 
--- the stamps after an entry, as far as it marks these revisions
+-- the stamps after an entry, with its effect on these revisions
 abbrev pub stamp_all : Strategy → Entry → List Entry → List ℕ → List Stamp → List Stamp
 stamp_all s e before [] stamps = stamps
 stamp_all s e before (q ∷ qs) stamps =
     stamped s (kind_of s q e before) q (moment (e ∷ before)) (length before)
     (stamp_all s e before qs stamps)
 
--- the marks that the entries made, the newest first, but those that later ones replaced or cleared
+-- the stamps that the entries made and no later entry replaced or cleared, newest first
 abbrev pub stamps_of : Strategy → List Entry → List Stamp
 stamps_of s [] = []
 stamps_of s (e ∷ before) = stamp_all s e before (touched e before) (stamps_of s before)
 
--- their marks
+-- the marks of the stamps
 abbrev pub marks_of : List Stamp → List RevisionMark
 marks_of [] = []
 marks_of (stamp ∷ stamps) = stamp.mark ∷ marks_of stamps
 
--- the table that the deadlines have after a past
+-- the table of the deadlines after a past
 abbrev pub table_of : Strategy → List Entry → Table
 table_of s past = record {
   delay = s.delay;
@@ -87,7 +87,7 @@ table_of s past = record {
   marks = marks_of (stamps_of s past);
 }
 
--- what holds of every past that a book can reach: a revision with a deadline exists and is scaled
-pub record DeadlinesStand (s : Strategy) (past : List Entry) : Type 0 where
+-- holds of every past that a book can reach: a revision with a deadline exists and is scaled
+pub record DeadlinesInvariant (s : Strategy) (past : List Entry) : Type 0 where
   pub exist : (r : ℕ) → IsTrue (is_some (deadline s r past)) → IsTrue (exists_in r past)
   pub scaled : (r : ℕ) → IsTrue (is_some (deadline s r past)) → IsTrue (is_scaled s r past)

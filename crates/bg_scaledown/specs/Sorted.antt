@@ -3,7 +3,7 @@ use Rattle.std.specs.Prelude.{◌≡◌, ◌≤◌, Bool, if◌then◌else◌, �
 use Rattle.bg_scaledown.specs.declared.mark.RevisionMark.{RevisionMark}
 use Rattle.bg_scaledown.specs.Due.{mark_of}
 
--- by the deadline, and where that is the same by the number of the revision
+-- m has the earlier deadline, or the same deadline and no greater revision number
 abbrev pub comes_before : RevisionMark → RevisionMark → Bool
 comes_before m n =
     nat_lt m.deadline n.deadline
@@ -24,7 +24,7 @@ abbrev pub OncePerRevision : List RevisionMark → Type 0
 OncePerRevision [] = Unit {0}
 OncePerRevision (m ∷ ms) = (mark_of m.revision ms ≡ None) × OncePerRevision ms
 
--- at most 64 marks, the same in both orders, and no two of a revision
+-- at most 64 marks, the same ones in both orders, and no two of the same revision
 pub record InBothOrders (newest_first by_deadline : List RevisionMark) : Type 0 where
   pub few : length newest_first ≤ 64
   pub sorted_is : by_deadline ≡ sorted newest_first

@@ -11,24 +11,23 @@ ghost use Rattle.bg_history.specs.Deadlines.{is_due as is_due_in_past};
 ghost use Rattle.bg_scaledown.specs.Due.{marks_without, has_room_for, deadline_in};
 ghost use Rattle.bg_scaledown.specs.Due.{exempts, is_due_in, IsLeastDue};
 ghost use Rattle.bg_scaledown.specs.Events.{with_aborted};
-ghost use Rattle.bg_scaledown.specs.Past.{table_of, DeadlinesStand};
+ghost use Rattle.bg_scaledown.specs.Past.{table_of, DeadlinesInvariant};
 ghost use Rattle.bg_scaledown.specs.declared.mark.Cause.TheVariants.{Left, Superseded};
 
 mod events;
 
-use crate::laws::table_tells_due;
+use crate::laws as scaledown_laws;
 use crate::mark::{Cause, RevisionMark};
 use crate::marks::Marks;
-use bg_history::laws::existing_ascends;
+use bg_history::laws as history_laws;
 use bg_revisions::Selectors;
 use std::marker::Model;
 
-/// The last mark of each revision that left the active service, was superseded or was aborted, in
-/// the order of the calls, with the delays and the limit of the strategy (Argo Rollouts, "BlueGreen
-/// Deployment Strategy": `scaleDownDelaySeconds`, `abortScaleDownDelaySeconds` and
-/// `scaleDownDelayRevisionLimit`). Contracts see the newest mark first.
+/// The newest mark of each revision that left the active service, was superseded or was aborted, with the delays and
+/// the limit of the strategy (Argo Rollouts, "BlueGreen Deployment Strategy": `scaleDownDelaySeconds`,
+/// `abortScaleDownDelaySeconds` and `scaleDownDelayRevisionLimit`). Contracts see the marks newest first.
 ///
-/// No call takes memory.
+/// No call allocates.
 #[derive(Drop)]
 pub struct Deadlines {
     delay: u32,
@@ -54,8 +53,8 @@ impl Model for Deadlines {
 }
 
 impl Deadlines {
-    /// No mark; the delays are in seconds, an aborted revision has no deadline where its delay is 0,
-    /// and a limit of none is any number of revisions.
+    /// A table without marks. The delays are in seconds. If `abort_delay` is 0, an aborted revision has no deadline.
+    /// If `limit` is `None`, any number of revisions may stay scaled.
     pub fn new(delay: u32, abort_delay: u32, limit: Option<u32>) -> Deadlines
         ensures { result ≡ record {
           delay = delay;
@@ -72,8 +71,8 @@ impl Deadlines {
         }
     }
 
-    /// The active service no longer selects the revision: it stays scaled for the delay. The
-    /// revision has a mark already, or fewer than 64 revisions have one.
+    /// Records that the active service no longer selects the revision, which stays scaled for the delay. `now` is in
+    /// seconds from the start. The revision must have a mark already, or fewer than 64 revisions have one.
     pub fn left_active(&mut self, revision: u64, now: u64)
         requires room { has_room_for (revision ∷ []) self.old.marks ≡ true }
         requires moment { now ≤ 2 ^ 53 }
@@ -90,8 +89,8 @@ impl Deadlines {
         });
     }
 
-    /// A deploy took the place of the revision, which wasn't active: it may be scaled down at once.
-    /// The revision has a mark already, or fewer than 64 revisions have one.
+    /// Records that a deploy took the place of the revision, which wasn't active and may be scaled down at once. `now`
+    /// is in seconds from the start. The revision must have a mark already, or fewer than 64 revisions have one.
     pub fn superseded(&mut self, revision: u64, now: u64)
         requires room { has_room_for (revision ∷ []) self.old.marks ≡ true }
         ensures { self.new ≡ record self.old {
@@ -106,9 +105,9 @@ impl Deadlines {
         });
     }
 
-    /// The attempt of the revision was stopped: it stays scaled for the delay of an aborted revision,
-    /// and has no deadline where that is 0. The revision has a mark already, or fewer than 64
-    /// revisions have one.
+    /// Records that the attempt of the revision was halted. The revision stays scaled for the delay of an aborted
+    /// revision; if that delay is 0, it has no deadline. `now` is in seconds from the start. The revision must have a
+    /// mark already, or fewer than 64 revisions have one.
     pub fn aborted(&mut self, revision: u64, now: u64)
         requires room { has_room_for (revision ∷ []) self.old.marks ≡ true }
         requires moment { now ≤ 2 ^ 53 }
@@ -128,7 +127,7 @@ impl Deadlines {
         }
     }
 
-    /// This is now the last mark of its revision.
+    /// Makes this the newest mark of its revision.
     fn set_mark(&mut self, mark: RevisionMark)
         requires room { has_room_for (mark.revision ∷ []) self.old.marks ≡ true }
         ensures { self.new ≡ record self.old {
@@ -138,16 +137,15 @@ impl Deadlines {
         self.marks.put(mark);
     }
 
-    /// The revision has no deadline any more.
+    /// Removes the deadline of the revision.
     pub fn clear(&mut self, revision: u64)
         ensures { self.new ≡ record self.old { marks = marks_without revision self.old.marks } }
     {
         self.marks.drop_mark(revision);
     }
 
-    /// The moment from which the revision may be scaled down: the deadline of its mark. None where
-    /// it has no mark. Where the marks are those of a history, it is the deadline that the history
-    /// gives.
+    /// The deadline of the revision: the moment from which it may be scaled down, in seconds from the start. `None` if
+    /// it has no mark. If the marks are those of a history, this is the deadline that the history gives.
     pub fn deadline(&self, revision: u64) -> Option<u64>
         ensures table { result ≡ deadline_in self.now revision }
         ensures past { (s : Strategy) (past : List Entry) → self.now ≡ table_of s past
@@ -161,18 +159,17 @@ impl Deadlines {
         None
     }
 
-    /// Whether the revision may be scaled down: it isn't exempt, and its deadline has come, or it
-    /// left the active service and at least as many as the limit, not exempt, left after it. Exempt
-    /// are the active, the preview and the stable revision; `exempt.newest` isn't read. Where the
-    /// marks are those of a history, and each marked revision exists and is scaled, it is what the
-    /// history says.
+    /// Whether the revision is due. A due revision isn't exempt, and one of these holds: its deadline has come; or it
+    /// left the active service, and at least `limit` revisions that aren't exempt left after it. The active, the
+    /// preview and the stable revision are exempt; `exempt.newest` isn't read. If the marks are those of a history, and
+    /// each marked revision exists and is scaled, the answer is the one that the history gives.
     pub fn is_due(&self, revision: u64, now: u64, exempt: Selectors) -> bool
         ensures table { result ≡ is_due_in self.now revision now exempt }
         ensures past { (s : Strategy) (past : List Entry) → self.now ≡ table_of s past
-            → DeadlinesStand s past → exempt ≡ selectors_of past → now ≡ moment past
+            → DeadlinesInvariant s past → exempt ≡ selectors_of past → now ≡ moment past
             → result ≡ is_due_in_past s revision past }
     {
-        table_tells_due();
+        scaledown_laws::table_tells_due();
         self.has_due_mark(revision, now, exempt)
     }
 
@@ -197,23 +194,22 @@ impl Deadlines {
         false
     }
 
-    /// The least number of a revision that is due and for which `empty` says true; none where no
-    /// revision is due and empty. Where the marks are those of a history, and each marked revision
-    /// exists and is scaled, it is the first of the existing revisions that the history says is due
-    /// and that is empty.
+    /// The least number of a revision that is due and for which `empty` gives true; `None` if there is none. If the
+    /// marks are those of a history, and each marked revision exists and is scaled, this is the first existing revision
+    /// that is due by the history and is empty.
     pub fn next_due<F: Fn(u64) -> bool>(&self, now: u64, exempt: Selectors, empty: F) -> Option<u64>
         requires { F.IsAlwaysCallable empty }
         // `p` is the test that `empty` computes.
         ensures table { (p : ℕ → Bool) → ((x : ℕ) (r : Bool) → F.post empty x r → r ≡ p x)
             → IsLeastDue self.now now exempt p result }
         ensures past { (s : Strategy) (past : List Entry) (p : ℕ → Bool)
-            → self.now ≡ table_of s past → DeadlinesStand s past
+            → self.now ≡ table_of s past → DeadlinesInvariant s past
             → exempt ≡ selectors_of past → now ≡ moment past
             → ((x : ℕ) (r : Bool) → F.post empty x r → r ≡ p x)
             → result ≡ find (λ r. is_due_in_past s r past && p r) (existing past) }
     {
-        existing_ascends();
-        // Of those that left, as many as the limit stay, the latest ones.
+        history_laws::existing_ascends();
+        // Of the revisions that left, the latest `limit` ones stay.
         let over = self
             .limited()
             .iter()
@@ -230,7 +226,7 @@ impl Deadlines {
             .min()
     }
 
-    /// The marks that the limit may tell due, the newest first: none without a limit.
+    /// The marks to which the limit applies, newest first; none without a limit.
     fn limited(&self) -> &[RevisionMark]
         ensures some { IfSome self.now.limit (λ _. result.now ≡ self.now.marks) }
         ensures none { IfNone self.now.limit (result.now ≡ []) }

@@ -1,4 +1,4 @@
-//! The deadlines after which an old revision may be scaled down.
+//! The deadlines after which an old revision may be scaled down, and the marks that set them.
 #![tactic(auto)]
 
 mod deadlines;

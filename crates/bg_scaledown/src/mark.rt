@@ -1,25 +1,25 @@
-//! What became of a revision.
+//! The mark that gives a revision its deadline.
 ghost use Rattle.std.specs.Prelude.{◌≡◌};
 ghost use Rattle.bg_scaledown.specs.Due.{has_left};
 
-/// Why a revision has a deadline.
+/// The reason why a revision has a deadline.
 #[derive(Clone, Copy, PartialEq, Eq, Debug, Drop)]
 pub enum Cause {
-    /// The active service selects another revision: it stays scaled for the delay.
+    /// The active service no longer selects it: it stays scaled for the delay.
     Left,
     /// A deploy took its place before it was active: it may be scaled down at once.
     Superseded,
-    /// Its attempt was stopped: it stays scaled for the delay of an aborted revision.
+    /// Its attempt was halted: it stays scaled for the delay of an aborted revision.
     Aborted,
 }
 
-/// The last mark of a revision.
+/// The newest mark of a revision.
 #[derive(Clone, Copy, PartialEq, Eq, Debug, Drop)]
 pub struct RevisionMark {
     /// The number of the revision.
     pub revision: u64,
     pub cause: Cause,
-    /// The moment from which the revision may be scaled down, in seconds.
+    /// The moment from which the revision may be scaled down, in seconds from the start.
     pub deadline: u64,
 }
 

@@ -1,4 +1,4 @@
-//! The marks in the order of marking and in that of their deadlines.
+//! The marks, in the order in which they were made and in the order of their deadlines.
 ghost use Rattle.std.specs.Prelude.{◌≡◌, ◌<◌, ◌≤◌, [], ◌∷◌, length};
 ghost use Rattle.bg_scaledown.specs.Due.{marks_without};
 ghost use Rattle.bg_scaledown.specs.Sorted.{comes_before, inserted, sorted, OncePerRevision};
@@ -7,8 +7,8 @@ use crate::mark::RevisionMark;
 use crate::row::Row;
 use std::marker::Model;
 
-/// At most 64 marks, one of a revision, which contracts see newest first. They are kept in the
-/// order of their deadlines too, so that each order is read from its front. Takes no memory.
+/// At most 64 marks, at most one of each revision. Contracts see them newest first. They are also kept in the order
+/// of their deadlines, so a reader of either order starts at its front. No call allocates.
 #[derive(Drop)]
 pub struct Marks {
     newest_first: Row,
@@ -38,7 +38,7 @@ impl Marks {
         }
     }
 
-    /// Puts the mark in front, in place of the last one of its revision.
+    /// Puts the mark in front, and drops the mark that its revision had.
     pub fn put(&mut self, mark: RevisionMark)
         requires { length (marks_without mark.revision self.old) < 64 }
         ensures { self.new ≡ mark ∷ marks_without mark.revision self.old }
@@ -64,8 +64,8 @@ impl Marks {
         self.newest_first.as_slice()
     }
 
-    /// The marks by their deadlines, and where those are the same by the numbers of the revisions.
-    /// No revision has two.
+    /// The marks in ascending order of their deadlines; equal deadlines are in ascending order of the revision numbers.
+    /// No revision has two marks.
     pub fn by_deadline(&self) -> &[RevisionMark]
         ensures marks { result.now ≡ sorted self.now }
         ensures once { OncePerRevision self.now }
@@ -88,7 +88,7 @@ fn others(marks: &[RevisionMark], revision: u64) -> Row
     kept
 }
 
-/// The mark in front of those of other revisions.
+/// The mark, followed by the marks of other revisions.
 fn marked(marks: &[RevisionMark], newest: RevisionMark) -> Row
     requires few { length marks.now ≤ 64 }
     requires room { length (marks_without newest.revision marks.now) < 64 }
@@ -124,7 +124,7 @@ fn placed(marks: &[RevisionMark], mark: RevisionMark) -> Row
     kept
 }
 
-/// Whether the first mark has the earlier deadline, or the same and no greater number.
+/// Whether the first mark has the earlier deadline, or the same deadline and no greater revision number.
 fn comes_before(first: RevisionMark, second: RevisionMark) -> bool
     ensures { result ≡ comes_before first second }
 {

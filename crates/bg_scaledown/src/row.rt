@@ -4,7 +4,7 @@ ghost use Rattle.std.specs.Prelude.{◌≡◌, ◌<◌, ◌≤◌, [], ◌∷◌
 use crate::mark::{Cause, RevisionMark};
 use std::marker::Model;
 
-/// The most marks that a row holds: one for each revision.
+/// The greatest number of marks in a row: one for each revision.
 const MOST_MARKS: usize = 64;
 
 const NO_MARK: RevisionMark = RevisionMark {
@@ -13,7 +13,7 @@ const NO_MARK: RevisionMark = RevisionMark {
     deadline: 0,
 };
 
-/// At most 64 marks in an array, which contracts see as a list.
+/// At most 64 marks in an array. Contracts see them as a list.
 #[derive(Drop)]
 pub struct Row {
     table: [RevisionMark; MOST_MARKS],

@@ -24,7 +24,7 @@ use Rattle.bg_script.specs.declared.control_side.FirstRevision.{FirstRevision}
 use Rattle.bg_script.specs.declared.control_side.ControlEnd.TheVariants as control_end
 use Rattle.bg_script.proofs.Quitting.{is_the_quit, not_quit}
 use Rattle.bg_script.specs.AnswerTexts.{answer_text}
-use Rattle.bg_script.specs.Scripts.{IsDropped, Written, Said, Reported, text_of, written_text}
+use Rattle.bg_script.specs.Scripts.{IsDropped, Written, Said, Reported, text_of_all, written_text}
 use Rattle.bg_script.specs.Connections.{AnsweredBy, AnswersAtDesk, AnswersBeforeOpen, ClosedAnswer, EndsByHttp, StepBeforeOpen, DeskStep, EventAnswer, MayBeAsked, Orders, WroteAnswers, WroteAtDesk, WroteReport}
 
 abbrev pub Step : Type 1
@@ -35,13 +35,13 @@ Step = Result Command LineFault → Written → Type 0
 abbrev pub Goes : Step → Option (List ℕ) → Option (List ℕ) → List ℕ → List ℕ → Type 0
 Goes step first now xs ys =
     (last : Option (List ℕ)) (rest : List (List ℕ)) (later : List Written) → AnsweredBy step (lines_of ys) rest later
-    → Appends now last (text_of later) → WroteAnswers step first last (lines_of xs) rest
+    → Appends now last (text_of_all later) → WroteAnswers step first last (lines_of xs) rest
 
 -- nothing was written yet
 pub goes_nowhere : (step : Step) (first : Option (List ℕ)) (xs : List ℕ) → Goes step first first xs xs
 goes_nowhere step first xs = λ last rest later answers appended. record { all = later; answers = answers; appended = appended }
 
--- one more line is answered, which is no fault that is a line of HTTP
+-- one more line is answered, which is not both a fault and a line of HTTP
 goes_on : (step : Step) (first now new : Option (List ℕ)) (read : Result Command LineFault) (written : Written) (http : Bool) (xs ys zs : List ℕ)
     → Goes step first now xs ys → NextIs (Some read) http ys zs → http ≡ false → orders_quit read ≡ false → (MayBeAsked read → step read written)
     → Appends now new (written_text written) → Goes step first new xs zs
@@ -65,7 +65,7 @@ goes_on_at_desk first now new read http xs ys zs p line plain other w =
 stops : (step : Step) (first now : Option (List ℕ)) (xs ys : List ℕ) → Goes step first now xs ys → WroteAnswers step first now (lines_of xs) (lines_of ys)
 stops step first now xs ys p = p now (lines_of ys) [] refl (Appends-nil now)
 
--- the next line orders this
+-- the next line gives this command
 ordered : (order : Command) (read : Result Command LineFault) (http : Bool) (ys zs : List ℕ) → NextIs (Some read) http ys zs → read ≡ Ok order
     → Orders order (lines_of ys) (lines_of zs)
 ordered order read http ys zs line is = (line.0, line.1, subst (λ r. IsReadAs (line_reading line.0) r) is line.2)
@@ -115,12 +115,12 @@ ends_at_desk first now http xs ys zs p line = record {
   ends = (line.0, refl);
 }
 
--- what speaks HTTP is a fault
+-- a line that speaks HTTP is a fault
 fault_of_http : (read : Result Command LineFault) (line : List ℕ) → speaks_http read line ≡ true → (fault : LineFault) × (read ≡ Err fault) × (is_http_line line ≡ true)
 fault_of_http (Err fault) line http = (fault, refl, http)
 fault_of_http (Ok command) line http = cc
 
--- the next line was answered, and speaks HTTP
+-- the next line was answered, and is a line of HTTP
 ended_by_http : (now new : Option (List ℕ)) (read : Result Command LineFault) (http : Bool) (ys zs : List ℕ) → NextIs (Some read) http ys zs → http ≡ true
     → ((fault : LineFault) → read ≡ Err fault → Appends now new (answer_text (answer.Unread fault))) → EndsByHttp now new (lines_of ys) (lines_of zs)
 ended_by_http now new read http ys zs line is told =
@@ -134,7 +134,7 @@ ended_by_http now new read http ys zs line is told =
       answered = told found.0 found.1;
     }
 
--- what a fault was answered while no book is open
+-- the answer to a fault while no book is open
 fault_told : (now new : Option (List ℕ)) (read : Result Command LineFault) (said : Answer) (fault : LineFault) → orders_quit read ≡ false
     → (MayBeAsked read → ClosedAnswer read said) → Appends now new (answer_text said) → read ≡ Err fault → Appends now new (answer_text (answer.Unread fault))
 fault_told now new read said fault other s wrote is =

@@ -1,4 +1,4 @@
--- What is found in a part is found in the bytes that it was taken from.
+-- The finding for a part is the finding for the bytes from which it was read.
 use Rattle.std.proofs.Common.{◌≡◌, ◌≢◌, ◌≤◌, ◌⊎◌, inl, inr, ℕ, List, length, Option, None, Some, subst}
 use Rattle.std.specs.Prelude.{Result, Ok, Err, MatchResult, IfOk, IfSome}
 use Rattle.std.specs.Io.KnownBytes.{Appends}
@@ -17,7 +17,7 @@ use Rattle.bg_script.specs.Findings.{IsFinding, IsFoundIn, status_of}
 use Rattle.bg_script.specs.Findings.{finding_text}
 use Rattle.bg_script.specs.Checks.{Checks}
 
--- a fault of the text that is not want of memory is what was found
+-- a fault of the text that is not an allocation failure is the finding
 pub refused_found : (part : StrategyPart) (bytes : List ℕ) (e : StrategyFault) (r : Result Finding RunEnd)
     → ((f : Finding) → f ≡ Refused e → IsFaultIn bytes e × (e ≢ fault.OutOfMemory) → IsFoundIn part f)
     → (e ≡ fault.OutOfMemory) ⊎ IsFaultIn bytes e
@@ -37,7 +37,7 @@ is_finding part.TooLarge (Means s) xs ys whole found = absurd found
 is_finding part.TooLarge (Refused e) xs ys whole found = absurd found
 is_finding part.TooLarge TooLarge xs ys whole found = whole
 
--- what is found in the part that is the whole input is found in the input
+-- the finding for the part that is the whole input is the finding for the input
 pub found_in_all : (known after : Option (List ℕ)) (p : StrategyPart) (r : Result Finding RunEnd) → Known known after (IsWhole p)
     → MatchResult r (IsFoundIn p) (λ end. end ≡ run_end.OutOfMemory) → IfOk r (λ f. IfSome known (IsFinding f))
 found_in_all known after p (Err end) taken found = tt
@@ -45,7 +45,7 @@ found_in_all None after p (Ok f) taken found = tt
 found_in_all (Some xs) None p (Ok f) taken found = absurd taken
 found_in_all (Some xs) (Some ys) p (Ok f) taken found = is_finding p f xs ys taken found
 
--- the lines of what was found in the whole input were written
+-- the lines of the finding for the whole input were written
 pub checks_all : (known first last : Option (List ℕ)) (f : Finding) (status : ℕ)
     → IfSome known (IsFinding f) → Appends first last (finding_text f) → status ≡ status_of f → IfSome known (Checks first last status)
 checks_all None first last f status found written is = tt

@@ -1,4 +1,4 @@
--- A buffer that was just made holds back nothing of its reader.
+-- A new buffer holds no bytes of its reader.
 use Rattle.std.proofs.Common.{◌≡◌, ℕ, List, [], if◌then◌else◌, ◌==◌, Option, None, Some, refl, ap, ◌∙◌, subst}
 use Rattle.std.specs.Io.KnownBytes.{prepend_known}
 use Rattle.std.specs.Io.Buffered.{reader_buffer, reader_capacity, reader_inner, reader_remaining}
@@ -16,6 +16,6 @@ nothing_held remaining made inner is empty room =
     ∙ ap (λ l. prepend_known l (remaining (reader_inner made))) empty
     ∙ none_before (remaining (reader_inner made)) ∙ ap remaining is
 
--- what is taken of the buffer is taken of the reader
+-- the bytes that are read from the buffer are read from the reader
 pub of_reader : (P : List ℕ → List ℕ → Type 0) (held known after : Option (List ℕ)) → held ≡ known → Known held after P → Known known after P
 of_reader P held known after same taken = subst (λ (k : Option (List ℕ)). Known k after P) same taken

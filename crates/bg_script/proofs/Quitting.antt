@@ -22,7 +22,7 @@ not_quit read other = λ is. true_not_false (sym (ap orders_quit is) ∙ other)
     true_not_false : true ≡ false → ⊥
     true_not_false same = cc
 
--- what is not some is none
+-- an option that is not some is none
 pub none_of : {A : Type 0} (o : Option A) → ((a : A) → o ≢ Some a) → o ≡ None
 none_of None other = refl
 none_of (Some a) other = absurd (other a refl)

@@ -1,4 +1,5 @@
--- What is found in the part before the script, and what is answered to the script, is so of the bytes that both were taken from.
+-- The finding for the part before the script, and the answers to the script, are those for the bytes from which both
+-- were read.
 use Rattle.std.proofs.Common.{◌≡◌, ◌≤◌, ℕ, Bool, List, length, if◌then◌else◌, Option, None, Some, refl, subst}
 use Rattle.std.specs.Prelude.{IfSome}
 use Rattle.bg_strategy.specs.Reading.{IsStrategyIn, IsFaultIn}

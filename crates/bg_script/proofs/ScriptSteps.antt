@@ -12,15 +12,15 @@ use Rattle.bg_script.specs.declared.answer.Answer.TheVariants.{Opened}
 use Rattle.bg_operator.specs.Commands.{IsReadAs, line_reading}
 use Rattle.bg_operator.specs.OperatorLines.{NextIs, orders_quit}
 use Rattle.bg_script.proofs.Quitting.{is_the_quit, not_quit}
-use Rattle.bg_script.specs.Scripts.{Stage, Written, Said, Ran, Answered, is_fault_written, has_fault, text_of}
-use Rattle.bg_script.specs.Serving.{RanOpened, StepRead, Served}
+use Rattle.bg_script.specs.Scripts.{Stage, Written, Said, Ran, Answered, is_fault_written, has_fault, text_of_all}
+use Rattle.bg_script.specs.LineAnswers.{RanOpened, StepRead, LineAnswered}
 
 -- What was written since first, with answers still to be written for the bytes ys, is answers to the
 -- bytes xs.
 abbrev pub Goes : Stage → Option (List ℕ) → Option (List ℕ) → Stage → Bool → List ℕ → List ℕ → Type 0
 Goes start first now stage faulted xs ys =
     (last : Option (List ℕ)) (later : List Written) → Answered stage (lines_of ys) later
-    → Appends now last (text_of later) → Ran start first last (faulted || has_fault later) xs
+    → Appends now last (text_of_all later) → Ran start first last (faulted || has_fault later) xs
 
 or_assoc : (a b c : Bool) → (a || (b || c)) ≡ ((a || b) || c)
 or_assoc true b c = refl
@@ -32,7 +32,7 @@ or_false false = refl
 
 -- one more line is answered
 pub goes_on : (start stage next : Stage) (first now new : Option (List ℕ)) (faulted fault : Bool) (read : Result Command LineFault) (http : Bool) (xs ys zs : List ℕ)
-    → Goes start first now stage faulted xs ys → NextIs (Some read) http ys zs → orders_quit read ≡ false → Served stage read now new next fault
+    → Goes start first now stage faulted xs ys → NextIs (Some read) http ys zs → orders_quit read ≡ false → LineAnswered stage read now new next fault
     → Goes start first new next (faulted || fault) xs zs
 goes_on start stage next first now new faulted fault read http xs ys zs p line other s = λ last later answers appended.
     let more : Answered stage (lines_of ys) (s.written ∷ later) =
@@ -42,18 +42,18 @@ goes_on start stage next first now new faulted fault read http xs ys zs p line o
     or_assoc faulted (is_fault_written s.written) (has_fault later) ∙ ap (λ t. (faulted || t) || has_fault later) (sym s.wrote.fault_is) in
     subst (λ (t : Bool). Ran start first last t xs) same all
 
--- a run that goes on from here
+-- a run that continues from here
 pub goes_through : (start stage : Stage) (first now last : Option (List ℕ)) (faulted later : Bool) (xs ys : List ℕ)
     → Goes start first now stage faulted xs ys → Ran stage now last later ys → Ran start first last (faulted || later) xs
 goes_through start stage first now last faulted later xs ys p r =
     subst (λ (t : Bool). Ran start first last (faulted || t) xs) (sym r.fault_is) (p last r.all r.answers r.appended)
 
--- a book is opened, which is no fault, and all later lines are answered
+-- a book is opened, which is not a fault, and all later lines are answered
 pub goes_opened : (start stage next : Stage) (first now last : Option (List ℕ)) (faulted later : Bool) (read : Result Command LineFault) (http : Bool) (xs ys zs : List ℕ)
     → Goes start first now stage faulted xs ys → NextIs (Some read) http ys zs → orders_quit read ≡ false → StepRead stage read (Said Opened) next → RanOpened next now last later zs
     → Ran start first last (faulted || later) xs
 goes_opened start stage next first now last faulted later read http xs ys zs p line other step r =
-    let served : Served stage read now r.begun next false =
+    let served : LineAnswered stage read now r.begun next false =
     record { written = Said Opened; step = step; wrote = record { appended = r.said; fault_is = refl } } in
     let same : ((faulted || false) || later) ≡ (faulted || later) = ap (λ t. t || later) (or_false faulted) in
     subst (λ (t : Bool). Ran start first last t xs) same

@@ -1,4 +1,4 @@
--- How the answers to the lines of a script are written.
+-- The texts of the answers to the lines of a script.
 use Rattle.std.specs.Prelude.{ℕ, Bool, true, false, List, ◌++◌, codes}
 use Rattle.std.specs.Fmt.{decimal}
 use Rattle.bg_rollout.specs.FaultNames.{open_fault_name}
@@ -19,7 +19,7 @@ answer_text NotHere = refused (codes "NotHere")
 answer_text OutOfMemory = refused (codes "OutOfMemory")
 answer_text (Unread fault) = codes "fault " ++ line_fault_name fault ++ codes "\n"
 
--- the answer is written as a fault, after which the exit status is 1
+-- the answer counts as a fault, which makes the exit status 1
 abbrev pub is_fault : Answer → Bool
 is_fault (Unread fault) = true
 is_fault _ = false

@@ -1,10 +1,10 @@
--- What `check` answers.
+-- The output of `check`.
 use Rattle.std.specs.Prelude.{◌≡◌, ℕ, List, Option}
 use Rattle.std.specs.Io.KnownBytes.{Appends}
 use Rattle.bg_script.specs.declared.finding.Finding.{Finding}
 use Rattle.bg_script.specs.Findings.{finding_text, IsFinding, status_of}
 
--- from first to last the lines were written of what is found in the bytes, and this is the status
+-- from first to last the lines of the finding for the bytes were written, and this is the status
 pub record Checks (first last : Option (List ℕ)) (status : ℕ) (bytes : List ℕ) : Type 0 where
   pub finding : Finding
   pub found : IsFinding finding bytes

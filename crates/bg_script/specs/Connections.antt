@@ -1,4 +1,4 @@
--- What the lines of a control connection are answered.
+-- The answers to the lines of a control connection.
 use Rattle.std.specs.Prelude.{◌≡◌, ◌≢◌, ◌≤◌, ℕ, true, false, List, [], ◌∷◌, Option, None, Result, Ok, Err}
 use Rattle.std.specs.Io.KnownBytes.{Appends}
 use Rattle.bg_rollout.specs.declared.control.Control.{Control}
@@ -24,13 +24,13 @@ use Rattle.bg_script.specs.declared.control_side.BeforeOpen.TheVariants as befor
 use Rattle.bg_script.specs.declared.control_side.ControlEnd.{ControlEnd}
 use Rattle.bg_script.specs.declared.control_side.ControlEnd.TheVariants as control_end
 use Rattle.bg_script.specs.AnswerTexts.{answer_text}
-use Rattle.bg_script.specs.Scripts.{IsDropped, Written, Said, Reported, text_of, written_text}
+use Rattle.bg_script.specs.Scripts.{IsDropped, Written, Said, Reported, text_of_all, written_text}
 
--- a line that was read so is one to be answered
+-- a line with this result is answered
 abbrev pub MayBeAsked : Result Command LineFault → Type 0
 MayBeAsked read = read ≢ Ok command.Quit
 
--- what a line that was read so is answered while no book is open
+-- the answer to a line with this result while no book is open
 abbrev pub ClosedAnswer : Result Command LineFault → Answer → Type 0
 ClosedAnswer (Err fault) said = said ≡ answer.Unread fault
 ClosedAnswer (Ok (command.Open name ports)) said = ⊥
@@ -41,12 +41,12 @@ ClosedAnswer (Ok command.Report) said = said ≡ answer.NotOpen
 ClosedAnswer (Ok command.Compact) said = said ≡ answer.NotOpen
 ClosedAnswer (Ok command.Quit) said = ⊥
 
--- while no book is open a line that was read so is answered so; it opens none
+-- while no book is open, this is the answer to a line with this result, which opens no book
 abbrev pub StepBeforeOpen : Result Command LineFault → Written → Type 0
 StepBeforeOpen read (Said said) = ClosedAnswer read said
 StepBeforeOpen read (Reported book) = ⊥
 
--- what an event is answered by a book: the number of outcomes by which it stepped, or its refusal
+-- the reply of a book to an event: the number of outcomes of its step, or the refusal
 abbrev pub EventReply : Routing → Control → Reply → Type 0
 EventReply book event (Done outcomes) =
     (control_refusal book event ≡ None) × (outcomes ≤ 140)
@@ -55,7 +55,7 @@ EventReply book event (ControlRefused fault) =
     IsRefusedBy (control_refusal book event) control_fault.OutOfMemory fault
 EventReply book event _ = ⊥
 
--- what an event is answered at a desk: by a book that has what the headline says
+-- the reply to an event at a desk: that of a book with the properties of the headline
 abbrev pub EventAnswer : Control → Reply → Type 0
 EventAnswer event reply = (book : Routing) × Headline book × EventReply book event reply
 
@@ -64,18 +64,18 @@ abbrev pub EventStep : Control → Written → Type 0
 EventStep event (Said (answer.Made reply)) = EventAnswer event reply
 EventStep event _ = ⊥
 
--- the report of such a book was written, or memory for it was refused
+-- the report of such a book was written, or the allocation for it failed
 abbrev pub ReportStep : Written → Type 0
 ReportStep (Reported book) = Headline book
 ReportStep (Said said) = said ≡ answer.OutOfMemory
 
--- the number of entries that such a book drops when it is compacted
+-- the answer is the number of entries that such a book drops when it is compacted
 abbrev pub CompactionStep : Written → Type 0
 CompactionStep (Said (answer.Compacted count)) =
     (book : Routing) × Headline book × IsDropped book count
 CompactionStep _ = ⊥
 
--- what a line that was read so is answered at a desk
+-- the answer to a line with this result at a desk
 abbrev pub DeskStep : Result Command LineFault → Written → Type 0
 DeskStep (Err fault) written = written ≡ Said (answer.Unread fault)
 DeskStep (Ok (command.Open name ports)) written = written ≡ Said answer.AlreadyOpen
@@ -86,28 +86,28 @@ DeskStep (Ok command.Report) written = ReportStep written
 DeskStep (Ok command.Compact) written = CompactionStep written
 DeskStep (Ok command.Quit) written = ⊥
 
--- what a line that was read so asks of an open book, or what it is answered without one
+-- what a line with this result asks an open book for, or its answer without a book
 abbrev pub Asks : Result Command LineFault → Asked → Type 0
 Asks read (asked.Event event) = read ≡ Ok (command.Control event)
 Asks read asked.Report = read ≡ Ok command.Report
 Asks read asked.Compaction = read ≡ Ok command.Compact
 Asks read (asked.Nothing said) = DeskStep read (Said said)
 
--- from first to last the report was written, or that memory for it was refused
+-- from first to last the report was written, or the answer that the allocation for it failed
 pub record WroteReport (first last : Option (List ℕ)) : Type 0 where
   pub written : Written
   pub step : ReportStep written
   pub appended : Appends first last (written_text written)
 
--- such an answer to a line that was read so was written
+-- such an answer to a line with this result was written
 pub record WroteAtDesk (read : Result Command LineFault) (first last : Option (List ℕ))
     : Type 0 where
   pub written : Written
   pub step : MayBeAsked read → DeskStep read written
   pub appended : Appends first last (written_text written)
 
--- The lines may be answered so by this step, one after the other, and the rest is not answered. None of
--- those that are answered is a fault and a line of HTTP.
+-- This step may give these answers to the lines, one after the other, and the rest is not answered. No
+-- answered line is a fault and a line of HTTP.
 abbrev pub AnsweredBy : (Result Command LineFault → Written → Type 0) → List (List ℕ)
     → List (List ℕ) → List Written → Type 0
 AnsweredBy step lines rest [] = lines ≡ rest
@@ -121,14 +121,14 @@ pub record WroteAnswers (step : Result Command LineFault → Written → Type 0)
     (first last : Option (List ℕ)) (lines rest : List (List ℕ)) : Type 0 where
   pub all : List Written
   pub answers : AnsweredBy step lines rest all
-  pub appended : Appends first last (text_of all)
+  pub appended : Appends first last (text_of_all all)
 
--- the first line orders this, and the later ones are unread
+-- the first line gives this command, and the later ones are unread
 abbrev pub Orders : Command → List (List ℕ) → List (List ℕ) → Type 0
 Orders command lines later = (line : List ℕ) × (lines ≡ line ∷ later)
     × IsReadAs (line_reading line) (Ok command)
 
--- the first line is a fault and a line of HTTP; from first to last its fault was answered, and the
+-- the first line is a fault and a line of HTTP; from first to last its fault was written, and the
 -- later lines are unread
 pub record EndsByHttp (first last : Option (List ℕ)) (lines later : List (List ℕ)) : Type 0 where
   pub line : List ℕ
@@ -138,8 +138,8 @@ pub record EndsByHttp (first last : Option (List ℕ)) (lines later : List (List
   pub is_http : is_http_line line ≡ true
   pub answered : Appends first last (answer_text (answer.Unread fault))
 
--- why lines are not answered any more while no book is open, where these are unread then; from first
--- to last nothing was written but the fault of a line of HTTP
+-- why no more lines are answered while no book is open, and which lines are unread then; from first
+-- to last only the fault of a line of HTTP was written, if there is one
 abbrev pub EndsBeforeOpen : BeforeOpen → Option (List ℕ) → Option (List ℕ) → List (List ℕ)
     → List (List ℕ) → Type 0
 EndsBeforeOpen (before_open.Open revision) first last rest later =

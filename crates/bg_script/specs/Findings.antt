@@ -1,4 +1,4 @@
--- What the text of a strategy turns out to be, and how that is written.
+-- The result of reading the text of a strategy, and its text.
 use Rattle.std.specs.Prelude.{◌≢◌, ℕ, ◌<◌, ◌≤◌, List, length, codes, ⊤}
 use Rattle.bg_strategy.specs.Reading.{IsStrategyIn, IsFaultIn}
 use Rattle.bg_strategy.specs.declared.fault.StrategyFault.TheVariants.{OutOfMemory}
@@ -9,15 +9,15 @@ use Rattle.bg_operator.specs.declared.strategy_part.StrategyPart.TheVariants as 
 use Rattle.bg_script.specs.declared.finding.Finding.{Finding}
 use Rattle.bg_script.specs.declared.finding.Finding.TheVariants.{Means, Refused, TooLarge}
 
--- the bytes mean this strategy, or have this first fault, or are too many; memory is no fault of
--- theirs
+-- the bytes mean this strategy, or have this first fault, or are too many; an allocation failure is
+-- not a fault of the bytes
 abbrev pub IsFinding : Finding → List ℕ → Type 0
 IsFinding (Means strategy) bytes = IsStrategyIn bytes strategy × (length bytes ≤ largest_strategy)
 IsFinding (Refused fault) bytes =
     IsFaultIn bytes fault × (fault ≢ OutOfMemory) × (length bytes ≤ largest_strategy)
 IsFinding TooLarge bytes = largest_strategy < length bytes
 
--- this was found in a part: it means this strategy, or has this first fault, or is too large
+-- the finding for a part: it means this strategy, or has this first fault, or is too large
 abbrev pub IsFoundIn : StrategyPart → Finding → Type 0
 IsFoundIn (part.Whole text) (Means strategy) = IsStrategyIn text.items strategy
 IsFoundIn (part.Whole text) (Refused fault) = IsFaultIn text.items fault × (fault ≢ OutOfMemory)
@@ -26,13 +26,13 @@ IsFoundIn part.TooLarge (Means strategy) = ⊥
 IsFoundIn part.TooLarge (Refused fault) = ⊥
 IsFoundIn part.TooLarge TooLarge = ⊤
 
--- the exit status: 1 after a fault
+-- the exit status: 1 after a fault, otherwise 0
 abbrev pub status_of : Finding → ℕ
 status_of (Means strategy) = 0
 status_of (Refused fault) = 1
 status_of TooLarge = 1
 
--- the lines of what was found
+-- the lines of a finding
 abbrev pub finding_text : Finding → List ℕ
 finding_text (Means strategy) = strategy_text strategy
 finding_text (Refused fault) = fault_text fault

@@ -2,5 +2,5 @@ pub mod Findings
 pub mod Checks
 pub mod AnswerTexts
 pub mod Scripts
-pub mod Serving
+pub mod LineAnswers
 pub mod Connections

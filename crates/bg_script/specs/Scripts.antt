@@ -1,4 +1,4 @@
--- What the lines of a script are answered.
+-- The answers to the lines of a script.
 use Rattle.std.specs.Prelude.{◌≡◌, ◌+◌, ℕ, Bool, false, ◌||◌, length, List, [], ◌∷◌, ⊤, Option, None, Result, Ok, Err, if◌then◌else◌}
 use Rattle.std.specs.List.{flat_map}
 use Rattle.std.specs.Io.KnownBytes.{Appends}
@@ -26,8 +26,8 @@ use Rattle.bg_script.specs.declared.finding.Finding.TheVariants.{Means}
 use Rattle.bg_script.specs.AnswerTexts.{answer_text, is_fault}
 use Rattle.bg_script.specs.Findings.{finding_text, IsFinding, status_of}
 
--- where a script stands: a book is to be opened with this strategy and so many seats, or this book
--- is open with these seats
+-- the stage of a script: no book is open, and one may be opened with this strategy and this many
+-- seats; or this book is open with these seats
 pub data Stage : Type 0 where
   Closed : (strategy : Strategy) (seats : ℕ) → Stage
   Running : (book : Routing) (seats : List Holding) → Stage
@@ -46,7 +46,7 @@ abbrev pub is_fault_written : Written → Bool
 is_fault_written (Said answer) = is_fault answer
 is_fault_written (Reported book) = false
 
--- what the opening of a book is answered while none is open
+-- the answer to the opening of a book while none is open
 abbrev pub OpenStep : Strategy → ℕ → List ℕ → List ℕ → Written → Stage → Type 0
 OpenStep s count name ports (Said Opened) (Running book seats) =
     (open_refusal s name ports count usual_limits ≡ None)
@@ -56,11 +56,11 @@ OpenStep s count name ports (Said (OpenRefused fault)) (Closed strategy seats) =
     × (strategy ≡ s) × (seats ≡ count)
 OpenStep s count name ports _ _ = ⊥
 
--- this is answered, and the script stands where it stood
+-- this is the answer, and the stage of the script does not change
 abbrev pub Stays : Stage → Answer → Written → Stage → Type 0
 Stays stage answer written next = (written ≡ Said answer) × (next ≡ stage)
 
--- what a line that was read so is answered while no book is open
+-- the answer to a line with this result while no book is open
 abbrev pub ClosedStep : Strategy → ℕ → Result Command LineFault → Written → Stage → Type 0
 ClosedStep s count (Err fault) written next = Stays (Closed s count) (Unread fault) written next
 ClosedStep s count (Ok (Open name ports)) written next = OpenStep s count name ports written next
@@ -72,13 +72,13 @@ ClosedStep s count (Ok Report) written next = Stays (Closed s count) NotOpen wri
 ClosedStep s count (Ok Compact) written next = Stays (Closed s count) NotOpen written next
 ClosedStep s count (Ok Quit) written next = ⊥
 
--- what a call is answered, by the rules of the book
+-- the answer to a call, by the rules of the book
 abbrev pub CallMade : Routing → List Holding → Call → Written → Stage → Type 0
 CallMade book seats made (Said (Made reply)) (Running new new_seats) =
     CallStep book seats made reply new new_seats
 CallMade book seats made _ _ = ⊥
 
--- so many entries are dropped from the book's history when it is compacted
+-- this many entries are dropped from the book's history when it is compacted
 abbrev pub IsDropped : Routing → ℕ → Type 0
 IsDropped book count = count + length (with_compacted book).past ≡ length book.past
 
@@ -88,7 +88,8 @@ CompactedStep book seats (Said (Compacted count)) next =
     IsDropped book count × (next ≡ Running (with_compacted book) seats)
 CompactedStep book seats _ next = ⊥
 
--- what a line that was read so is answered while a book is open: only a call and a compaction change it
+-- the answer to a line with this result while a book is open: only a call and a compaction change the
+-- book
 abbrev pub RunningStep : Routing → List Holding → Result Command LineFault → Written → Stage
     → Type 0
 RunningStep book seats (Err fault) written next =
@@ -106,18 +107,19 @@ RunningStep book seats (Ok Report) written next =
 RunningStep book seats (Ok Compact) written next = CompactedStep book seats written next
 RunningStep book seats (Ok Quit) written next = ⊥
 
--- a line that was read so is answered so, and the script stands so then; `quit` is not answered
+-- the answer to a line with this result, and the stage of the script after it; `quit` is not
+-- answered
 abbrev pub ReadStep : Stage → Result Command LineFault → Written → Stage → Type 0
 ReadStep (Closed s count) read written next = ClosedStep s count read written next
 ReadStep (Running book seats) read written next = RunningStep book seats read written next
 
--- a line may be answered so: as it is read, or for want of memory where it needs some
+-- a possible answer to a line: by its result, or by an allocation failure if the line needs memory
 abbrev pub LineStep : Stage → List ℕ → Written → Stage → Type 0
 LineStep stage line written next =
     (read : Result Command LineFault) × IsReadAs (line_reading line) read
     × ReadStep stage read written next
 
--- the lines of a script may be answered so, one after the other, up to `quit` or to the end
+-- the possible answers to the lines of a script, one after the other, up to `quit` or to the end
 abbrev pub Answered : Stage → List (List ℕ) → List Written → Type 0
 Answered stage [] [] = ⊤
 Answered stage [] (written ∷ later) = ⊥
@@ -126,8 +128,8 @@ Answered stage (line ∷ lines) (written ∷ later) =
     (next : Stage) × LineStep stage line written next × Answered next lines later
 
 -- all that is written
-abbrev pub text_of : List Written → List ℕ
-text_of written = flat_map written_text written
+abbrev pub text_of_all : List Written → List ℕ
+text_of_all written = flat_map written_text written
 
 abbrev pub has_fault : List Written → Bool
 has_fault [] = false
@@ -138,7 +140,7 @@ pub record Ran (start : Stage) (first last : Option (List ℕ)) (faulted : Bool)
     : Type 0 where
   pub all : List Written
   pub answers : Answered start (lines_of bytes) all
-  pub appended : Appends first last (text_of all)
+  pub appended : Appends first last (text_of_all all)
   pub fault_is : faulted ≡ has_fault all
 
 -- from first to last the fault of the strategy was written, and this is the exit status
@@ -146,7 +148,7 @@ abbrev pub Refuses : Finding → Option (List ℕ) → Option (List ℕ) → ℕ
 Refuses finding first last status =
     Appends first last (finding_text finding) × (status ≡ status_of finding)
 
--- from first to last what is due after this finding was written: the fault of the strategy, or the
+-- from first to last the output after this finding was written: the fault of the strategy, or the
 -- answers to the script
 abbrev pub RanBy : Finding → ℕ → Option (List ℕ) → Option (List ℕ) → ℕ → List ℕ → Type 0
 RanBy (Means strategy) seats first last status bytes =
@@ -154,7 +156,7 @@ RanBy (Means strategy) seats first last status bytes =
     × (status ≡ (if faulted then 1 else 0))
 RanBy finding seats first last status bytes = Refuses finding first last status
 
--- what a whole replay of the bytes with so many seats wrote, and its exit status
+-- the output of a whole replay of the bytes with this many seats, and its exit status
 pub record Replays (seats : ℕ) (first last : Option (List ℕ)) (status : ℕ) (bytes : List ℕ)
     : Type 0 where
   pub finding : Finding

@@ -1,4 +1,4 @@
-//! What a line of a script or of a control connection is answered, and how the answer is written.
+//! The answers to the lines of a script or of a control connection, and how they are written.
 ghost use Rattle.std.specs.Prelude.{◌≡◌, OnOk};
 ghost use Rattle.std.specs.Io.KnownBytes.{Appends};
 ghost use Rattle.bg_script.specs.AnswerTexts.{answer_text, is_fault as is_fault_of};
@@ -8,7 +8,7 @@ use bg_operator::LineFault;
 use std::io;
 use std::io::Write;
 
-/// What a line of a script or of a control connection is answered, apart from the report.
+/// The answer to a line of a script or of a control connection, other than the report.
 #[derive(Clone, Copy, PartialEq, Eq, Debug, Drop)]
 pub enum Answer {
     /// The book was opened.
@@ -21,18 +21,18 @@ pub enum Answer {
     AlreadyOpen,
     /// The book answered a call.
     Made(Reply),
-    /// So many entries were dropped from the history.
+    /// This many entries were dropped from the history.
     Compacted(u64),
     /// Requests enter and leave elsewhere, by the workers.
     NotHere,
-    /// Memory for the report was refused.
+    /// The allocation for the report failed.
     OutOfMemory,
-    /// The line orders nothing.
+    /// The line gives no command.
     Unread(LineFault),
 }
 
 impl Answer {
-    /// Whether it is written as a fault, after which the exit status is 1.
+    /// Whether it counts as a fault, which makes the exit status 1.
     pub fn is_fault(self) -> bool
         ensures { result ≡ is_fault_of self }
     {
@@ -50,7 +50,7 @@ impl Answer {
     }
 }
 
-/// Writes the line of an answer. Where a write fails, a part of it may be written.
+/// Writes the line of an answer. If a write fails, a part of the line may have been written.
 pub fn write_answer<W: Write>(answer: &Answer, writer: &mut W) -> io::Result<()>
     ensures { OnOk result (Appends (W.contents writer.old) (W.contents writer.new)
         (answer_text answer.now)) }

@@ -1,9 +1,9 @@
-//! What an open book answers to the lines of a script.
+//! Answers the lines of a script by an open book.
 ghost use Rattle.std.specs.Prelude.{◌≡◌, ◌≤◌, IfOk, IfErr};
 ghost use Rattle.bg_ledger.specs.Blanks.{AreAllFor};
 ghost use Rattle.bg_script.specs.declared.answer.Answer.TheVariants.{Opened, OpenRefused};
 ghost use Rattle.bg_script.specs.Scripts.{OpenStep, Said, Reported, Closed, Running};
-ghost use Rattle.bg_script.specs.Serving.{Served, StepRead, Wrote};
+ghost use Rattle.bg_script.specs.LineAnswers.{LineAnswered, StepRead, Wrote};
 
 use crate::answer::{Answer, write_answer};
 use crate::run_end::RunEnd;
@@ -14,14 +14,14 @@ use bg_strategy::Strategy;
 use std::alloc::Global;
 use std::io::Write;
 
-/// What each `open` of a script opens its book with.
+/// The settings with which each `open` of a script opens its book.
 #[derive(Drop)]
 pub struct Terms<'a> {
-    /// What the book takes its memory from.
+    /// The allocator of the book.
     pub alloc: Global,
     /// The strategy of the rollout.
     pub strategy: &'a Strategy,
-    /// How many seats: 1 to 8, or each `open` is refused.
+    /// The number of seats, 1 to 8. With any other number, each `open` is refused.
     pub seats: u32,
 }
 
@@ -51,7 +51,8 @@ fn open<N: Names>(
     )
 }
 
-/// Carries out a line while no book is open. `open` gives the book, or is refused as all others are.
+/// Carries out a line while no book is open. `open` gives the book or is refused; every other line
+/// is refused.
 pub fn begin<N: Names>(
     terms: &Terms,
     read: &Result<Command, LineFault>,
@@ -78,13 +79,13 @@ pub fn begin<N: Names>(
     }
 }
 
-/// Answers a line by an open book. Returns whether it is answered by a fault.
+/// Answers a line by an open book. Returns whether the answer is a fault.
 pub fn answer_by<N: Names, W: Write>(
     opened: &mut OpenBook<N>,
     read: Result<Command, LineFault>,
     writer: &mut W,
 ) -> Result<bool, RunEnd>
-    ensures { IfOk result (Served (Running opened.old.book opened.old.seats) read
+    ensures { IfOk result (LineAnswered (Running opened.old.book opened.old.seats) read
         (W.contents writer.old) (W.contents writer.new)
         (Running opened.new.book opened.new.seats)) }
 {
@@ -109,7 +110,7 @@ pub fn say<W: Write>(answer: Answer, writer: &mut W) -> Result<bool, RunEnd>
     Ok(answer.is_fault())
 }
 
-/// Writes the report, which is no fault.
+/// Writes the report, which is not a fault.
 fn write_report<N: Names, W: Write>(book: &Book<N>, writer: &mut W) -> Result<bool, RunEnd>
     ensures { IfOk result
         (Wrote (Reported book.now) (W.contents writer.old) (W.contents writer.new)) }

@@ -1,4 +1,4 @@
-//! `check`: what a strategy means.
+//! `check`: the meaning of a strategy.
 ghost use Rattle.std.specs.Prelude.{IfOk, IfSome};
 ghost use Rattle.bg_script.specs.Checks.{Checks};
 ghost use Rattle.bg_script.specs.Findings.{IsFinding};
@@ -9,11 +9,11 @@ use bg_operator::whole_input;
 use std::alloc::Global;
 use std::io::{BufReader, Read, Write};
 
-/// Tells what the strategy means that the whole input is the JSON text of, by a line for each of
-/// its settings, or its first fault. Answers the exit status: 0, or 1 after a fault.
+/// Reads the whole input as the JSON text of a strategy, and writes a line for each of its
+/// settings, or its first fault. Returns the exit status: 0, or 1 after a fault.
 ///
-/// An input above 1,048,576 bytes is answered `fault TooLarge`, and is not read to its end. Where a
-/// read or a write fails, or memory is refused, what was written before is of no use.
+/// The answer to an input above 1,048,576 bytes is `fault TooLarge`; it is not read to its end. If
+/// a read, a write or an allocation fails, the output up to then must not be used.
 pub fn check<R: Read, W: Write>(alloc: Global, reader: &mut R, writer: &mut W) -> Result<u8, RunEnd>
     ensures { IfOk result (λ status. IfSome (R.remaining reader.old)
         (Checks (W.contents writer.old) (W.contents writer.new) status)) }
@@ -23,7 +23,7 @@ pub fn check<R: Read, W: Write>(alloc: Global, reader: &mut R, writer: &mut W) -
     Ok(finding.status())
 }
 
-/// What the whole input turns out to be, read as the JSON text of a strategy. An input above 1,048,576
+/// The finding for the whole input, read as the JSON text of a strategy. An input above 1,048,576
 /// bytes is too large, and is not read to its end.
 pub fn finding_of_input<R: Read>(alloc: Global, reader: &mut R) -> Result<Finding, RunEnd>
     ensures { IfOk result (λ finding. IfSome (R.remaining reader.old) (IsFinding finding)) }

@@ -1,9 +1,10 @@
-//! What the lines of a control connection are answered.
+//! Answers the lines of a control connection.
 //!
-//! They are read and answered as those of a script are, but requests enter and leave by the workers,
-//! and so not here. Each answer is flushed before the next line is read.
+//! The lines are read and answered like those of a script, but requests enter and leave by the
+//! workers, not by lines. Each answer is flushed before the next line is read.
 ghost use Rattle.std.specs.Prelude.{◌≡◌, Ok, IfOk, IfErr, OnOk, IfSome};
 ghost use Rattle.std.specs.Io.KnownBytes.{Appends, Keeps};
+ghost use Rattle.bg_book.specs.Compaction.{is_history_full};
 ghost use Rattle.bg_operator.specs.Reading.{Known};
 ghost use Rattle.bg_report.specs.Reports.{report_text};
 ghost use Rattle.bg_script.specs.AnswerTexts.{answer_text};
@@ -11,54 +12,55 @@ ghost use Rattle.bg_script.specs.Connections.{AnswersAtDesk, AnswersBeforeOpen, 
 
 use crate::answer::{Answer, write_answer};
 use crate::run_end::RunEnd;
-use bg_book::{Book, Control, ControlFault, Desk, Question, Reply};
+use bg_book::{Book, Control, ControlFault, Desk, EnterFault, Question, Reply};
 use bg_ledger::Names;
 use bg_operator::{Command, LineFault, MOST_TURNS, OperatorLines, is_quit};
 use bg_revisions::{Name, Ports};
 use std::alloc::Global;
 use std::io::{BufRead, Write};
 use std::sync::Wait;
+use std::sync::atomic::{AtomicU64, Ordering};
 
-/// The first revision of a book that is asked for.
+/// The first revision of a book that an `open` asks for.
 #[derive(Debug, Drop)]
 pub struct FirstRevision {
     pub name: Name,
     pub ports: Ports,
 }
 
-/// Why the lines of a control connection are no longer answered while no book is open.
+/// Why the answering of a control connection without an open book ended.
 #[derive(Debug, Drop)]
 pub enum BeforeOpen {
-    /// A line orders that a book is opened. It is not yet answered.
+    /// A line is an `open`. It is not answered yet.
     Open(FirstRevision),
     /// The line is `quit`.
     Quit,
-    /// The line is a fault and a line of HTTP. It was answered its fault.
+    /// The line is a fault and a line of HTTP. Its fault was written.
     SpeaksHttp,
     /// The connection has no further line.
     End,
 }
 
-/// Why the lines of a control connection are no longer answered by an open book.
+/// Why the answering of a control connection by an open book ended.
 #[derive(Clone, Copy, Debug, Drop, PartialEq, Eq)]
 pub enum ControlEnd {
     /// The line is `quit`.
     Quit,
-    /// The line is a fault and a line of HTTP. It was answered its fault.
+    /// The line is a fault and a line of HTTP. Its fault was written.
     SpeaksHttp,
     /// The connection has no further line.
     End,
 }
 
-/// Answers each line while no book is open, up to an `open`, which is left to the caller, to `quit`,
-/// which is not answered, to a line that speaks HTTP, or to the end of the connection.
+/// Answers each line while no book is open, up to an `open`, which is left to the caller, a `quit`,
+/// which is not answered, a line of HTTP, or the end of the connection.
 ///
-/// A line that orders nothing and is a request line or a field line of HTTP
-/// ([`OperatorLines::speaks_http`]) is answered its fault, and no line behind it is read. A browser sends
-/// such lines before those of a request's body, which no operator has written.
-/// `enter` and `leave` are answered `refused NotHere`, other calls `refused NotOpen`, and a line that
-/// orders nothing its fault. A `RunEnd` comes where a read or a write fails, where memory for a line
-/// is refused, and after 2^24 lines.
+/// If a line gives no command and is a request line or a field line of HTTP
+/// ([`OperatorLines::speaks_http`]), the answer is its fault, and no line after it is read. A browser
+/// sends such lines before the lines of a request's body, which no operator has written. The answer to
+/// `enter` and `leave` is `refused NotHere`, to other calls `refused NotOpen`, and to a line that gives
+/// no command its fault. A `RunEnd` comes if a read, a write or the allocation for a line fails, and
+/// after 2^24 lines.
 pub fn answer_before_open<B: BufRead, W: Write>(
     lines: &mut OperatorLines,
     reader: &mut B,
@@ -85,7 +87,7 @@ pub fn answer_before_open<B: BufRead, W: Write>(
     Err(RunEnd::ReadFailed)
 }
 
-/// The first revision of an `open`, or what another line is answered while no book is open.
+/// The first revision of an `open`, or the answer to another line while no book is open.
 fn opening(read: Result<Command, LineFault>) -> Result<FirstRevision, Answer>
     ensures ok { IfOk result (λ first. read ≡ Ok (Command.Open first.name first.ports)) }
     ensures err { IfErr result (λ answer. MayBeAsked read → ClosedAnswer read answer) }
@@ -100,20 +102,22 @@ fn opening(read: Result<Command, LineFault>) -> Result<FirstRevision, Answer>
     }
 }
 
-/// Answers each line by the book of a desk, up to `quit`, which is not answered, to a line that speaks
-/// HTTP, or to the end of the connection.
+/// Answers each line by the book of a desk, up to a `quit`, which is not answered, a line of HTTP, or
+/// the end of the connection.
 ///
-/// A line that orders nothing and is a request line or a field line of HTTP is answered its fault, and no
-/// line behind it is read.
-/// An event is answered as [`Desk::control`] answers it (where that is `HistoryFull`, after the history was
-/// compacted), `report` the report, and `compact` the number of entries that were dropped; `open` is answered
-/// `refused AlreadyOpen`, `enter` and `leave` `refused NotHere`, and a line that orders nothing its
-/// fault. Nothing is written while the desk is locked. A `RunEnd` comes where a read or a write
-/// fails, where memory for a line is refused, and after 2^24 lines.
+/// If a line gives no command and is a request line or a field line of HTTP, the answer is its fault, and no
+/// line after it is read. The answer to an event is that of [`Desk::control`]; if that is `HistoryFull`, the
+/// history is compacted and the desk is asked again. The answer to `report` is the report, to `compact` the
+/// number of entries that were dropped, to `open` `refused AlreadyOpen`, to `enter` and `leave`
+/// `refused NotHere`, and to a line that gives no command its fault. Nothing is written while the desk is locked. A
+/// `RunEnd` comes if a read, a write or the allocation for a line fails, and after 2^24 lines.
+///
+/// Each event whose answer is `refused HistoryFull` adds 1 to `refused_for_room`.
 pub fn answer_at_desk<N: Names, R: Wait, B: BufRead, W: Write>(
     rt: &R,
     alloc: Global,
     desk: &Desk<N>,
+    refused_for_room: &AtomicU64,
     lines: &mut OperatorLines,
     reader: &mut B,
     writer: &mut W,
@@ -128,7 +132,7 @@ pub fn answer_at_desk<N: Names, R: Wait, B: BufRead, W: Write>(
         if is_quit(&read) {
             return Ok(ControlEnd::Quit);
         }
-        answer_line(rt, alloc, desk, read, writer)?;
+        answer_line(rt, alloc, desk, refused_for_room, read, writer)?;
         if lines.speaks_http() {
             return Ok(ControlEnd::SpeaksHttp);
         }
@@ -141,29 +145,33 @@ fn answer_line<N: Names, R: Wait, W: Write>(
     rt: &R,
     alloc: Global,
     desk: &Desk<N>,
+    refused_for_room: &AtomicU64,
     read: Result<Command, LineFault>,
     writer: &mut W,
 ) -> Result<(), RunEnd>
     ensures { OnOk result (WroteAtDesk read (W.contents writer.old) (W.contents writer.new)) }
 {
     match what_is_asked(read) {
-        Asked::Event(event) => tell(&Answer::Made(event_reply(rt, desk, &event)), writer),
+        Asked::Event(event) => tell(
+            &Answer::Made(event_reply(rt, desk, refused_for_room, &event)),
+            writer,
+        ),
         Asked::Report => tell_report(rt, alloc, desk, writer),
         Asked::Compaction => tell(&Answer::Compacted(desk.compact(rt)), writer),
         Asked::Nothing(answer) => tell(&answer, writer),
     }
 }
 
-/// What a line asks of an open book.
+/// What a line asks an open book for.
 #[derive(Debug, Drop)]
 enum Asked {
-    /// That this event is given to it.
+    /// To accept this event.
     Event(Control),
     /// The report.
     Report,
-    /// That its history is compacted.
+    /// To compact its history.
     Compaction,
-    /// Nothing; the line is answered so.
+    /// Nothing; this is the answer to the line.
     Nothing(Answer),
 }
 
@@ -180,20 +188,40 @@ fn what_is_asked(read: Result<Command, LineFault>) -> Asked
     }
 }
 
-/// What the book of a desk answers to an event. Where its history is full, the entries of closed requests are
-/// dropped, and it is asked once more.
-fn event_reply<N: Names, R: Wait>(rt: &R, desk: &Desk<N>, event: &Control) -> Reply
+/// The reply of the book of a desk to an event. If its history is full, the entries of closed requests are
+/// dropped, and it is asked once more. If it has no room then either, the refusal is counted.
+fn event_reply<N: Names, R: Wait>(
+    rt: &R,
+    desk: &Desk<N>,
+    refused_for_room: &AtomicU64,
+    event: &Control,
+) -> Reply
     ensures { EventAnswer event.now result }
 {
     let reply = reply_at_once(rt, desk, event);
-    if !matches!(reply, Reply::ControlRefused(ControlFault::HistoryFull)) {
+    if !is_refused_for_room(&reply) {
         return reply;
     }
     let _dropped = desk.compact(rt);
-    reply_at_once(rt, desk, event)
+    let reply = reply_at_once(rt, desk, event);
+    if is_refused_for_room(&reply) {
+        refused_for_room.fetch_add(1, Ordering::SeqCst);
+    }
+    reply
 }
 
-/// What the book of a desk answers to an event as it is.
+/// Whether a call is refused since the history has no room.
+fn is_refused_for_room(reply: &Reply) -> bool
+    ensures { result ≡ is_history_full reply.now }
+{
+    matches!(
+        reply,
+        Reply::EnterRefused(EnterFault::HistoryFull)
+            | Reply::ControlRefused(ControlFault::HistoryFull)
+    )
+}
+
+/// The reply of the book of a desk to an event, without compaction.
 fn reply_at_once<N: Names, R: Wait>(rt: &R, desk: &Desk<N>, event: &Control) -> Reply
     ensures { EventAnswer event.now result }
 {
@@ -219,7 +247,7 @@ fn tell_report<N: Names, R: Wait, W: Write>(
     }
 }
 
-/// Asks for the text of the report. None where memory for it is refused.
+/// Asks for the text of the report; `None` if its allocation fails.
 #[derive(Drop)]
 struct ReportText {
     alloc: Global,

@@ -1,4 +1,4 @@
-//! What the text of a strategy turns out to be.
+//! The result of reading the text of a strategy.
 ghost use Rattle.std.specs.Prelude.{◌≡◌, ◌≢◌, MatchResult, OnOk};
 ghost use Rattle.std.specs.Io.KnownBytes.{Appends};
 ghost use Rattle.bg_script.specs.Findings.{finding_text, IsFoundIn, status_of};
@@ -11,19 +11,19 @@ use std::alloc::Global;
 use std::io;
 use std::io::Write;
 
-/// What the text of a strategy turns out to be.
+/// The result of reading the text of a strategy.
 #[derive(Debug, Drop)]
 pub enum Finding {
     /// It means this strategy.
     Means(Strategy),
-    /// It has this, its first fault.
+    /// This is its first fault.
     Refused(StrategyFault),
     /// It is larger than the text of a strategy may be.
     TooLarge,
 }
 
 impl Finding {
-    /// The exit status: 1 after a fault.
+    /// The exit status: 1 after a fault, and otherwise 0.
     pub fn status(&self) -> u8
         ensures { result ≡ status_of self.now }
     {
@@ -34,7 +34,7 @@ impl Finding {
     }
 }
 
-/// Reads the strategy. The only error is want of memory.
+/// Reads the strategy. The only error is an allocation failure.
 pub fn finding_in(alloc: Global, part: &StrategyPart) -> Result<Finding, RunEnd>
     ensures { MatchResult result (IsFoundIn part.now) (λ end. end ≡ RunEnd.OutOfMemory) }
 {
@@ -47,7 +47,7 @@ pub fn finding_in(alloc: Global, part: &StrategyPart) -> Result<Finding, RunEnd>
     }
 }
 
-/// A fault of the text; want of memory is none.
+/// A fault of the text. An allocation failure is an error instead.
 fn refused(fault: StrategyFault) -> Result<Finding, RunEnd>
     ensures { MatchResult result
         (λ finding. (finding ≡ Finding.Refused fault) × (fault ≢ StrategyFault.OutOfMemory))
@@ -59,7 +59,7 @@ fn refused(fault: StrategyFault) -> Result<Finding, RunEnd>
     }
 }
 
-/// Writes what was found. Where a write fails, a part of it may be written.
+/// Writes the finding. If a write fails, a part of it may have been written.
 pub fn write_finding<W: Write>(finding: &Finding, writer: &mut W) -> io::Result<()>
     ensures { OnOk result (Appends (W.contents writer.old) (W.contents writer.new)
         (finding_text finding.now)) }

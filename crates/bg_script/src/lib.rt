@@ -1,9 +1,9 @@
 //! `check`, `replay` and the control side of `serve`, over any reader and writer.
 //!
 //! [`check`] says what a strategy means; [`replay`] answers the lines of a script by a book of that
-//! strategy. Both write exact texts and answer the exit status; a [`RunEnd`] says why a run ended
-//! before its end. [`answer_before_open`] and [`answer_at_desk`] answer the lines of a control
-//! connection while no book is open, and by a book that workers share.
+//! strategy. Both write exact texts and return the exit status. A [`RunEnd`] says why a run ended
+//! early. [`answer_before_open`] and [`answer_at_desk`] answer the lines of a control connection
+//! while no book is open, and by a book that workers share.
 #![tactic(auto)]
 
 mod answer;

@@ -3,7 +3,7 @@ ghost use Rattle.std.specs.Prelude.{◌≡◌, ◌≤◌, IfOk, IfErr, IfSome, O
 ghost use Rattle.bg_ledger.specs.Blanks.{AreAllFor};
 ghost use Rattle.bg_script.specs.declared.answer.Answer.TheVariants.{Opened};
 ghost use Rattle.bg_script.specs.Scripts.{Ran, Refuses, Replays, Stage, Said, Closed, Running};
-ghost use Rattle.bg_script.specs.Serving.{RanOpened, StepRead};
+ghost use Rattle.bg_script.specs.LineAnswers.{RanOpened, StepRead};
 
 use crate::answer::Answer;
 use crate::answering::{Terms, answer_by, begin, say};
@@ -16,14 +16,14 @@ use std::alloc::Global;
 use std::io::{BufRead, BufReader, Read, Write};
 use std::marker::Brand;
 
-/// Answers the script that stands after the line `---`, by a book of the strategy before that line,
-/// with so many seats: 1 to 8, or each `open` is refused. Answers the exit status: 1 where a fault was
-/// written, else 0.
+/// Answers the script after the line `---`, by a book of the strategy before that line. The number of
+/// seats is 1 to 8; with any other number, each `open` is refused. Returns the exit status: 1 if a
+/// fault was written, otherwise 0.
 ///
-/// A fault of the strategy is written as `check` writes it, and nothing more is read. A line that is
-/// not well formed is answered by a fault, and the script goes on. The run ends at `quit` and at the
-/// end of the input. Where a read or a write fails, or memory is refused, what was written before is
-/// of no use.
+/// A fault of the strategy is written as `check` writes it, and nothing more is read. The answer to
+/// a line that is not well formed is a fault, and the script goes on. The run ends at `quit` and at
+/// the end of the input. If a read, a write or an allocation fails, the output up to then must not
+/// be used.
 pub fn replay<R: Read, W: Write>(
     alloc: Global,
     seats: u8,
@@ -51,7 +51,7 @@ pub fn replay<R: Read, W: Write>(
     Ok(u8::from(faulted))
 }
 
-/// Writes the fault of the strategy. Answers the exit status.
+/// Writes the fault of the strategy. Returns the exit status.
 fn refuse<W: Write>(finding: &Finding, writer: &mut W) -> Result<u8, RunEnd>
     ensures { IfOk result (Refuses finding.now (W.contents writer.old) (W.contents writer.new)) }
 {
@@ -92,8 +92,8 @@ fn run<B: BufRead, W: Write>(
     Err(RunEnd::ReadFailed)
 }
 
-/// Where the line opens a book, answers all later lines by it, and closes it however they end. Else
-/// gives the line's answer, and neither reads nor writes.
+/// If the line opens a book, answers all later lines by it, and closes it at their end in any case.
+/// Otherwise gives the line's answer, and neither reads nor writes.
 fn run_open<N: Names, B: BufRead, W: Write>(
     terms: &Terms,
     blanks: Blanks,
@@ -119,7 +119,7 @@ fn run_open<N: Names, B: BufRead, W: Write>(
     Ok(end)
 }
 
-/// Says that the book is open, and answers each later line by it.
+/// Writes that the book is open, and answers each later line by it.
 fn answer_opened<N: Names, B: BufRead, W: Write>(
     opened: &mut OpenBook<N>,
     lines: &mut OperatorLines,

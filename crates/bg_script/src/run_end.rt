@@ -1,4 +1,4 @@
-//! Why a run ends before its end.
+//! Why a run ends early.
 ghost use Rattle.std.specs.Prelude.{◌≡◌};
 ghost use Rattle.bg_script.specs.declared.run_end.RunEnd.TheVariants as run_end;
 
@@ -7,16 +7,16 @@ use std::alloc::AllocError;
 use std::io;
 use thiserror::Error;
 
-/// Why a run of `check` or of `replay` ends before its end. What was written by then is of no use.
+/// Why a run of `check` or of `replay` ends early. The output up to then must not be used.
 #[derive(Clone, Copy, Debug, Drop, PartialEq, Eq, Error)]
 pub enum RunEnd {
-    /// A read of the input failed, or the input had no end after 2^24 reads or 2^24 lines.
+    /// A read of the input failed, or 2^24 reads or 2^24 lines did not reach its end.
     #[error("the input could not be read")]
     ReadFailed,
     /// A write of the output failed.
     #[error("the output could not be written")]
     WriteFailed,
-    /// Memory was refused.
+    /// An allocation failed.
     #[error("out of memory")]
     OutOfMemory,
 }
@@ -29,7 +29,7 @@ impl From<AllocError> for RunEnd {
     }
 }
 
-/// Output alone fails by such an error: input fails by a [`ReadFault`].
+/// Only output fails with such an error; input fails with a [`ReadFault`].
 impl From<io::Error> for RunEnd {
     fn from(_unwritten: io::Error) -> RunEnd {
         RunEnd::WriteFailed

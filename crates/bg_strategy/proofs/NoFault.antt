@@ -6,7 +6,7 @@ use Rattle.serde_json.specs.Data.{Data}
 use Rattle.serde_json.specs.Find.{get, as_object, as_str}
 use Rattle.bg_strategy.specs.Values.{has_type, is_given}
 use Rattle.bg_strategy.specs.Table.{fields}
-use Rattle.bg_strategy.specs.Lookup.{spec_at, strategy_at, blue_green_at, given, found, text_of}
+use Rattle.bg_strategy.specs.Lookup.{spec_at, strategy_at, blue_green_at, given_value, found, text_of}
 use Rattle.bg_strategy.specs.Faults.{is_missing, has_wrong_type, strategy_fault_of}
 use Rattle.bg_strategy.specs.declared.table.Field.{Field}
 use Rattle.bg_strategy.specs.declared.table.Field.TheVariants as field
@@ -14,25 +14,25 @@ use Rattle.bg_strategy.specs.declared.table.Kind.{Kind}
 use Rattle.bg_strategy.specs.declared.table.Kind.TheVariants.{Object, Service}
 use Rattle.bg_strategy.specs.declared.fault.StrategyFault.TheVariants as fault
 
--- ---- what is not found
+-- ---- searches that find nothing
 
--- where neither of two is there, each is not
+-- if a choice of two options is none, each of the two is none
 none_or : {A : Type 0} (a b : Option A) → option_or a b ≡ None → (a ≡ None) × (b ≡ None)
 none_or None b e = (refl, e)
 none_or (Some x) b e = cc
 
--- where nothing is there after a map, nothing was
+-- if a mapped option is none, the option is none
 none_map : {A B : Type 0} (f : A → B) (o : Option A) → option_map f o ≡ None → o ≡ None
 none_map f None e = refl
 none_map f (Some x) e = cc
 
--- the head and the rest of what `find` does not find
+-- if `find` finds nothing, the head of the list fails the test, and `find` finds nothing in the rest
 none_cons : (b : Bool) (x : Field) (rest : Option Field) → cond b (Some x) rest ≡ None
     → (b ≡ false) × (rest ≡ None)
 none_cons true x rest e = cc
 none_cons false x rest e = (refl, e)
 
--- what is not found is not found in the rest
+-- if `find` finds nothing in a list, it finds nothing in the rest
 none_rest : (p : Field → Bool) (n : ℕ) (xs : List Field) → find p xs ≡ None
     → find p (drop n xs) ≡ None
 none_rest p zero xs e = e
@@ -48,14 +48,14 @@ head_fails : (p : Field → Bool) (xs : List Field) → find p xs ≡ None → H
 head_fails p [] e = tt
 head_fails p (x ∷ xs) e = (none_cons (p x) x (find p xs) e).0
 
--- where none is found, the one at place n fails the test
+-- if `find` finds nothing, the element at place n fails the test
 fails_at : (p : Field → Bool) (n : ℕ) (xs : List Field) → find p xs ≡ None
     → HeadFails p (drop n xs)
 fails_at p n xs e = head_fails p (drop n xs) (none_rest p n xs e)
 
--- ---- what is there
+-- ---- values that the document gives
 
--- a needed field that is not missing from an object has a value
+-- a required field that is not missing from an object has a value
 present : (looked : Bool) (o : Option Data) → looked ≡ true
     → (true && (looked && is_none o)) ≡ false → (v : Data) × (o ≡ Some v)
 present true None l e = cc
@@ -66,8 +66,8 @@ given_as : (k : Kind) (b : Bool) (w v : Data) → cond b (Some w) None ≡ Some 
 given_as k true w v e = cc
 given_as k false w v e = cc
 
--- a value that is given is the value that is there
-ungiven : (k : Kind) (o : Option Data) (v : Data) → option_and_then (given k) o ≡ Some v
+-- the given value is the value under the key
+ungiven : (k : Kind) (o : Option Data) (v : Data) → option_and_then (given_value k) o ≡ Some v
     → o ≡ Some v
 ungiven k None v e = cc
 ungiven k (Some w) v e = ap (λ (x : Data). Some x) (given_as k (is_given k w) w v e)
@@ -76,35 +76,35 @@ typed_here : (k : Kind) (v : Data) → not (has_type k v) ≡ false → has_type
 typed_here k v e =
     elim (has_type k v) as (λ b. not b ≡ false → b ≡ true) [ true ↦ λ _. refl | false ↦ λ h. cc ] e
 
--- a value of no wrong type has its type
+-- a value whose type is not wrong has the right type
 typed : (k : Kind) (o : Option Data) (v : Data) → o ≡ Some v
     → option_map_or (λ x. not (has_type k x)) o false ≡ false → has_type k v ≡ true
 typed k o v is e = typed_here k v (rw is at e)
 
--- the fields of an object that is there are looked at
+-- the fields of an object are checked
 looked_at : (o : Option Data) (v : Data) → o ≡ Some v → is_some (as_object v) ≡ true
     → is_some (option_and_then as_object o) ≡ true
 looked_at o v is h = rw is h
 
--- a value is there, is given, and has its type
+-- the value exists, is given, and has the right type
 pub record IsThere (k : Kind) (o : Option Data) : Type 0 where
   pub value : Data
   pub is : o ≡ Some value
-  pub given_is : option_and_then (given k) o ≡ Some value
+  pub given_is : option_and_then (given_value k) o ≡ Some value
   pub has : has_type k value ≡ true
 
--- so it is with a needed field of an object, neither missing nor of a wrong type
+-- this holds for a required field of an object that is not missing and has no wrong type
 needed_there : (k : Kind) (looked : Bool) (o : Option Data) → looked ≡ true
-    → (true && (looked && is_none (option_and_then (given k) o))) ≡ false
-    → option_map_or (λ x. not (has_type k x)) (option_and_then (given k) o) false ≡ false
+    → (true && (looked && is_none (option_and_then (given_value k) o))) ≡ false
+    → option_map_or (λ x. not (has_type k x)) (option_and_then (given_value k) o) false ≡ false
     → IsThere k o
 needed_there k looked o l missing mistyped =
-    let p = present looked (option_and_then (given k) o) l missing in
+    let p = present looked (option_and_then (given_value k) o) l missing in
     record {
       value = p.0;
       is = ungiven k o p.0 p.1;
       given_is = p.1;
-      has = typed k (option_and_then (given k) o) p.0 p.1 mistyped;
+      has = typed k (option_and_then (given_value k) o) p.0 p.1 mistyped;
     }
 
 some_of : {A : Type 0} (o : Option A) → is_some o ≡ true → (x : A) × (o ≡ Some x)
@@ -147,6 +147,6 @@ active_there d none =
     let text = some_of (as_str active.value) active.has in
     (text.0, text_at (found field.ActiveService d) active.value text.0 active.given_is text.1)
 
--- a value that is there stays there along an equation
+-- if two options are equal and one has a value, the other has it
 pub is_there : {A : Type 0} (o p : Option A) (x : A) → o ≡ p → o ≡ Some x → IsSome p
 is_there o p x same at = let e : p ≡ Some x = sym same ∙ at in rw e (search rules)

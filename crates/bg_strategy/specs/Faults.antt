@@ -3,7 +3,7 @@ use Rattle.std.specs.Prelude.{ℕ, ◌&&◌, Bool, false, not, List, codes, Opti
 use Rattle.std.specs.Option.{option_map_or, option_or}
 use Rattle.serde_json.specs.Data.{Data}
 use Rattle.bg_strategy.specs.Values.{has_type, is_in_range}
-use Rattle.bg_strategy.specs.Table.{fields, entry_of}
+use Rattle.bg_strategy.specs.Table.{fields, field_rule}
 use Rattle.bg_strategy.specs.Lookup.{found, text_of, is_looked_at}
 use Rattle.bg_strategy.specs.declared.table.Field.{Field}
 use Rattle.bg_strategy.specs.declared.table.Field.TheVariants.{ActiveService, PreviewService}
@@ -19,41 +19,41 @@ kind_name_of (fault.OutOfRange f) = codes "OutOfRange"
 kind_name_of fault.SameService = codes "SameService"
 kind_name_of fault.OutOfMemory = codes "OutOfMemory"
 
--- the field that a fault concerns, where it is one
+-- the field that has the fault, if it is the fault of one field
 abbrev pub field_of : StrategyFault → Option Field
 field_of (fault.Missing f) = Some f
 field_of (fault.WrongType f) = Some f
 field_of (fault.OutOfRange f) = Some f
 field_of _ = None
 
--- a field that has to be there, in an object that is there, is not
+-- the field is required, its parent is an object, and the document gives no value for it
 abbrev pub is_missing : Data → Field → Bool
 is_missing d f =
-    (entry_of f).is_needed && (is_looked_at (entry_of f).place d && is_none (found f d))
+    (field_rule f).is_needed && (is_looked_at (field_rule f).place d && is_none (found f d))
 
--- a field has a value of another type than its kind's
+-- the field has a value, and its type is not that of the field's kind
 abbrev pub has_wrong_type : Data → Field → Bool
-has_wrong_type d f = option_map_or (λ v. not (has_type (entry_of f).kind v)) (found f d) false
+has_wrong_type d f = option_map_or (λ v. not (has_type (field_rule f).kind v)) (found f d) false
 
--- a field has a value of its kind's type, outside its kind's range
+-- the field has a value of the right type that is outside the range of the field's kind
 abbrev pub is_out_of_range : Data → Field → Bool
-is_out_of_range d f = option_map_or (λ v. has_type (entry_of f).kind v
-    && not (is_in_range (entry_of f).kind v)) (found f d) false
+is_out_of_range d f = option_map_or (λ v. has_type (field_rule f).kind v
+    && not (is_in_range (field_rule f).kind v)) (found f d) false
 
--- there is a second text, and it is the first
+-- there is a second text, and it equals the first
 abbrev pub is_same : List ℕ → Option (List ℕ) → Bool
 is_same t o = option_map_or (λ u. bytes_eq t u) o false
 
--- both services are given, with one name
+-- both services are given, and they have the same name
 abbrev pub has_same_services : Data → Bool
 has_same_services d =
     option_map_or (λ t. is_same t (text_of PreviewService d)) (text_of ActiveService d) false
 
--- the fault of two fields
+-- the fault that concerns two fields
 abbrev pub same_service : Data → Option StrategyFault
 same_service d = if has_same_services d then Some fault.SameService else None
 
--- kind by kind the first of these fields that has a fault of it; then what concerns two fields
+-- the first kind of fault that one of these fields has, for the first such field; then the fault of two fields
 abbrev pub fault_among : List Field → Data → Option StrategyFault
 fault_among list d = option_or (option_map fault.Missing (find (is_missing d) list))
     (option_or (option_map fault.WrongType (find (has_wrong_type d) list))

@@ -1,4 +1,4 @@
--- The form of a name: a DNS label of RFC 1123, as Kubernetes takes it.
+-- The form of a name: a DNS label of RFC 1123, as Kubernetes requires it.
 use Rattle.std.specs.Prelude.{ℕ, ◌-◌, ◌&&◌, ◌||◌, ◌==◌, Bool, nat_le, List, length, slice_index}
 use Rattle.std.specs.List.{list_all}
 use Rattle.std.specs.Char.{is_ascii_lowercase, is_ascii_digit}

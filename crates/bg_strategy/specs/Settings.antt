@@ -3,7 +3,7 @@ use Rattle.std.specs.Prelude.{◌≡◌, ◌≤◌, ℕ, min, Bool, true, Option
 use Rattle.serde_json.specs.Data.{Data}
 use Rattle.serde_json.specs.Find.{as_bool}
 use Rattle.bg_strategy.specs.Values.{natural, is_between}
-use Rattle.bg_strategy.specs.Table.{entry_of}
+use Rattle.bg_strategy.specs.Table.{field_rule}
 use Rattle.bg_strategy.specs.Lookup.{found, text_of}
 use Rattle.bg_strategy.specs.declared.table.Field.{Field}
 use Rattle.bg_strategy.specs.declared.table.Field.TheVariants as field
@@ -11,11 +11,11 @@ use Rattle.bg_strategy.specs.declared.table.Kind.{Kind}
 use Rattle.bg_strategy.specs.declared.table.Kind.TheVariants.{Number}
 use Rattle.bg_strategy.specs.declared.strategy.Strategy.{Strategy}
 
--- the number, where it lies between the two
+-- the number, if it lies between the two
 abbrev pub if_between : ℕ → ℕ → ℕ → Option ℕ
 if_between least most n = if is_between least most n then Some n else None
 
--- the number that a value is for a kind
+-- the value as a number in the range of the kind
 abbrev pub number_in : Kind → Data → Option ℕ
 number_in (Number least most) d = option_and_then (if_between least most) (natural d)
 number_in _ d = None
@@ -25,29 +25,28 @@ abbrev pub IsWithin : Kind → ℕ → Type 0
 IsWithin (Number least most) n = (least ≤ n) × (n ≤ most)
 IsWithin _ n = ⊤
 
--- the number that a document has for a field
+-- the number that a document gives for a field
 abbrev pub number_of : Field → Data → Option ℕ
-number_of f d = option_and_then (number_in (entry_of f).kind) (found f d)
+number_of f d = option_and_then (number_in (field_rule f).kind) (found f d)
 
--- the true or false that a document has for a field
+-- the boolean that a document gives for a field
 abbrev pub boolean_of : Field → Data → Option Bool
 boolean_of f d = option_and_then as_bool (found f d)
 
--- the document has something for the field
+-- the document gives a value for the field
 abbrev pub is_set : Field → Data → Bool
 is_set f d = is_some (found f d)
 
--- the endpoints of a revision at full size
+-- the number of endpoints of a revision at full size
 abbrev pub replicas_of : Data → ℕ
 replicas_of d = unwrap_or (number_of field.Replicas d) 1
 
--- those of a new revision before it is switched to: all, where nothing is said, and never more
+-- the number of endpoints of a new revision before the switch: by default and at most the full size
 abbrev pub preview_replicas_of : Data → ℕ
 preview_replicas_of d =
     min (unwrap_or (number_of field.PreviewReplicaCount d) (replicas_of d)) (replicas_of d)
 
--- s is the strategy of the document: each setting is what its field says, or what stands for its
--- absence
+-- s is the strategy of the document: each setting is the value of its field, or its default
 pub record IsStrategyOf (d : Data) (s : Strategy) : Type 0 where
   pub active_service : text_of field.ActiveService d ≡ Some s.active_service
   pub preview_service : text_of field.PreviewService d ≡ s.preview_service

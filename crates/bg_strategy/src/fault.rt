@@ -7,25 +7,25 @@ use crate::table::Field;
 use std::alloc::AllocError;
 use thiserror::Error;
 
-/// Why the bytes that were read hold no strategy.
+/// The reason why `read` gives no strategy.
 #[derive(Clone, Copy, Debug, Drop, PartialEq, Eq, Error)]
 pub enum StrategyFault {
-    /// The bytes are no JSON text.
+    /// The bytes are not a JSON text.
     #[error("the input is not JSON")]
     NotJson,
-    /// A field that has to be there is not, or is null, or is the empty name of a service.
+    /// A required field is absent or null, or it is a service name with no bytes.
     #[error("{0} is missing")]
     Missing(Field),
-    /// A field has a value of another type.
+    /// A field has a value of the wrong type.
     #[error("{0} has a value of the wrong type")]
     WrongType(Field),
-    /// A field has a value of its type that it does not take.
+    /// A field has a value of the right type that is outside its range, or a service name that is no DNS label.
     #[error("the value of {0} is outside its range")]
     OutOfRange(Field),
-    /// The two services have one name.
+    /// `activeService` and `previewService` have the same name.
     #[error("activeService and previewService name the same service")]
     SameService,
-    /// Memory was refused.
+    /// An allocation failed.
     #[error("out of memory")]
     OutOfMemory,
 }
@@ -33,7 +33,7 @@ pub enum StrategyFault {
 impl StrategyFault {
     ghost use Rattle.bg_strategy.specs.Faults.{kind_name_of, field_of};
 
-    /// The name of the kind, as it is written above.
+    /// The name of the variant, as the enum spells it.
     pub fn kind_name(&self) -> &'static str
         ensures { result.now ≡ kind_name_of self.now }
     {
@@ -47,7 +47,7 @@ impl StrategyFault {
         }
     }
 
-    /// The field that the fault concerns, where it is one.
+    /// The field that has the fault; `None` for `NotJson`, `SameService` and `OutOfMemory`.
     pub fn field(&self) -> Option<Field>
         ensures { result ≡ field_of self.now }
     {

@@ -3,8 +3,8 @@ ghost use Rattle.std.specs.Prelude.{◌≡◌, ◌≤◌, ◌-◌, ◌&&◌, len
 ghost use Rattle.std.specs.List.{list_all};
 ghost use Rattle.bg_strategy.specs.Label.{is_label, is_label_byte as is_label_byte_in, is_alphanumeric as is_alphanumeric_in};
 
-/// Whether the text is a DNS label (RFC 1123 section 2.1, as Kubernetes takes it for names): 1 to 63
-/// bytes of lower-case letters, digits and `-`, with a letter or a digit at both ends.
+/// Whether the text is a DNS label, in the form that Kubernetes requires of names (RFC 1123 section 2.1): 1 to 63
+/// bytes, each a lower-case letter, a digit or `-`, with a letter or a digit at both ends.
 pub fn is_dns_label(text: &str) -> bool
     ensures { result ≡ is_label text.now }
 {

@@ -16,4 +16,4 @@ pub use label::is_dns_label;
 pub use reading::read;
 pub use service_name::ServiceName;
 pub use strategy::Strategy;
-pub use table::Field;
+pub use table::{FIELDS, Field};

@@ -1,7 +1,7 @@
 //! What a document has for each field.
 ghost use Rattle.std.specs.Prelude.{◌≡◌, IfSome, option_map, unwrap_or};
 ghost use Rattle.serde_json.specs.View.{view};
-ghost use Rattle.bg_strategy.specs.Table.{entry_of};
+ghost use Rattle.bg_strategy.specs.Table.{field_rule};
 ghost use Rattle.bg_strategy.specs.Lookup.{parent_of as parent_at, found as found_of, is_looked_at as is_looked_at_in, text_of as text_in};
 ghost use Rattle.bg_strategy.specs.Settings.{IsWithin, number_of as number_at, boolean_of as boolean_at, is_set as is_set_in};
 
@@ -21,7 +21,7 @@ fn parent_of<'a>(place: Place, document: &'a Value) -> Option<&'a Value>
     }
 }
 
-/// Whether the fields of the place are looked at.
+/// Whether the fields of the place are checked: their parent is an object.
 pub(crate) fn is_looked_at(place: Place, document: &Value) -> bool
     ensures { result ≡ is_looked_at_in place (view document.now) }
 {
@@ -31,7 +31,7 @@ pub(crate) fn is_looked_at(place: Place, document: &Value) -> bool
     }
 }
 
-/// The value of the field, where one is given.
+/// The value that the document gives for the field.
 pub(crate) fn found<'a>(field: Field, document: &'a Value) -> Option<&'a Value>
     ensures { option_map (λ v. view v.now) result ≡ found_of field (view document.now) }
 {
@@ -47,7 +47,7 @@ pub(crate) fn found<'a>(field: Field, document: &'a Value) -> Option<&'a Value>
     }
 }
 
-/// Whether anything is given for the field.
+/// Whether the document gives a value for the field.
 pub(crate) fn is_set(field: Field, document: &Value) -> bool
     ensures { result ≡ is_set_in field (view document.now) }
 {
@@ -68,15 +68,15 @@ pub(crate) fn boolean_of(field: Field, document: &Value) -> Option<bool>
 
 pub(crate) fn number_of(field: Field, document: &Value) -> Option<u32>
     ensures value { result ≡ number_at field (view document.now) }
-    ensures within { IfSome result (IsWithin (entry_of field).kind) }
+    ensures within { IfSome result (IsWithin (field_rule field).kind) }
 {
     number_in(field.kind(), found(field, document)?)
 }
 
-/// The number of the field, or `absent` where there is none.
+/// The number that the document gives for the field, or `absent` if it gives none.
 pub(crate) fn number_or(field: Field, document: &Value, absent: u32) -> u32
     ensures value { result ≡ unwrap_or (number_at field (view document.now)) absent }
-    ensures within { IsWithin (entry_of field).kind absent → IsWithin (entry_of field).kind result }
+    ensures within { IsWithin (field_rule field).kind absent → IsWithin (field_rule field).kind result }
 {
     match number_of(field, document) {
         Some(n) => n,

@@ -15,13 +15,13 @@ use crate::table::Field;
 use serde_json::Value;
 use std::alloc::{AllocError, Global};
 
-/// Reads the strategy of a Rollout from the bytes of its JSON text, as `kubectl get -o json` writes
-/// it (Argo Rollouts, "Rollout Specification" and "BlueGreen Deployment Strategy").
+/// Reads the strategy of a Rollout from its JSON text, in the form that `kubectl get -o json` writes
+/// (Argo Rollouts, "Rollout Specification" and "BlueGreen Deployment Strategy").
 ///
-/// A field that is null counts as absent, and so does an empty name of a service; unknown fields are
-/// passed over. The error is the first fault: `NotJson`; then for the fields in the order of `Field`
-/// `Missing`, after all of these `WrongType`, then `OutOfRange`; then `SameService`. `OutOfMemory`
-/// comes where memory is refused, which may be before another fault is seen.
+/// A field that is null counts as absent, and so does a service name with no bytes. Unknown fields are
+/// ignored. The error is the first fault in this order: `NotJson`, `Missing`, `WrongType`, `OutOfRange`,
+/// `SameService`. Of several fields with the same kind of fault, it names the first in the order of
+/// `Field`. The error is `OutOfMemory` if an allocation fails, even if the document has another fault.
 pub fn read(alloc: Global, bytes: &[u8]) -> Result<Strategy, StrategyFault>
     ensures ok { IfOk result (IsStrategyIn bytes.now) }
     ensures fault { IfErr result (λ e. (e ≡ StrategyFault.OutOfMemory) ⊎ IsFaultIn bytes.now e) }

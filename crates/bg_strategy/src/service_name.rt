@@ -4,7 +4,7 @@ ghost use Rattle.std.specs.Prelude.{◌≡◌, ℕ, List, IfOk, string_bytes};
 use std::alloc::{AllocError, Global};
 use std::marker::Model;
 
-/// The name of a Kubernetes Service, which contracts see as the list of its bytes.
+/// The name of a Kubernetes Service. Contracts see it as the list of its bytes.
 #[derive(Drop, Debug)]
 pub struct ServiceName {
     text: String,
@@ -17,7 +17,7 @@ impl Model for ServiceName {
 }
 
 impl ServiceName {
-    /// Copies `text`; refused only where memory is.
+    /// Makes a name from a copy of `text`. The only error is an allocation failure.
     pub fn new(alloc: Global, text: &str) -> Result<ServiceName, AllocError>
         ensures { IfOk result (λ n. n ≡ text.now) }
     {
@@ -25,7 +25,7 @@ impl ServiceName {
         Ok(ServiceName { text: copy })
     }
 
-    /// The text.
+    /// The text of the name.
     pub fn get(&self) -> &str
         ensures { result.now ≡ self.now }
     {
@@ -33,7 +33,7 @@ impl ServiceName {
     }
 }
 
-/// The copy has the same text; refused only where memory is.
+/// The copy has the same text. The only error is an allocation failure.
 impl Clone for ServiceName {
     ghost is_clone = { λ name copy. copy ≡ name };
 

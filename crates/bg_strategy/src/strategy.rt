@@ -10,30 +10,30 @@ use std::alloc::AllocError;
 pub struct Strategy {
     /// The service that carries live traffic: `activeService`.
     pub active_service: ServiceName,
-    /// The service that reaches a new revision before it is switched to: `previewService`.
+    /// The service that reaches a new revision before the switch: `previewService`.
     pub preview_service: Option<ServiceName>,
-    /// The endpoints of a revision at full size, 1 to 64: `replicas`.
+    /// The number of endpoints of a revision at full size, 1 to 64: `replicas`.
     pub replicas: u32,
-    /// The endpoints of a new revision before it is switched to, 1 to `replicas`:
+    /// The number of endpoints of a new revision before the switch, 1 to `replicas`:
     /// `previewReplicaCount`.
     pub preview_replicas: u32,
     /// Whether a new revision is promoted without an operator: `autoPromotionEnabled`.
     pub auto_promotion: bool,
-    /// The seconds of the pause before that promotion: `autoPromotionSeconds`; 0 is no pause.
+    /// The length of the pause before that promotion, in seconds: `autoPromotionSeconds`; 0 means no pause.
     pub auto_seconds: u32,
-    /// Whether an analysis is awaited before the switch: `prePromotionAnalysis`.
+    /// Whether the switch waits for an analysis: `prePromotionAnalysis`.
     pub pre: bool,
-    /// Whether an analysis is awaited after the switch: `postPromotionAnalysis`.
+    /// Whether an analysis follows the switch: `postPromotionAnalysis`.
     pub post: bool,
-    /// The seconds that an old revision stays scaled after the switch: `scaleDownDelaySeconds`.
+    /// How long an old revision stays scaled after the switch, in seconds: `scaleDownDelaySeconds`.
     pub delay: u32,
-    /// How many old revisions may stay scaled: `scaleDownDelayRevisionLimit`; none is any number.
+    /// How many old revisions may stay scaled: `scaleDownDelayRevisionLimit`; `None` means no limit.
     pub revision_limit: Option<u32>,
-    /// The seconds that an aborted revision stays scaled: `abortScaleDownDelaySeconds`; 0 is for
-    /// ever.
+    /// How long an aborted revision stays scaled, in seconds: `abortScaleDownDelaySeconds`; 0 means
+    /// without limit.
     pub abort_delay: u32,
-    /// The seconds from its deadline on that a draining revision's requests have left:
-    /// `drainLimitSeconds`; none is for ever. Argo Rollouts has no such field.
+    /// How long the open requests of a draining revision may last after its deadline, in seconds:
+    /// `drainLimitSeconds`; `None` means without limit. Argo Rollouts has no such field.
     pub drain_limit: Option<u32>,
     /// How many old revisions are kept: `revisionHistoryLimit`.
     pub history_limit: u32,
@@ -43,7 +43,7 @@ pub struct Strategy {
     ghost few_previews: { preview_replicas ≤ replicas },
 }
 
-/// The copy has the same settings; refused only where memory is.
+/// The copy has the same settings. The only error is an allocation failure.
 impl Clone for Strategy {
     ghost is_clone = { λ strategy copy. copy ≡ strategy };
 

@@ -1,4 +1,4 @@
-//! What each kind of field takes.
+//! The values that each kind of field takes.
 ghost use Rattle.std.specs.Prelude.{◌≡◌, IfSome};
 ghost use Rattle.serde_json.specs.View.{view};
 ghost use Rattle.bg_strategy.specs.Values.{has_type as has_type_of, is_in_range as is_in_range_of, is_given as is_given_to, is_empty_service as is_empty_service_to};
@@ -55,7 +55,7 @@ fn is_empty_service(kind: Kind, value: &Value) -> bool
     }
 }
 
-/// The number that the value is for the kind.
+/// The value as a number of the kind; `None` if it is no number or is outside the kind's range.
 pub(crate) fn number_in(kind: Kind, value: &Value) -> Option<u32>
     ensures value { result ≡ number_as kind (view value.now) }
     ensures within { IfSome result (IsWithin kind) }

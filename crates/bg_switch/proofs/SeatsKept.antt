@@ -16,7 +16,7 @@ same_indices (x ∷ xs) (y ∷ ys) e h =
     let rest : indices ys ≡ indices xs = same_indices xs ys (omega arith) (λ i before after p q. h (suc i) before after p q) in
     ap (λ (n : ℕ). n ∷ indices ys) head ∙ ap (λ (l : List ℕ). x.index ∷ l) rest
 
--- the vector's seats, after they were lent as `old` and came back as `new`
+-- the vector's seats, after they were borrowed as `old` and returned as `new`
 pub still_all : (seats count len : ℕ) (items old new rest : List Holding) → are_all seats items ≡ true → old ≡ items → len ≡ length items
     → AllWorked count old new → are_all seats (take len (new ++ rest)) ≡ true
 still_all seats count len items old new rest all same long worked =

@@ -1,4 +1,4 @@
-//! Carries `check` and `replay` out over a writer that is given a buffer.
+//! Carries out `check` and `replay` over a buffered writer.
 ghost use Rattle.std.specs.Prelude.{◌≡◌, [], IfOk, IfSome};
 ghost use Rattle.std.specs.Io.Buffered.{writer_buffer, writer_contents, writer_inner};
 ghost use Rattle.std.specs.Io.KnownBytes.{Keeps};
@@ -9,8 +9,8 @@ use bg_script::{RunEnd, check, replay};
 use std::alloc::Global;
 use std::io::{BufWriter, Read, Write};
 
-/// [`check`] over a writer that is given a buffer. Answers the exit status, and the writer once all
-/// is written.
+/// [`check`] over a writer to which it adds a buffer. Returns the exit status, and the writer after
+/// all is written.
 pub fn check_buffered<R: Read, W: Write + Drop>(
     alloc: Global,
     reader: &mut R,
@@ -24,8 +24,8 @@ pub fn check_buffered<R: Read, W: Write + Drop>(
     Ok((status, written_out(buffered)?))
 }
 
-/// [`replay`] over a writer that is given a buffer. Answers the exit status, and the writer once all
-/// is written.
+/// [`replay`] over a writer to which it adds a buffer. Returns the exit status, and the writer after
+/// all is written.
 pub fn replay_buffered<R: Read, W: Write + Drop>(
     alloc: Global,
     seats: u8,

@@ -2,36 +2,39 @@
 #![tactic(auto)]
 
 mod carrying_out;
-mod links;
-mod listeners;
+mod clients;
 mod opening;
 mod operators;
-mod patience;
-mod serving;
+mod ports;
+mod request_line;
+mod serve;
+mod telling;
 mod working;
 
 use crate::carrying_out::{check_buffered, replay_buffered};
-use crate::serving::serve;
+use crate::serve::serve;
+use bg_access_log::AccessLog;
 use bg_command_line::{MessageTimeout, Order, OrderFault, TIMEOUT_VARIABLE, order};
-use bg_reasons::{Keeping, tell_reasons, tell_reasons_before_script};
+use bg_operator::{Keeping, tell_reasons, tell_reasons_before_script};
 use bg_script::RunEnd;
-use std::env;
+use std::env::VarError;
 use std::io::{ErrorKind, Write};
 use std::process::ExitCode;
 use std::rt::Env;
+use std::{env, io};
 
-/// Judges the words, and then does what they order over standard input and standard output.
+/// The environment variable that gives the path of the access log; `-` is standard error.
+const ACCESS_LOG_VARIABLE: &str = "BG_SWITCH_ACCESS_LOG";
+
+/// Reads the program's words, and carries out their order over standard input and standard output.
 ///
-/// The exit status is 0, or 1 after a fault; 2 after words that are no order, and after `--help`,
-/// whose text goes to standard error; 1 where the run ends before its end, whose reason goes there.
+/// The exit status is 0, also after `--version`, or 1 after a fault. It is 2 after words that are not an order, and
+/// after `--help`, whose text goes to standard error. It is 1 if the run ends early; the reason goes to standard
+/// error.
 fn main(rt: HostRuntime) -> ExitCode {
     let order = match process_order(&rt) {
         Ok(order) => order,
-        Err(OrderFault::Words(error)) => {
-            let _ = eprint!(rt; "{error}");
-            return ExitCode::from(2);
-        }
-        Err(OrderFault::OutOfMemory) => return ended(&rt, RunEnd::OutOfMemory),
+        Err(fault) => return ended_without_order(&rt, &fault),
     };
     let done = match order {
         Order::Check => checked(&rt),
@@ -39,12 +42,17 @@ fn main(rt: HostRuntime) -> ExitCode {
         Order::Serve(site) => {
             let mut input = Keeping::new(rt.alloc(), rt.stdin());
             let (mut output, mut errors) = (rt.stdout(), rt.stderr());
-            let patience = message_timeout(&rt, &mut errors);
+            let timeout = message_timeout(&rt, &mut errors);
+            let log = match access_log(&rt, &mut errors) {
+                Ok(log) => log,
+                Err(_) => return ExitCode::FAILURE,
+            };
             serve(
                 &rt,
                 rt.alloc(),
                 site,
-                patience,
+                timeout,
+                log.as_ref(),
                 &mut input,
                 &mut output,
                 &mut errors,
@@ -57,8 +65,8 @@ fn main(rt: HostRuntime) -> ExitCode {
     }
 }
 
-/// Does what `check` orders, and tells on standard error what the text of the strategy lets suspect.
-/// Answers the exit status.
+/// Carries out `check`, and writes hints about the text of the strategy to standard error. Returns
+/// the exit status.
 fn checked(rt: &HostRuntime) -> Result<u8, RunEnd> {
     let mut input = Keeping::new(rt.alloc(), rt.stdin());
     let (status, _stdout) = check_buffered(rt.alloc(), &mut input, rt.stdout())?;
@@ -68,8 +76,8 @@ fn checked(rt: &HostRuntime) -> Result<u8, RunEnd> {
     Ok(status)
 }
 
-/// Does what `replay` orders, and tells on standard error what the text of the strategy lets suspect.
-/// Answers the exit status.
+/// Carries out `replay`, and writes hints about the text of the strategy to standard error. Returns
+/// the exit status.
 fn replayed(rt: &HostRuntime, seats: u8) -> Result<u8, RunEnd> {
     let mut input = Keeping::new(rt.alloc(), rt.stdin());
     let (status, _stdout) = replay_buffered(rt.alloc(), seats, &mut input, rt.stdout())?;
@@ -79,27 +87,65 @@ fn replayed(rt: &HostRuntime, seats: u8) -> Result<u8, RunEnd> {
     Ok(status)
 }
 
-/// How many seconds a message may take, by the environment. It is told where the environment gives no
-/// usable number.
-fn message_timeout<R: Env + AllocGlobal, E: Write>(rt: &R, errors: &mut E) -> u64 {
+/// The message timeout that the environment sets. Writes a notice if the environment gives no usable
+/// number.
+fn message_timeout<R: Env + AllocGlobal, E: Write>(rt: &R, errors: &mut E) -> MessageTimeout {
     let timeout = MessageTimeout::from_environment(rt);
-    let seconds = timeout.seconds();
     if timeout == MessageTimeout::Unusable {
+        let seconds = timeout.seconds();
         let _ = writeln!(
             errors,
             "bg_switch: {TIMEOUT_VARIABLE} is no number from 1 to 3600; messages may take {seconds} seconds"
         );
     }
-    seconds
+    timeout
 }
 
-/// Tells why a run ended before its end.
+/// The access log that the environment asks for, if any. Writes a notice if it cannot be opened.
+fn access_log<R: Env + AllocGlobal, E: Write>(
+    rt: &R,
+    errors: &mut E,
+) -> io::Result<Option<AccessLog>> {
+    let path = match env::var(rt, ACCESS_LOG_VARIABLE) {
+        Ok(path) => path,
+        Err(VarError::NotPresent) => return Ok(None),
+        Err(_) => return Err(io::Error::from(ErrorKind::InvalidInput)),
+    };
+    match AccessLog::open(rt.alloc(), path.as_str()) {
+        Ok(log) => Ok(Some(log)),
+        Err(reason) => {
+            let _ = writeln!(
+                errors,
+                "bg_switch: the access log {path} can't be opened: {reason}"
+            );
+            Err(reason)
+        }
+    }
+}
+
+/// Writes the version, or why the words are not an order.
+fn ended_without_order(rt: &HostRuntime, fault: &OrderFault) -> ExitCode {
+    match fault {
+        OrderFault::Words(version) if fault.asks_for_version() => match print!(rt; "{version}") {
+            Ok(()) => ExitCode::SUCCESS,
+            Err(_) => ended(rt, RunEnd::WriteFailed),
+        },
+        OrderFault::Words(error) => {
+            let _ = eprint!(rt; "{error}");
+            ExitCode::from(2)
+        }
+        OrderFault::OutOfMemory => ended(rt, RunEnd::OutOfMemory),
+    }
+}
+
+/// Writes why a run ended early.
 fn ended(rt: &HostRuntime, end: RunEnd) -> ExitCode {
     let _ = eprintln!(rt; "{end:?}");
     ExitCode::FAILURE
 }
 
-/// The order that the words of the process are. Words that are not UTF-8 are judged as U+FFFD.
+/// The order of the process's words. If a word is not UTF-8, the word U+FFFD stands for all of
+/// them.
 fn process_order<R: Env + AllocGlobal>(rt: &R) -> Result<Order, OrderFault> {
     let alloc = rt.alloc();
     let texts = match env::args(rt) {

@@ -1,12 +1,16 @@
-//! The operators before a book is open, and the run once one has opened it.
+//! Answers operators before a book is open, and runs after one has opened it.
 ghost use Rattle.std.specs.Prelude.{◌≡◌, ◌≤◌};
 ghost use Rattle.bg_ledger.specs.Blanks.{AreAllFor};
 
-use crate::listeners::Listeners;
 use crate::operators::Operator;
-use crate::serving::written;
+use crate::ports::Ports;
+use crate::serve::written;
+use crate::telling::Telling;
 use crate::working::{services_of, work_beside_operators};
+use bg_access_log::AccessLog;
 use bg_book::{Book, Desk, Limits, OpenFault};
+use bg_command_line::MessageTimeout;
+use bg_control_port::ControlPort;
 use bg_ledger::{Blanks, Names, Seat};
 use bg_operator::MOST_TURNS;
 use bg_report::report;
@@ -22,49 +26,57 @@ use std::sync::Wait;
 use std::thread::Threads;
 use std::time::Clock;
 
-/// What the workers and the operators share, once the ports are bound.
+/// What the workers and the operators share after the ports are bound.
 #[derive(Drop)]
 pub struct Scene<'a> {
     pub alloc: Global,
     pub strategy: &'a Strategy,
-    pub listeners: &'a Listeners,
-    /// How many workers there are, that of the preview service included: 1 to 8, or each `open` is
-    /// refused.
+    pub ports: &'a Ports,
+    /// The number of workers, including that of the preview service: 1 to 8. With any other number,
+    /// each `open` is refused.
     pub seats: u32,
-    /// How many connections each worker takes at most.
+    /// The maximum number of connections that each worker takes.
     pub count: u64,
-    /// Whether `quit` is a graceful shutdown of the client ports.
+    /// Whether `quit` begins a graceful shutdown of the client ports.
     pub shuts_down: bool,
-    /// How many seconds a request or a response may take until it is whole.
-    pub patience: u64,
+    /// The timeout within which a request or a response has to be complete.
+    pub timeout: MessageTimeout,
+    /// The log of ended connections.
+    pub log: Option<&'a AccessLog>,
+    /// What tells on standard error.
+    pub telling: &'a Telling<'a>,
 }
 
-/// Answers operators, one after the other, until one opens a book, by which clients are then served to
-/// the end. Without a book the run ends at `quit`, and at an accept that fails.
-pub fn await_open<R, W: Write>(rt: &R, scene: &Scene, output: &mut W) -> Result<(), RunEnd>
+/// Answers operators, one after the other, until one opens a book. Clients are then served by that
+/// book to the end. Without a book, the run ends at `quit`.
+pub fn await_open<'a, R, W: Write>(
+    rt: &'a R,
+    scene: &Scene<'a>,
+    control: &'a ControlPort,
+    output: &mut W,
+) -> Result<(), RunEnd>
 where
     R: Net<Listener = TcpListener, Stream = TcpStream> + Threads + Wait + Clock + Sync,
 {
-    for stream in scene.listeners.control.incoming() {
-        let Ok(stream) = stream else {
-            return Ok(());
-        };
-        if let Ok(mut operator) = Operator::new(scene.alloc, &stream) {
-            let done = answer_opener(rt, scene, &mut operator, output)?;
+    for _ in rt.forever() {
+        let connection = control.next(rt, scene.telling);
+        if let Ok(mut operator) = Operator::new(scene.alloc, &connection) {
+            let done = answer_opener(rt, scene, control, &mut operator, output)?;
             if done {
                 return Ok(());
             }
         }
     }
-    Ok(())
+    unreachable!()
 }
 
 /// Answers an operator. Returns whether the run is done: clients were served to the end, or the
-/// operator quits. After 2^24 refused `open`s its connection is given up.
-fn answer_opener<R, W: Write>(
-    rt: &R,
-    scene: &Scene,
-    operator: &mut Operator,
+/// operator quits. Gives its connection up after 2^24 refused `open`s.
+fn answer_opener<'a, R, W: Write>(
+    rt: &'a R,
+    scene: &Scene<'a>,
+    control: &'a ControlPort,
+    operator: &mut Operator<R>,
     output: &mut W,
 ) -> Result<bool, RunEnd>
 where
@@ -76,7 +88,8 @@ where
             Ok(BeforeOpen::Quit) => return Ok(true),
             Ok(BeforeOpen::SpeaksHttp | BeforeOpen::End) | Err(_) => return Ok(false),
         };
-        match open_and_serve::<Brand, R, W>(rt, scene, Blanks::new(), &first, operator, output) {
+        let blanks = Blanks::new();
+        match open_and_serve::<Brand, R, W>(rt, scene, control, blanks, &first, operator, output) {
             Ok(told) => {
                 told?;
                 return Ok(true);
@@ -92,12 +105,13 @@ where
 }
 
 /// Opens the book, serves clients to the end, and writes the report and the number of calls.
-fn open_and_serve<N: Names + Send + Sync, R, W: Write>(
-    rt: &R,
-    scene: &Scene,
+fn open_and_serve<'a, N: Names + Send + Sync, R, W: Write>(
+    rt: &'a R,
+    scene: &Scene<'a>,
+    control: &'a ControlPort,
     blanks: Blanks,
     first: &FirstRevision,
-    operator: &mut Operator,
+    operator: &mut Operator<R>,
     output: &mut W,
 ) -> Result<Result<(), RunEnd>, OpenFault>
 where
@@ -105,7 +119,7 @@ where
     requires blanks { AreAllFor N.Names blanks }
     requires seats { 1 ≤ scene.now.seats → scene.now.seats ≤ 8 → N.seats ≡ scene.now.seats }
 {
-    let has_preview = scene.listeners.of(Service::Preview).is_some();
+    let has_preview = scene.ports.of(Service::Preview).is_some();
     let services = services_of(scene.alloc, scene.seats, has_preview)?;
     let (book, mut seats) = Book::<N>::open(
         scene.alloc,
@@ -117,7 +131,16 @@ where
         blanks,
     )?;
     let desk = Desk::new(book);
-    work_beside_operators(rt, scene, &desk, &services, seats.as_mut_slice(), operator);
+    work_beside_operators(
+        rt,
+        scene,
+        control,
+        &desk,
+        &services,
+        seats.as_mut_slice(),
+        operator,
+    );
+    scene.telling.tell_refusals();
     let book = desk.into_book();
     let reported = report(&book, output);
     let calls = calls_of(&seats);
@@ -125,7 +148,7 @@ where
     Ok(tell_calls(reported, calls, output))
 }
 
-/// Writes the number of calls, once the report was written.
+/// Writes the number of calls, after the report was written.
 fn tell_calls<W: Write>(
     reported: io::Result<()>,
     calls: u64,
@@ -136,7 +159,7 @@ fn tell_calls<W: Write>(
     written(output.flush())
 }
 
-/// How many calls the seats were answered.
+/// The number of calls of all seats.
 fn calls_of<N: Names>(seats: &[Seat<N>]) -> u64 {
     let mut calls = 0u64;
     for seat in seats {

@@ -1,6 +1,8 @@
 //! The connections of operators, one after the other.
 
+use crate::telling::Telling;
 use bg_book::Desk;
+use bg_control_port::{ControlConnection, ControlPort};
 use bg_ledger::Names;
 use bg_operator::OperatorLines;
 use bg_script::{
@@ -8,25 +10,28 @@ use bg_script::{
 };
 use std::alloc::Global;
 use std::io::{BufReader, BufWriter, Write};
-use std::net::{TcpListener, TcpStream};
 use std::sync::Wait;
+use std::time::Clock;
 
-/// The connection of an operator. Its reads and writes may wait: an operator may think.
+/// The connection of an operator that has its turn.
 #[derive(Drop)]
-pub struct Operator<'a> {
+pub struct Operator<'c, 't, R: Clock + Wait> {
     alloc: Global,
     lines: OperatorLines,
-    reader: BufReader<&'a TcpStream>,
-    writer: BufWriter<&'a TcpStream>,
+    reader: BufReader<&'c ControlConnection<'c, R, Telling<'t>>>,
+    writer: BufWriter<&'c ControlConnection<'c, R, Telling<'t>>>,
 }
 
-impl<'a> Operator<'a> {
-    /// Refused where memory for a buffer is.
-    pub fn new(alloc: Global, stream: &'a TcpStream) -> Result<Operator<'a>, RunEnd> {
-        let Ok(reader) = BufReader::new(alloc, stream) else {
+impl<'c, 't, R: Clock + Wait> Operator<'c, 't, R> {
+    /// An error if the allocation for a buffer fails.
+    pub fn new(
+        alloc: Global,
+        connection: &'c ControlConnection<'c, R, Telling<'t>>,
+    ) -> Result<Operator<'c, 't, R>, RunEnd> {
+        let Ok(reader) = BufReader::new(alloc, connection) else {
             return Err(RunEnd::OutOfMemory);
         };
-        let Ok(writer) = BufWriter::new(alloc, stream) else {
+        let Ok(writer) = BufWriter::new(alloc, connection) else {
             return Err(RunEnd::OutOfMemory);
         };
         Ok(Operator {
@@ -42,23 +47,25 @@ impl<'a> Operator<'a> {
         answer_before_open(&mut self.lines, &mut self.reader, &mut self.writer)
     }
 
-    /// Answers lines by the book of a desk.
-    pub fn at_desk<N: Names, R: Wait>(
+    /// Answers lines by the book of a desk. Those that are refused since the history is full are told.
+    pub fn at_desk<N: Names>(
         &mut self,
         rt: &R,
         desk: &Desk<N>,
+        telling: &Telling,
     ) -> Result<ControlEnd, RunEnd> {
         answer_at_desk(
             rt,
             self.alloc,
             desk,
+            telling.refused_lines(),
             &mut self.lines,
             &mut self.reader,
             &mut self.writer,
         )
     }
 
-    /// Says what an `open` is answered.
+    /// Writes the answer to an `open`.
     pub fn say(&mut self, answer: Answer) -> Result<(), RunEnd> {
         if write_answer(&answer, &mut self.writer).is_err() {
             return Err(RunEnd::WriteFailed);
@@ -68,26 +75,33 @@ impl<'a> Operator<'a> {
             Err(_) => Err(RunEnd::WriteFailed),
         }
     }
+
+    /// Ends the connection, so that the next one gets its turn.
+    pub fn end(&self) {
+        self.writer.get_ref().close();
+    }
 }
 
-/// Answers the operator that opened the book, and then the next ones, up to `quit` or an accept that
-/// fails. The end of a connection, or a fault of it, lets the next one come.
-pub fn answer_operators<N: Names, R: Wait>(
-    rt: &R,
+/// Answers the operator that opened the book, and then the next ones, up to `quit`. After the end
+/// or a failure of a connection, the next one gets its turn.
+pub fn answer_operators<'a, N: Names, R: Clock + Wait>(
+    rt: &'a R,
     alloc: Global,
     desk: &Desk<N>,
-    opener: &mut Operator,
-    control: &TcpListener,
+    opener: &mut Operator<R>,
+    control: &'a ControlPort,
+    telling: &'a Telling,
 ) {
-    if opener.say(Answer::Opened).is_ok() && quits(rt, desk, opener) {
+    telling.note_open();
+    if opener.say(Answer::Opened).is_ok() && quits(rt, desk, opener, telling) {
         return;
     }
-    for stream in control.incoming() {
-        let Ok(stream) = stream else {
-            return;
-        };
-        if let Ok(mut operator) = Operator::new(alloc, &stream)
-            && quits(rt, desk, &mut operator)
+    opener.end();
+    for _ in rt.forever() {
+        telling.note_entries(desk.entries_used(rt));
+        let connection = control.next(rt, telling);
+        if let Ok(mut operator) = Operator::new(alloc, &connection)
+            && quits(rt, desk, &mut operator, telling)
         {
             return;
         }
@@ -95,6 +109,11 @@ pub fn answer_operators<N: Names, R: Wait>(
 }
 
 /// Answers the lines of an operator by the book of a desk. Returns whether they end with `quit`.
-fn quits<N: Names, R: Wait>(rt: &R, desk: &Desk<N>, operator: &mut Operator) -> bool {
-    operator.at_desk(rt, desk) == Ok(ControlEnd::Quit)
+fn quits<N: Names, R: Clock + Wait>(
+    rt: &R,
+    desk: &Desk<N>,
+    operator: &mut Operator<R>,
+    telling: &Telling,
+) -> bool {
+    operator.at_desk(rt, desk, telling) == Ok(ControlEnd::Quit)
 }

@@ -1,12 +1,18 @@
-//! Workers, beside the operators.
+//! Runs the workers and the operators in parallel.
 ghost use Rattle.std.specs.Prelude.{◌≡◌, IfOk, length, vec_len};
 ghost use Rattle.bg_forward.specs.Seats.{AllOut, AllWorked};
+ghost use Rattle.bg_switch.specs.Services.{services_in};
 
-use crate::links::{Clients, Endpoints};
+use crate::clients::Clients;
 use crate::opening::Scene;
 use crate::operators::{Operator, answer_operators};
+use crate::ports::Ports;
+use bg_access_log::AccessLog;
 use bg_book::Desk;
-use bg_forward::{Door, run_workers};
+use bg_command_line::MessageTimeout;
+use bg_control_port::ControlPort;
+use bg_endpoints::{Endpoints, ResponseTimeout};
+use bg_forward::{DeskGate, run_workers};
 use bg_ledger::{Names, Seat};
 use bg_revisions::Service;
 use std::alloc::{AllocError, Global};
@@ -15,27 +21,35 @@ use std::sync::Wait;
 use std::thread::{Threads, join_mut};
 use std::time::Clock;
 
-/// The service of each of so many workers. That of the preview service comes last. Where no threads can
-/// be had, its worker takes its connections first: std works the seats from the last one on then.
+/// The service of each of this many workers. The worker of the preview service comes last. If no
+/// threads can be started, it takes its connections first, because std then serves the seats from the
+/// last one on.
 pub fn services_of(alloc: Global, seats: u32, has_preview: bool) -> Result<Vec<Service>, AllocError>
-    ensures { IfOk result (λ services. length services.items ≡ seats) }
+    ensures len { IfOk result (λ services. length services.items ≡ seats) }
+    ensures each { IfOk result (λ services. services.items ≡ services_in seats has_preview) }
 {
-    let mut services = vec![in alloc; Service::Active; seats as usize]?;
-    if has_preview && let Some(last) = services.last_mut() {
-        *last = Service::Preview;
+    let actives = if has_preview {
+        seats.saturating_sub(1)
+    } else {
+        seats
+    };
+    let mut services = vec![in alloc; Service::Active; actives as usize]?;
+    if actives < seats {
+        services.push(Service::Preview)?;
     }
     Ok(services)
 }
 
-/// Lets the workers take their connections, and answers the operators beside them. It returns when
-/// both are done.
-pub fn work_beside_operators<N: Names + Send + Sync, R>(
-    rt: &R,
-    scene: &Scene,
+/// Runs the workers with the event loops of their ports, and answers operators in parallel. Returns
+/// when all are done.
+pub fn work_beside_operators<'a, N: Names + Send + Sync, R>(
+    rt: &'a R,
+    scene: &Scene<'a>,
+    control: &'a ControlPort,
     desk: &Desk<N>,
     services: &[Service],
     seats: &mut [Seat<N>],
-    operator: &mut Operator,
+    operator: &mut Operator<R>,
 )
 where
     R: Net<Listener = TcpListener, Stream = TcpStream> + Threads + Wait + Clock + Sync,
@@ -43,29 +57,143 @@ where
     requires services { length services.now ≡ length seats.old }
     ensures { AllWorked scene.now.count seats.old seats.new }
 {
-    let alloc = scene.alloc;
     let count = scene.count;
-    let listeners = scene.listeners;
-    let control = &listeners.control;
     let shuts_down = scene.shuts_down;
-    let door = Door::new(rt, desk);
-    let clients = Clients::new(rt, scene.listeners, scene.patience);
-    let endpoints = Endpoints::new(rt, scene.patience);
+    let ports = scene.ports;
+    let telling = scene.telling;
     join_mut(
         rt,
         &mut ||
             requires { AllOut seats.now × (length services.now ≡ length seats.now) }
             ensures { AllWorked count seats.entry.now seats.exit.now }
-        {
-            run_workers(
-                rt, alloc, &door, seats, services, &clients, &endpoints, count,
-            )
-        },
+        { work_beside_log(rt, scene, desk, services, seats, count) },
         &mut || {
-            answer_operators(rt, alloc, desk, operator, control);
+            answer_operators(rt, scene.alloc, desk, operator, control, telling);
+            control.close(rt);
             if shuts_down {
-                listeners.close_client_ports(rt);
+                ports.close_client_ports(rt);
             }
         },
     );
+}
+
+/// Runs the workers, each for at most this many connections, and writes the access log in parallel.
+/// Returns when both are done.
+fn work_beside_log<N: Names + Send + Sync, R>(
+    rt: &R,
+    scene: &Scene,
+    desk: &Desk<N>,
+    services: &[Service],
+    seats: &mut [Seat<N>],
+    count: u64,
+)
+where
+    R: Net<Listener = TcpListener, Stream = TcpStream> + Threads + Wait + Clock + Sync,
+    requires out { AllOut seats.old }
+    requires services { length services.now ≡ length seats.old }
+    ensures { AllWorked count seats.old seats.new }
+{
+    let log = scene.log;
+    join_mut(
+        rt,
+        &mut || run_log_writer(rt, log),
+        &mut ||
+            requires { AllOut seats.now × (length services.now ≡ length seats.now) }
+            ensures { AllWorked count seats.entry.now seats.exit.now }
+        {
+            work_beside_event_loops(rt, scene, desk, services, seats, count);
+            end_log(log);
+        },
+    );
+}
+
+/// Runs the workers, each for at most this many connections, and the event loops in parallel. Returns
+/// when all are done.
+fn work_beside_event_loops<N: Names + Send + Sync, R>(
+    rt: &R,
+    scene: &Scene,
+    desk: &Desk<N>,
+    services: &[Service],
+    seats: &mut [Seat<N>],
+    count: u64,
+)
+where
+    R: Net<Listener = TcpListener, Stream = TcpStream> + Threads + Wait + Clock + Sync,
+    requires out { AllOut seats.old }
+    requires services { length services.now ≡ length seats.old }
+    ensures { AllWorked count seats.old seats.new }
+{
+    let ports = scene.ports;
+    join_mut(
+        rt,
+        &mut || run_event_loops(rt, ports),
+        &mut ||
+            requires { AllOut seats.now × (length services.now ≡ length seats.now) }
+            ensures { AllWorked count seats.entry.now seats.exit.now }
+        { work(rt, scene, desk, services, seats, count) },
+    );
+}
+
+/// Runs the workers, each for at most this many connections.
+fn work<N: Names + Send + Sync, R>(
+    rt: &R,
+    scene: &Scene,
+    desk: &Desk<N>,
+    services: &[Service],
+    seats: &mut [Seat<N>],
+    count: u64,
+)
+where
+    R: Net<Listener = TcpListener, Stream = TcpStream> + Threads + Wait + Clock + Sync,
+    requires out { AllOut seats.old }
+    requires services { length services.now ≡ length seats.old }
+    ensures { AllWorked count seats.old seats.new }
+{
+    let desk_gate = DeskGate::new(rt, desk);
+    let clients = Clients::new(rt, scene.alloc, scene.ports, scene.log, scene.telling);
+    let endpoints = Endpoints::new(rt, scene.ports.own, response_timeout(scene.timeout));
+    run_workers(
+        rt,
+        scene.alloc,
+        &desk_gate,
+        seats,
+        services,
+        &clients,
+        &endpoints,
+        count,
+    );
+}
+
+/// Runs the event loops of the client ports until the ports are closed and nothing is pending.
+fn run_event_loops<R: Threads + Wait + Clock + Sync>(rt: &R, ports: &Ports) {
+    join_mut(
+        rt,
+        &mut || run_event_loop(rt, ports, Service::Preview),
+        &mut || run_event_loop(rt, ports, Service::Active),
+    );
+}
+
+fn run_event_loop<R: Wait + Clock>(rt: &R, ports: &Ports, service: Service) {
+    if let Some(port) = ports.of(service) {
+        port.run_event_loop(rt);
+    }
+}
+
+fn run_log_writer<R: Wait + Clock>(rt: &R, log: Option<&AccessLog>) {
+    if let Some(log) = log {
+        log.run_writer(rt);
+    }
+}
+
+fn end_log(log: Option<&AccessLog>) {
+    if let Some(log) = log {
+        log.end();
+    }
+}
+
+fn response_timeout(timeout: MessageTimeout) -> ResponseTimeout {
+    ResponseTimeout {
+        seconds: timeout.seconds(),
+        is_given: matches!(timeout, MessageTimeout::Given(_)),
+    }
 }

@@ -1,8 +1,8 @@
 //! The list of entries.
 
 mod audit;
-pub(crate) mod audited;
-mod changed;
+mod changed_histories;
 mod changes;
+pub(crate) mod gathered;
 mod sizes;
-mod texts;
+pub(crate) mod texts;

@@ -1,6 +1,6 @@
-//! The tests of the libraries, over their public calls; those of messages alone are bg_tests_http, those of connections
-//! bg_tests_forward. They stand in crates of their own, since a crate that has tests is proved twice: with them and
-//! without.
+//! The tests of the libraries, over their public calls. The tests of messages are in bg_tests_http, and those of
+//! connections in bg_tests_forward. They are separate crates, because a crate with tests is proved twice: with the
+//! tests and without them.
 #![tactic(auto)]
 
 #[cfg(test)]

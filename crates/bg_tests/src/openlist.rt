@@ -1,3 +1,3 @@
-//! The lists linked by pointers.
+//! The lists that are linked by pointers.
 
 mod lists;

@@ -1,4 +1,4 @@
-//! Books of two endpoints, behind a desk: how the tests open them and close them.
+//! Books of two endpoints at a desk, which the tests open and close.
 ghost use Rattle.std.specs.Prelude.{◌≡◌, true, IfOk, ⊤};
 ghost use Rattle.bg_ledger.specs.Blanks.{AreAllFor};
 ghost use Rattle.bg_rollout.specs.Changes.{NewSeats};
@@ -11,7 +11,7 @@ use bg_strategy::Strategy;
 use std::alloc::Global;
 use std::sync::Wait;
 
-/// Opens a book of so many seats. Gives its desk, and the seats.
+/// Opens a book of this many seats. Gives its desk and the seats.
 pub fn open<N: Names>(
     alloc: Global,
     strategy: &Strategy,
@@ -28,7 +28,7 @@ pub fn open<N: Names>(
     Ok((Desk::new(book), seats))
 }
 
-/// Tells the book that so many of its endpoints are available.
+/// Reports to the book that this many of its endpoints are available.
 pub fn tell_available<N: Names, R: Wait>(
     rt: &R,
     desk: &Desk<N>,
@@ -37,7 +37,7 @@ pub fn tell_available<N: Names, R: Wait>(
     desk.control(rt, &Control::Available { revision: 1, size })
 }
 
-/// How many requests are open at the first revision.
+/// The number of open requests at the first revision.
 #[derive(Drop)]
 struct OpenRequests;
 
@@ -49,12 +49,12 @@ impl Question<usize> for OpenRequests {
     }
 }
 
-/// How many requests are open at the first revision of the book.
+/// The number of open requests at the first revision of the book.
 pub fn open_requests<N: Names, R: Wait>(rt: &R, desk: &Desk<N>) -> usize {
     desk.look(rt, OpenRequests)
 }
 
-/// How many entries the history has.
+/// The number of entries of the history.
 #[derive(Drop)]
 struct EntryCount;
 
@@ -66,7 +66,7 @@ impl Question<u64> for EntryCount {
     }
 }
 
-/// How many entries the history of the book has.
+/// The number of entries of the book's history.
 pub fn entry_count<N: Names, R: Wait>(rt: &R, desk: &Desk<N>) -> u64 {
     desk.look(rt, EntryCount)
 }

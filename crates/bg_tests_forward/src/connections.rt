@@ -5,12 +5,11 @@ ghost use Rattle.bg_rollout.specs.Gathering.{indices};
 ghost use Rattle.bg_ledger.specs.Blanks.{AreAllFor};
 
 use crate::books::{close, open, open_requests, tell_available};
-use crate::fakes::{Asked, Endpoint, Line, Pace, Seen, Shut, Uses};
+use crate::fakes::{Asked, Endpoint, FakeStream, Pace, Seen, Shut, Uses};
 use crate::samples::strategy;
 use bg_audit::audit;
-use bg_book::laws::{lent, same_order};
-use bg_book::{Desk, Limits};
-use bg_forward::{Buffered, Dial, Door, End, Gate, Served, serve_one};
+use bg_book::{Desk, Limits, laws as book_laws};
+use bg_forward::{Buffered, DeskGate, Dial, End, Gate, Served, serve_one};
 use bg_history::History;
 use bg_ledger::{Blanks, Names, Seat};
 use bg_revisions::Service;
@@ -24,27 +23,27 @@ use std::test::Fail;
 /// The port of the first request that enters.
 pub const FIRST_PORT: u16 = 9002;
 
-/// A connection, and what stands before and behind it.
+/// A connection, with its client, gate and endpoint.
 #[derive(Clone, Copy, Drop)]
 pub struct Setting<'a> {
-    /// What the client sends.
+    /// The bytes that the client sends.
     pub request: &'a [u8],
-    /// What it sends besides, once it was written `100 Continue`.
+    /// The further bytes that it sends after `100 Continue` was written to it.
     pub rest: &'a [u8],
     pub client: Pace,
     pub service: Service,
-    /// Whether the gate lets no request in.
+    /// Whether the gate admits no request.
     pub shut: bool,
-    /// The question at which the gate gives the request up, counted from 1; 0 is at none.
+    /// The question at which the gate gives the request up, counted from 1; 0 means at none.
     pub cut_at: u64,
-    /// How many endpoints are available.
+    /// The number of available endpoints.
     pub available: u32,
     /// The port at which the endpoint listens.
     pub port: u16,
-    /// What the endpoint answers.
+    /// The answer of the endpoint.
     pub response: &'a [u8],
     pub endpoint: Pace,
-    /// What the endpoint should be written.
+    /// The bytes that should be written to the endpoint.
     pub forwarded: &'a [u8],
 }
 
@@ -67,8 +66,8 @@ impl<'a> Setting<'a> {
     }
 
     /// The client's stream.
-    fn line(&self, alloc: Global) -> Line<'a> {
-        Line::waiting(alloc, self.request, self.rest, self.client)
+    fn stream(&self, alloc: Global) -> FakeStream<'a> {
+        FakeStream::waiting(alloc, self.request, self.rest, self.client)
     }
 
     fn endpoint(&self, alloc: Global, seen: &'a Seen) -> Endpoint<'a> {
@@ -83,28 +82,29 @@ impl<'a> Setting<'a> {
     }
 }
 
-/// What came of a connection.
+/// The outcome of a connection.
 #[derive(Drop)]
 pub struct Outcome {
     pub entered: bool,
     pub end: End,
-    /// What the client was written.
+    /// The bytes that were written to the client.
     pub written: Vec<u8>,
-    /// How often the client was read and written, and the endpoint.
+    /// The numbers of reads and writes of the client, and of the endpoint.
     pub client: Uses,
     pub endpoint: Uses,
-    /// How often the gate was asked whether the request goes on, and the client's stream whether the client has gone.
+    /// The number of times that the gate was asked whether the request goes on, and that the client's stream was
+    /// asked whether the client has gone.
     pub questions: u64,
     pub client_questions: u64,
-    /// How many calls the seat was answered, and whether it is out.
+    /// The number of calls of the seat, and whether it is out.
     pub calls: u64,
     pub is_out: bool,
-    /// How many requests were open at the end.
+    /// The number of requests that were open at the end.
     pub open: usize,
     /// Whether the history is legal, with nothing left undone.
     pub is_legal: bool,
-    /// How many connections to endpoints were opened, how many of them were written what they should, and how many were
-    /// dropped.
+    /// The number of connections to endpoints that were opened, of those that got the expected bytes, and of those that
+    /// were dropped.
     pub dialled: u64,
     pub forwarded: u64,
     pub dropped: u64,
@@ -116,13 +116,13 @@ fn serve_first<N: Names, G: Gate<N>, D: Dial>(
     gate: &G,
     seats: &mut [Seat<N>],
     setting: &Setting,
-    client: &mut Buffered<Line>,
+    client: &mut Buffered<FakeStream>,
     dial: &D,
 ) -> Option<Served>
     requires { held client.old ≡ [] }
     ensures { indices seats.new ≡ indices seats.old }
 {
-    same_order();
+    book_laws::same_order();
     if seats.is_empty() {
         return None;
     }
@@ -133,33 +133,41 @@ fn serve_first<N: Names, G: Gate<N>, D: Dial>(
     Some(serve_one(alloc, gate, seat, setting.service, client, dial))
 }
 
-/// Serves it through the door of a desk, which is asked, or before a door that is shut.
+/// Serves the client through the gate of a desk, which counts its questions, or at a gate that is
+/// shut.
 fn serve_at<N: Names, R: Wait, D: Dial>(
     rt: &R,
     alloc: Global,
     desk: &Desk<N>,
     seats: &mut [Seat<N>],
     setting: &Setting,
-    client: &mut Buffered<Line>,
+    client: &mut Buffered<FakeStream>,
     dial: &D,
     questions: &AtomicU64,
 ) -> Option<Served>
     requires { held client.old ≡ [] }
     ensures { indices seats.new ≡ indices seats.old }
 {
-    let door = Door::new(rt, desk);
+    let desk_gate = DeskGate::new(rt, desk);
     if setting.shut {
-        return serve_first(alloc, &Shut { behind: &door }, seats, setting, client, dial);
+        return serve_first(
+            alloc,
+            &Shut { behind: &desk_gate },
+            seats,
+            setting,
+            client,
+            dial,
+        );
     }
     let gate = Asked {
-        behind: &door,
+        behind: &desk_gate,
         cut_at: setting.cut_at,
         questions,
     };
     serve_first(alloc, &gate, seats, setting, client, dial)
 }
 
-/// How many calls the first seat was answered, and whether it is out.
+/// The number of calls of the first seat, and whether it is out.
 fn state_of_first<N: Names>(seats: &[Seat<N>]) -> (u64, bool) {
     match seats.first() {
         Some(seat) => (seat.calls(), !seat.is_in()),
@@ -167,26 +175,26 @@ fn state_of_first<N: Names>(seats: &[Seat<N>]) -> (u64, bool) {
     }
 }
 
-/// What became of the seat of a book, and of the book.
+/// The outcome of the seat of a book, and of the book.
 #[derive(Drop)]
 struct Closed {
-    /// What became of the connection; none where there was no seat.
+    /// The outcome of the connection; `None` if there was no seat.
     served: Option<Served>,
-    /// How many calls the seat was answered, and whether it is out.
+    /// The number of calls of the seat, and whether it is out.
     calls: u64,
     is_out: bool,
-    /// How many requests were open.
+    /// The number of requests that were open.
     open: usize,
     history: History,
 }
 
-/// Serves a client at the one seat of a book, and closes the book.
+/// Serves a client at the only seat of a book, and closes the book.
 fn serve_over<N: Names, R: Wait, D: Dial>(
     rt: &R,
     alloc: Global,
     strategy: &Strategy,
     setting: &Setting,
-    client: &mut Buffered<Line>,
+    client: &mut Buffered<FakeStream>,
     dial: &D,
     questions: &AtomicU64,
     blanks: Blanks,
@@ -195,7 +203,7 @@ fn serve_over<N: Names, R: Wait, D: Dial>(
     requires seats { N.seats ≡ 1 }
     requires empty { held client.old ≡ [] }
 {
-    lent();
+    book_laws::lent();
     let (desk, mut seats) = open::<N>(alloc, strategy, 1, Limits::usual(), blanks)?;
     let told = tell_available(rt, &desk, setting.available);
     let lent_seats = seats.as_mut_slice();
@@ -215,13 +223,13 @@ fn serve_over<N: Names, R: Wait, D: Dial>(
     })
 }
 
-/// What comes of a connection.
+/// Serves a connection, and gives its outcome.
 pub fn serve<R: Wait>(rt: &R, alloc: Global, setting: &Setting) -> Result<Option<Outcome>, Fail> {
     let strategy = strategy(alloc)?;
     let seen = Seen::new();
     let questions = AtomicU64::new(0);
     let endpoint = setting.endpoint(alloc, &seen);
-    let mut client = Buffered::new(alloc, setting.line(alloc));
+    let mut client = Buffered::new(alloc, setting.stream(alloc));
     let closed = serve_over::<Brand, R, Endpoint>(
         rt,
         alloc,
@@ -235,17 +243,17 @@ pub fn serve<R: Wait>(rt: &R, alloc: Global, setting: &Setting) -> Result<Option
     let Some(served) = closed.served else {
         return Ok(None);
     };
-    let line = client.get_ref();
+    let stream = client.get_ref();
     let mut written = Vec::new(alloc);
-    written.extend_from_slice(line.shows())?;
+    written.extend_from_slice(stream.shows())?;
     Ok(Some(Outcome {
         entered: served.entered.is_some(),
         end: served.end,
         written,
-        client: line.uses(),
+        client: stream.uses(),
         endpoint: seen.uses(),
         questions: questions.load(Ordering::SeqCst),
-        client_questions: line.questions(),
+        client_questions: stream.questions(),
         calls: closed.calls,
         is_out: closed.is_out,
         open: closed.open,

@@ -1,4 +1,4 @@
-//! Clients that send their bodies only once they were written `100 Continue`.
+//! Clients that send their bodies only after `100 Continue` was written to them.
 
 use crate::connections::Setting;
 use crate::messages::{CHUNKS, EXPECTS_ANSWERED, EXPECTS_ON, expect};

@@ -10,7 +10,7 @@ use std::io;
 use std::io::{ErrorKind, Read, Write};
 use std::sync::atomic::{AtomicU64, Ordering};
 
-/// What a client is written that waits before it sends its body.
+/// The bytes that are written to a client that waits before it sends its body.
 pub const CONTINUE: &str = "HTTP/1.1 100 Continue\r\n\r\n";
 
 /// Which reads and writes of a stream are interrupted.
@@ -26,7 +26,7 @@ pub enum Interruptions {
 /// How a stream gives and takes its bytes.
 #[derive(Clone, Copy, Drop)]
 pub struct Pace {
-    /// The most bytes of one read or write.
+    /// The maximum number of bytes of one read or write.
     pub most: usize,
     /// The one read and the one write that fail, counted from 0.
     pub failing_read: Option<u64>,
@@ -52,7 +52,7 @@ impl Pace {
     }
 }
 
-/// How often a stream was read and written, interrupted times not counted.
+/// The number of reads and writes of a stream, without the interrupted ones.
 #[derive(Clone, Copy, PartialEq, Eq, Debug, Drop)]
 pub struct Uses {
     pub reads: u64,
@@ -61,25 +61,25 @@ pub struct Uses {
 
 /// A stream over memory.
 #[derive(Drop)]
-pub struct Line<'a> {
+pub struct FakeStream<'a> {
     input: &'a [u8],
     rest: &'a [u8],
     pace: Pace,
     uses: Uses,
-    /// How often it was asked whether the peer has gone.
+    /// The number of times that it was asked whether the peer has gone.
     questions: u64,
     was_interrupted: bool,
     output: Vec<u8>,
 }
 
-impl<'a> Line<'a> {
-    pub fn new(alloc: Global, input: &'a [u8], pace: Pace) -> Line<'a> {
-        Line::waiting(alloc, input, &[], pace)
+impl<'a> FakeStream<'a> {
+    pub fn new(alloc: Global, input: &'a [u8], pace: Pace) -> FakeStream<'a> {
+        FakeStream::waiting(alloc, input, &[], pace)
     }
 
     /// A stream that ends after `input`, unless `100 Continue` was written to it: then `rest` follows.
-    pub fn waiting(alloc: Global, input: &'a [u8], rest: &'a [u8], pace: Pace) -> Line<'a> {
-        Line {
+    pub fn waiting(alloc: Global, input: &'a [u8], rest: &'a [u8], pace: Pace) -> FakeStream<'a> {
+        FakeStream {
             input,
             rest,
             pace,
@@ -97,17 +97,17 @@ impl<'a> Line<'a> {
         self.uses
     }
 
-    /// How often it was asked whether the peer has gone.
+    /// The number of times that it was asked whether the peer has gone.
     pub fn questions(&self) -> u64 {
         self.questions
     }
 
-    /// What was written so far.
+    /// The bytes that were written so far.
     pub fn shows(&self) -> &[u8] {
         self.output.as_slice()
     }
 
-    /// Whether it is interrupted that was not just before.
+    /// Whether this call is interrupted, because the one before was not.
     fn is_second(&mut self) -> bool {
         self.was_interrupted = !self.was_interrupted;
         self.was_interrupted
@@ -130,7 +130,7 @@ impl<'a> Line<'a> {
     }
 }
 
-impl Read for Line<'_> {
+impl Read for FakeStream<'_> {
     fn read(&mut self, buf: &mut [u8]) -> io::Result<usize> {
         if self.interrupts_read() {
             return Err(io::Error::from(ErrorKind::Interrupted));
@@ -149,7 +149,7 @@ impl Read for Line<'_> {
     }
 }
 
-impl Write for Line<'_> {
+impl Write for FakeStream<'_> {
     fn write(&mut self, buf: &[u8]) -> io::Result<usize> {
         if self.interrupts_write() {
             return Err(io::Error::from(ErrorKind::Interrupted));
@@ -171,7 +171,7 @@ impl Write for Line<'_> {
     }
 }
 
-impl Duplex for Line<'_> {
+impl Duplex for FakeStream<'_> {
     fn receive(&mut self, buf: &mut [u8]) -> io::Result<usize> {
         self.read(buf)
     }
@@ -181,7 +181,7 @@ impl Duplex for Line<'_> {
     }
 }
 
-impl ClientStream for Line<'_> {
+impl ClientStream for FakeStream<'_> {
     fn has_gone(&mut self) -> bool {
         self.questions = self.questions.saturating_add(1);
         match self.pace.goes_at {
@@ -194,13 +194,13 @@ impl ClientStream for Line<'_> {
 /// What an endpoint has seen.
 #[derive(Drop)]
 pub struct Seen {
-    /// How many connections were opened.
+    /// The number of connections that were opened.
     pub dialled: AtomicU64,
-    /// How many of them were written just what was wanted when they were flushed.
+    /// The number of those to which exactly the expected bytes were written when they were flushed.
     pub forwarded: AtomicU64,
-    /// How many of them were dropped.
+    /// The number of those that were dropped.
     pub dropped: AtomicU64,
-    /// How often they were read and written, interrupted times counted too.
+    /// The numbers of their reads and writes, with the interrupted ones.
     pub reads: AtomicU64,
     pub writes: AtomicU64,
 }
@@ -216,7 +216,7 @@ impl Seen {
         }
     }
 
-    /// How often the connections were read and written.
+    /// The numbers of reads and writes of the connections.
     pub fn uses(&self) -> Uses {
         Uses {
             reads: self.reads.load(Ordering::SeqCst),
@@ -238,7 +238,7 @@ pub struct Endpoint<'a> {
 
 /// A connection to it.
 pub struct Upstream<'a> {
-    line: Line<'a>,
+    stream: FakeStream<'a>,
     wanted: &'a [u8],
     seen: &'a Seen,
 }
@@ -246,7 +246,7 @@ pub struct Upstream<'a> {
 impl Drop for Upstream<'_> {
     fn drop(self) {
         let Upstream {
-            line: _,
+            stream: _,
             wanted: _,
             seen,
         } = self;
@@ -263,7 +263,7 @@ impl<'a> Dial for Endpoint<'a> {
             return Err(io::Error::from(ErrorKind::ConnectionRefused));
         }
         Ok(Upstream {
-            line: Line::new(self.alloc, self.answer, self.pace),
+            stream: FakeStream::new(self.alloc, self.answer, self.pace),
             wanted: self.wanted,
             seen: self.seen,
         })
@@ -273,25 +273,25 @@ impl<'a> Dial for Endpoint<'a> {
 impl Read for Upstream<'_> {
     fn read(&mut self, buf: &mut [u8]) -> io::Result<usize> {
         self.seen.reads.fetch_add(1, Ordering::SeqCst);
-        self.line.read(buf)
+        self.stream.read(buf)
     }
 }
 
 impl Write for Upstream<'_> {
     fn write(&mut self, buf: &[u8]) -> io::Result<usize> {
         self.seen.writes.fetch_add(1, Ordering::SeqCst);
-        self.line.write(buf)
+        self.stream.write(buf)
     }
 
     fn flush(&mut self) -> io::Result<()> {
-        if self.line.shows() == self.wanted {
+        if self.stream.shows() == self.wanted {
             self.seen.forwarded.fetch_add(1, Ordering::SeqCst);
         }
-        self.line.flush()
+        self.stream.flush()
     }
 }
 
-/// A gate that lets no request in. Leaving goes to the gate behind it: only a seat's own record can change the seat.
+/// A gate that admits no request. A request leaves at the inner gate: only a seat's own record can change the seat.
 #[derive(Drop)]
 pub struct Shut<'a, G> {
     pub behind: &'a G,
@@ -311,11 +311,11 @@ impl<N: Names, G: Gate<N>> Gate<N> for Shut<'_, G> {
     }
 }
 
-/// A gate that counts how often it is asked whether a request goes on, and gives it up at one of these questions.
+/// A gate that counts the questions whether a request goes on, and gives the request up at one of them.
 #[derive(Drop)]
 pub struct Asked<'a, G> {
     pub behind: &'a G,
-    /// The question at which it is given up, counted from 1; 0 is at none.
+    /// The question at which it is given up, counted from 1; 0 means at none.
     pub cut_at: u64,
     pub questions: &'a AtomicU64,
 }

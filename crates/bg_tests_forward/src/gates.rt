@@ -1,4 +1,4 @@
-//! Requests that the gate doesn't let in.
+//! Requests that the gate does not admit.
 
 use crate::connections::Setting;
 use crate::messages::{CHUNKS, GET, GET_ON, expect, refusal};

@@ -1,8 +1,8 @@
 //! Clients that go while their requests are forwarded.
 
 use crate::connections::{Outcome, Setting};
-use crate::cut::paces;
 use crate::fakes::{Interruptions, Pace};
+use crate::given_up::paces;
 use crate::messages::{CHUNKS, CHUNKS_ON, GET, GET_ON, expect, refusal};
 use bg_forward::End;
 use std::alloc::Global;
@@ -26,7 +26,8 @@ fn silent() -> Pace {
     }
 }
 
-/// The client was asked so many times, each time before a read and after the gate, and the endpoint was let go.
+/// The client was asked this many times, each time before a read and after the gate, and the connection to the
+/// endpoint was closed.
 fn let_go<R: Abort>(rt: &R, outcome: &Outcome, question: u64) {
     assert_eq!(rt; outcome.client_questions, question);
     assert_eq!(rt; outcome.questions, question.saturating_add(1));
@@ -36,7 +37,8 @@ fn let_go<R: Abort>(rt: &R, outcome: &Outcome, question: u64) {
     assert_eq!(rt; outcome.dropped, 1);
 }
 
-/// A client that has gone at a question, once where it still takes what it is written, and once where it doesn't.
+/// A client that has gone at a question. In one run it still takes the bytes that are written to it, and in
+/// another it does not.
 fn goes<R: Abort + Wait>(rt: &R, alloc: Global, endpoint: Pace, question: u64) -> Result<(), Fail> {
     let setting = Setting {
         client: gone_at(question),
@@ -66,8 +68,8 @@ fn lets_a_silent_endpoint_go(rt: HostRuntime) -> Result<(), Fail> {
     Ok(())
 }
 
-/// A client that stays is asked before each read, and gets its answer. One that has gone at one of these questions
-/// doesn't.
+/// A client that stays is asked before each read, and gets its answer. A client that has gone at one of these
+/// questions does not.
 fn stays_or_goes<R: Abort + Wait>(rt: &R, alloc: Global, endpoint: Pace) -> Result<(), Fail> {
     let setting = Setting {
         endpoint,

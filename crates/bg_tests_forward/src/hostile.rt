@@ -1,4 +1,4 @@
-//! Clients and endpoints that send more than they may, or what no message has.
+//! Clients and endpoints that send more than the limits allow, or bytes that are not a message.
 
 use crate::connections::Setting;
 use crate::fakes::Pace;
@@ -7,7 +7,7 @@ use bg_forward::End;
 use std::alloc::{AllocError, Global};
 use std::test::Fail;
 
-/// A text of several parts, each so many times.
+/// A text of several parts, each with its number of repetitions.
 type Parts<'a> = &'a [(&'a [u8], usize)];
 
 fn text(alloc: Global, parts: Parts<'_>) -> Result<Vec<u8>, AllocError> {
@@ -20,7 +20,7 @@ fn text(alloc: Global, parts: Parts<'_>) -> Result<Vec<u8>, AllocError> {
     Ok(text)
 }
 
-/// Streams that give and take all that they can at once.
+/// Streams that give and take as much as they can at once.
 fn fast() -> Setting<'static> {
     let pace = Pace {
         most: 1 << 20,
@@ -35,7 +35,7 @@ fn fast() -> Setting<'static> {
 
 const IN_CHUNKS: &[u8] = b"POST / HTTP/1.1\r\nHost: x\r\nTransfer-Encoding: chunked\r\n\r\n";
 
-/// The status of a refusal, and what a client sends that is refused.
+/// The status of a refusal, and the bytes of a client that is refused.
 static REQUESTS: [(u16, Parts<'static>); 4] = [
     (431, &[(b"GET /", 1), (b"a", 16_384)]),
     (400, &[(b"GET / HTTP/1.1\r\nHost: x\r\nA: b\0c\r\n\r\n", 1)]),
@@ -43,7 +43,7 @@ static REQUESTS: [(u16, Parts<'static>); 4] = [
     (400, &[(IN_CHUNKS, 1), (b"2;", 1), (b"a", 1_022)]),
 ];
 
-/// What a client sends that just passes.
+/// The largest requests that pass.
 static PASSING_REQUESTS: [Parts<'static>; 3] = [
     &[
         (b"GET /", 1),
@@ -84,7 +84,7 @@ static RESPONSES: [Parts<'static>; 3] = [
     ],
 ];
 
-/// A response that just passes.
+/// The largest response that passes.
 static PASSING_RESPONSE: Parts<'static> = &[
     (b"HTTP/1.1 200 OK\r\n\r\n", 1),
     (b"0123456789abcdef", 262_144),

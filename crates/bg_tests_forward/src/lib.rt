@@ -1,4 +1,5 @@
-//! The tests of bg_forward, over its public calls: connections over memory, whole, cut, failing and hostile.
+//! The tests of bg_forward, over its public calls: connections over memory that are complete, cut, failing
+//! and hostile.
 #![tactic(auto)]
 
 #[cfg(test)]
@@ -8,17 +9,15 @@ mod compactions;
 #[cfg(test)]
 mod connections;
 #[cfg(test)]
-mod cut;
-#[cfg(test)]
-mod cuts;
-#[cfg(test)]
-mod doors;
+mod desk_gates;
 #[cfg(test)]
 mod expectations;
 #[cfg(test)]
 mod fakes;
 #[cfg(test)]
 mod gates;
+#[cfg(test)]
+mod given_up;
 #[cfg(test)]
 mod gone;
 #[cfg(test)]
@@ -35,6 +34,8 @@ mod one_fault;
 mod ports;
 #[cfg(test)]
 mod samples;
+#[cfg(test)]
+mod truncated;
 #[cfg(test)]
 #[cfg(test)]
 mod workers;

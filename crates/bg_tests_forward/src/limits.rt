@@ -1,17 +1,17 @@
-//! How many connections a worker takes of its port, and what the port is told of each.
+//! The number of connections that a worker takes from its port, and the outcome of each that the
+//! port gets.
 ghost use Rattle.std.specs.Prelude.{◌≡◌, length};
 ghost use Rattle.bg_rollout.specs.Gathering.{indices};
 ghost use Rattle.bg_forward.specs.Seats.{AllOut};
 ghost use Rattle.bg_ledger.specs.Blanks.{AreAllFor};
 
 use crate::books::{close, open, tell_available};
-use crate::fakes::{Line, Pace};
+use crate::fakes::{FakeStream, Pace};
 use crate::messages::{CHUNKS, GET};
 use crate::ports::{Counts, Ports, Turn, Uses};
 use crate::samples::strategy;
-use bg_book::laws::{lent, same_order};
-use bg_book::{Desk, Limits};
-use bg_forward::{Dial, Door, run_workers};
+use bg_book::{Desk, Limits, laws as book_laws};
+use bg_forward::{DeskGate, Dial, run_workers};
 use bg_ledger::{Blanks, Names, Seat};
 use bg_revisions::Service;
 use std::alloc::Global;
@@ -28,14 +28,14 @@ struct Endpoint {
 }
 
 impl Dial for Endpoint {
-    type Stream = Line<'static>;
+    type Stream = FakeStream<'static>;
 
-    fn dial(&self, _port: u16) -> io::Result<Line<'static>> {
-        Ok(Line::new(self.alloc, CHUNKS.as_bytes(), Pace::steady()))
+    fn dial(&self, _port: u16) -> io::Result<FakeStream<'static>> {
+        Ok(FakeStream::new(self.alloc, CHUNKS.as_bytes(), Pace::steady()))
     }
 }
 
-/// Works a seat for each service, each for up to so many connections.
+/// Serves at a seat for each service, each for up to this many connections.
 fn work_both<N: Names + Send + Sync, R: Threads + Wait + Sync>(
     rt: &R,
     alloc: Global,
@@ -48,14 +48,16 @@ fn work_both<N: Names + Send + Sync, R: Threads + Wait + Sync>(
     requires out { AllOut seats.old }
     ensures { indices seats.new ≡ indices seats.old }
 {
-    same_order();
-    let door = Door::new(rt, desk);
+    book_laws::same_order();
+    let desk_gate = DeskGate::new(rt, desk);
     let services = [Service::Active, Service::Preview];
     let endpoint = Endpoint { alloc };
-    run_workers(rt, alloc, &door, seats, &services, ports, &endpoint, count);
+    run_workers(
+        rt, alloc, &desk_gate, seats, &services, ports, &endpoint, count,
+    );
 }
 
-/// Works the seats of a book that has no preview service.
+/// Serves at the seats of a book that has no preview service.
 fn open_and_work_both<N: Names + Send + Sync, R: Threads + Wait + Sync>(
     rt: &R,
     alloc: Global,
@@ -66,7 +68,7 @@ fn open_and_work_both<N: Names + Send + Sync, R: Threads + Wait + Sync>(
     requires blanks { AreAllFor N.Names blanks }
     requires seats { N.seats ≡ 2 }
 {
-    lent();
+    book_laws::lent();
     let strategy = strategy(alloc)?;
     let (desk, mut seats) = open::<N>(alloc, &strategy, 2, Limits::usual(), blanks)?;
     let told = tell_available(rt, &desk, 2);
@@ -76,7 +78,7 @@ fn open_and_work_both<N: Names + Send + Sync, R: Threads + Wait + Sync>(
     Ok(())
 }
 
-/// What becomes of up to so many connections for each worker.
+/// The outcome of up to this many connections for each worker.
 fn counts_of<R: Threads + Wait + Sync>(
     rt: &R,
     alloc: Global,
@@ -93,8 +95,8 @@ fn counts_of<R: Threads + Wait + Sync>(
     Ok(uses.counts())
 }
 
-/// Each port was asked so often, and each worker served so many clients: one those that were answered, the other those
-/// that were refused since no preview service is set.
+/// Each port was asked this often, and each worker served this many clients. The clients of one were answered; those
+/// of the other were refused because no preview service is set.
 fn served(accepts: u64, clients: u64) -> Counts {
     Counts {
         active_accepts: accepts,

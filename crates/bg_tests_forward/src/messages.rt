@@ -12,21 +12,21 @@ use std::test::Fail;
 /// A request without a body.
 pub const GET: &str =
     "GET /a HTTP/1.1\r\nHost: x\r\nConnection: keep-alive, X-Drop\r\nX-Drop: 1\r\n\r\n";
-/// It, as it goes on.
+/// The same message, as it is forwarded.
 pub const GET_ON: &str =
     "GET /a HTTP/1.1\r\nHost: x\r\nVia: 1.1 bg-switch\r\nConnection: close\r\n\r\n";
-/// A response in chunks.
+/// A chunked response.
 pub const CHUNKS: &str =
     "HTTP/1.1 200 OK\r\nTransfer-Encoding: chunked\r\n\r\n3\r\nabc\r\n0\r\n\r\n";
-/// It, as it goes on.
+/// The same message, as it is forwarded.
 pub const CHUNKS_ON: &str = "HTTP/1.1 200 OK\r\nContent-Length: 3\r\nConnection: close\r\n\r\nabc";
 /// A request that waits for `100 Continue`.
 pub const EXPECTS: &str =
     "POST /p HTTP/1.1\r\nHost: x\r\nExpect: 100-continue\r\nTransfer-Encoding: chunked\r\n\r\n2\r\nhi\r\n0\r\nT: 1\r\n\r\n";
-/// It, as it goes on.
+/// The same message, as it is forwarded.
 pub const EXPECTS_ON: &str =
     "POST /p HTTP/1.1\r\nHost: x\r\nVia: 1.1 bg-switch\r\nContent-Length: 2\r\nConnection: close\r\n\r\nhi";
-/// What its client is written where the response is that in chunks.
+/// The bytes that are written to its client if the response is the chunked one.
 pub const EXPECTS_ANSWERED: &str =
     "HTTP/1.1 100 Continue\r\n\r\nHTTP/1.1 200 OK\r\nContent-Length: 3\r\nConnection: close\r\n\r\nabc";
 
@@ -35,7 +35,8 @@ const HEAD: &str = "HEAD /a HTTP/1.1\r\nHost: x\r\n\r\n";
 const HEAD_ON: &str =
     "HEAD /a HTTP/1.1\r\nHost: x\r\nVia: 1.1 bg-switch\r\nConnection: close\r\n\r\n";
 
-/// The code of the answer, a request and what is forwarded of it, a response and what the client is written.
+/// The code of the answer, a request and its forwarded bytes, a response and the bytes that are written to
+/// the client.
 const ANSWERED: [(u16, &str, &str, &str, &str); 7] = [
     (200, GET, GET_ON, CHUNKS, CHUNKS_ON),
     (
@@ -70,7 +71,7 @@ const ANSWERED: [(u16, &str, &str, &str, &str); 7] = [
     (200, GET, GET_ON, "HTTP/1.0 200 OK\r\n\r\nabc", CHUNKS_ON),
 ];
 
-/// The status of a refusal, and a request that is refused and doesn't enter.
+/// The status of a refusal, and a request that is refused and does not enter.
 const REFUSED: [(u16, &str); 8] = [
     (400, "GET / HTTP/1.1\r\n\r\n"),
     (400, "GET / HTTP/1.1\r\nHost: x\r\nHost: x\r\n\r\n"),
@@ -97,7 +98,7 @@ const REFUSED: [(u16, &str); 8] = [
     ),
 ];
 
-/// The refusal in a status.
+/// The refusal with a status.
 pub fn refusal(status: u16) -> &'static str {
     match status {
         400 => "HTTP/1.1 400 Bad Request\r\nContent-Length: 0\r\nConnection: close\r\n\r\n",
@@ -111,8 +112,8 @@ pub fn refusal(status: u16) -> &'static str {
     }
 }
 
-/// What came of a connection that ends so. Its seat was answered two calls where it entered, and is out, no request is
-/// open, and the history is legal.
+/// The outcome of a connection with this end. Its seat made two calls if it entered, and is out, no request is open,
+/// and the history is legal.
 pub fn ends<R: Abort + Wait>(
     rt: &R,
     alloc: Global,
@@ -130,7 +131,8 @@ pub fn ends<R: Abort + Wait>(
     Ok(outcome)
 }
 
-/// What came of a connection that ends so, whose client was written this and whose seat was answered so many calls.
+/// The outcome of a connection with this end, to whose client these bytes were written and whose seat made this
+/// many calls.
 pub fn expect<R: Abort + Wait>(
     rt: &R,
     alloc: Global,

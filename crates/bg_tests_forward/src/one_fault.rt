@@ -1,5 +1,5 @@
-//! Each read, write and flush of a connection failing in turn, and the dial. What fails does so once: whoever tried it
-//! again would succeed.
+//! Each read, write and flush of a connection fails in turn, and the dial. Each fails only once, so a second try would
+//! succeed.
 
 use crate::connections::Setting;
 use crate::fakes::{CONTINUE, Pace, Uses};
@@ -12,28 +12,29 @@ use std::process::Abort;
 use std::sync::Wait;
 use std::test::Fail;
 
-/// What a client is written that waits for `100 Continue` before a bad gateway.
+/// The bytes that are written to a client that waits for `100 Continue` and gets a bad gateway.
 const EXPECTS_REFUSED: &str =
     "HTTP/1.1 100 Continue\r\n\r\nHTTP/1.1 502 Bad Gateway\r\nContent-Length: 0\r\nConnection: close\r\n\r\n";
 
-/// An exchange, and what its client is written where nothing fails, and where the endpoint does.
+/// An exchange, and the bytes that are written to its client if nothing fails, and if the endpoint
+/// fails.
 #[derive(Clone, Copy, Drop)]
-struct Exchange {
+struct ExpectedExchange {
     setting: Setting<'static>,
     answered: &'static str,
     refused: &'static str,
-    /// How many bytes the client is written before its request enters.
+    /// The number of bytes that are written to the client before its request enters.
     before: usize,
 }
 
-fn exchanges() -> [Exchange; 2] {
-    let plain = Exchange {
+fn exchanges() -> [ExpectedExchange; 2] {
+    let plain = ExpectedExchange {
         setting: Setting::new(GET, GET_ON, CHUNKS),
         answered: CHUNKS_ON,
         refused: refusal(502),
         before: 0,
     };
-    let waiting = Exchange {
+    let waiting = ExpectedExchange {
         setting: Setting::new(EXPECTS, EXPECTS_ON, CHUNKS),
         answered: EXPECTS_ANSWERED,
         refused: EXPECTS_REFUSED,
@@ -42,7 +43,7 @@ fn exchanges() -> [Exchange; 2] {
     [plain, waiting]
 }
 
-/// How often the client and the endpoint are read and written where nothing fails.
+/// The numbers of reads and writes of the client and of the endpoint if nothing fails.
 #[derive(Clone, Copy, Drop)]
 struct SoundUses {
     client: Uses,
@@ -52,7 +53,7 @@ struct SoundUses {
 fn sound_uses<R: Abort + Wait>(
     rt: &R,
     alloc: Global,
-    exchange: &Exchange,
+    exchange: &ExpectedExchange,
 ) -> Result<SoundUses, Fail> {
     let sound = ends(rt, alloc, &exchange.setting, End::Answered(200))?;
     Ok(SoundUses {
@@ -65,7 +66,7 @@ fn sound_uses<R: Abort + Wait>(
 fn read_of_the_client<R: Abort + Wait>(
     rt: &R,
     alloc: Global,
-    exchange: &Exchange,
+    exchange: &ExpectedExchange,
     place: u64,
 ) -> Result<(), Fail> {
     let client = Pace {
@@ -100,7 +101,7 @@ fn each_read_of_the_client(rt: HostRuntime) -> Result<(), Fail> {
 fn write_to_the_client<R: Abort + Wait>(
     rt: &R,
     alloc: Global,
-    exchange: &Exchange,
+    exchange: &ExpectedExchange,
     place: u64,
 ) -> Result<(), Fail> {
     let client = Pace {
@@ -136,7 +137,7 @@ fn each_write_to_the_client(rt: HostRuntime) -> Result<(), Fail> {
 fn read_of_the_endpoint<R: Abort + Wait>(
     rt: &R,
     alloc: Global,
-    exchange: &Exchange,
+    exchange: &ExpectedExchange,
     place: u64,
 ) -> Result<(), Fail> {
     let endpoint = Pace {
@@ -170,7 +171,7 @@ fn each_read_of_the_endpoint(rt: HostRuntime) -> Result<(), Fail> {
 fn write_to_the_endpoint<R: Abort + Wait>(
     rt: &R,
     alloc: Global,
-    exchange: &Exchange,
+    exchange: &ExpectedExchange,
     place: u64,
 ) -> Result<(), Fail> {
     let endpoint = Pace {

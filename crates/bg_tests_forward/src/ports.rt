@@ -1,37 +1,38 @@
-//! Ports of clients, which give their workers what a test says.
+//! Client ports, which give their workers what a test says.
 
-use crate::fakes::{Line, Pace};
+use crate::fakes::{FakeStream, Pace};
 use crate::messages::{CHUNKS_ON, GET, refusal};
-use bg_forward::Accept;
+use bg_forward::{Accept, Served};
 use bg_revisions::Service;
 use std::alloc::Global;
 use std::io;
 use std::io::ErrorKind;
 use std::sync::atomic::{AtomicU64, Ordering};
 
-/// What an accept gives.
+/// The result of an accept.
 #[derive(Clone, Copy, Drop)]
 pub enum Turn {
-    /// A client that sends this.
+    /// A client that sends these bytes.
     Client(&'static str),
     Fails,
     Ends,
 }
 
-/// How often the ports were asked, and what became of their connections.
+/// The number of accepts of the ports, and the outcomes of their connections.
 #[derive(Clone, Copy, PartialEq, Eq, Debug, Drop)]
 pub struct Counts {
     pub active_accepts: u64,
     pub preview_accepts: u64,
-    /// How many connections were ended whose request was read whole, and how many others.
+    /// The number of ended connections whose whole request was read, and of the others.
     pub whole: u64,
     pub other: u64,
-    /// How many clients were written their answer, and how many the refusal 503.
+    /// The number of clients to which their answer was written, and of those to which the refusal
+    /// 503 was written.
     pub answered: u64,
     pub unavailable: u64,
 }
 
-/// The same, as they rise.
+/// The same counts, while they rise.
 #[derive(Drop)]
 pub struct Uses {
     active_accepts: AtomicU64,
@@ -75,9 +76,9 @@ pub struct Ports<'a> {
 }
 
 impl Accept for Ports<'_> {
-    type Stream = Line<'static>;
+    type Stream = FakeStream<'static>;
 
-    fn accept(&self, service: Service) -> io::Result<Option<Line<'static>>> {
+    fn accept(&self, service: Service) -> io::Result<Option<FakeStream<'static>>> {
         let accepts = match service {
             Service::Active => &self.uses.active_accepts,
             Service::Preview => &self.uses.preview_accepts,
@@ -90,15 +91,16 @@ impl Accept for Ports<'_> {
         match turn {
             Turn::Client(request) => {
                 let request = request.as_bytes();
-                Ok(Some(Line::new(self.alloc, request, Pace::steady())))
+                Ok(Some(FakeStream::new(self.alloc, request, Pace::steady())))
             }
             Turn::Fails => Err(io::Error::from(ErrorKind::ConnectionAborted)),
             Turn::Ends => Ok(None),
         }
     }
 
-    fn close(&self, client: Line<'static>, whole: bool) {
-        let ended = if whole {
+    fn close(&self, client: FakeStream<'static>, served: &Served) {
+        // a request that entered was read to its end
+        let ended = if served.entered.is_some() {
             &self.uses.whole
         } else {
             &self.uses.other

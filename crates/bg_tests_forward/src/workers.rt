@@ -5,12 +5,11 @@ ghost use Rattle.bg_forward.specs.Seats.{AllOut, AllWorked};
 ghost use Rattle.bg_ledger.specs.Blanks.{AreAllFor};
 
 use crate::books::{close, open, tell_available};
-use crate::fakes::{Line, Pace};
+use crate::fakes::{FakeStream, Pace};
 use crate::messages::{CHUNKS, CHUNKS_ON, GET};
 use crate::samples::strategy;
-use bg_book::laws::{lent, same_order};
-use bg_book::{Control, Desk, EnterFault, GoOn, Left, Limits, Ticket};
-use bg_forward::{Accept, ClientStream, Dial, Door, Gate, run_workers};
+use bg_book::{Control, Desk, EnterFault, GoOn, Left, Limits, Ticket, laws as book_laws};
+use bg_forward::{Accept, ClientStream, DeskGate, Dial, Gate, Served, run_workers};
 use bg_http::Duplex;
 use bg_ledger::{Blanks, Names, Seat};
 use bg_revisions::Service;
@@ -23,22 +22,22 @@ use std::test::Fail;
 use std::thread::{Threads, join_mut};
 use std::{io, thread};
 
-/// So often the first endpoint looks whether the second request was answered.
+/// The number of times that the first endpoint checks whether the second request was answered.
 const TURNS: u32 = 10_000_000;
 
-/// The ticks that are made beside the workers.
+/// The number of ticks that are made in parallel with the workers.
 const TICKS: u64 = 100;
 
-/// How far the requests have come.
+/// The progress of the requests.
 #[derive(Drop)]
 struct Course {
-    /// How many connections to endpoints were opened.
+    /// The number of connections to endpoints that were opened.
     dialled: AtomicU64,
-    /// How many clients were written their whole answer.
+    /// The number of clients to which the whole answer was written.
     answered: AtomicU64,
-    /// How many requests have left.
+    /// The number of requests that have left.
     left: AtomicU64,
-    /// How many have left before as many clients were answered.
+    /// The number of requests that left before as many clients were answered.
     left_early: AtomicU64,
 }
 
@@ -74,26 +73,26 @@ struct Clients<'a> {
     course: &'a Course,
 }
 
-/// A client that tells when it was answered.
+/// A client that reports when it was answered.
 #[derive(Drop)]
 struct Client<'a> {
-    line: Line<'a>,
+    stream: FakeStream<'a>,
     course: &'a Course,
 }
 
 impl Read for Client<'_> {
     fn read(&mut self, buf: &mut [u8]) -> io::Result<usize> {
-        self.line.read(buf)
+        self.stream.read(buf)
     }
 }
 
 impl Write for Client<'_> {
     fn write(&mut self, buf: &[u8]) -> io::Result<usize> {
-        self.line.write(buf)
+        self.stream.write(buf)
     }
 
     fn flush(&mut self) -> io::Result<()> {
-        if self.line.shows() == CHUNKS_ON.as_bytes() {
+        if self.stream.shows() == CHUNKS_ON.as_bytes() {
             self.course.answered.fetch_add(1, Ordering::SeqCst);
         }
         Ok(())
@@ -112,7 +111,7 @@ impl Duplex for Client<'_> {
 
 impl ClientStream for Client<'_> {
     fn has_gone(&mut self) -> bool {
-        self.line.has_gone()
+        self.stream.has_gone()
     }
 }
 
@@ -121,12 +120,12 @@ impl<'a> Accept for Clients<'a> {
 
     fn accept(&self, _service: Service) -> io::Result<Option<Client<'a>>> {
         Ok(Some(Client {
-            line: Line::new(self.alloc, GET.as_bytes(), Pace::steady()),
+            stream: FakeStream::new(self.alloc, GET.as_bytes(), Pace::steady()),
             course: self.course,
         }))
     }
 
-    fn close(&self, _client: Client<'a>, _whole: bool) {}
+    fn close(&self, _client: Client<'a>, _served: &Served) {}
 }
 
 /// An endpoint whose first connection waits until a client was answered.
@@ -139,13 +138,13 @@ struct Endpoint<'a> {
 /// A connection to it.
 #[derive(Drop)]
 struct Upstream<'a> {
-    line: Line<'a>,
+    stream: FakeStream<'a>,
     waits: bool,
     course: &'a Course,
 }
 
 impl Upstream<'_> {
-    /// Waits until a client was answered, and says whether one was.
+    /// Waits until a client was answered. Returns whether one was.
     fn wait(&self) -> bool {
         for _ in 0..TURNS {
             if self.course.answered.load(Ordering::SeqCst) > 0 {
@@ -165,13 +164,13 @@ impl Read for Upstream<'_> {
             }
             self.waits = false;
         }
-        self.line.read(buf)
+        self.stream.read(buf)
     }
 }
 
 impl Write for Upstream<'_> {
     fn write(&mut self, buf: &[u8]) -> io::Result<usize> {
-        self.line.write(buf)
+        self.stream.write(buf)
     }
 
     fn flush(&mut self) -> io::Result<()> {
@@ -185,14 +184,14 @@ impl<'a> Dial for Endpoint<'a> {
     fn dial(&self, _port: u16) -> io::Result<Upstream<'a>> {
         let before = self.course.dialled.fetch_add(1, Ordering::SeqCst);
         Ok(Upstream {
-            line: Line::new(self.alloc, CHUNKS.as_bytes(), Pace::steady()),
+            stream: FakeStream::new(self.alloc, CHUNKS.as_bytes(), Pace::steady()),
             waits: before == 0,
             course: self.course,
         })
     }
 }
 
-/// Works the seats at the door of a desk.
+/// Runs workers on the seats at the gate of a desk.
 fn work<N: Names + Send + Sync, R: Threads + Wait + Sync>(
     rt: &R,
     alloc: Global,
@@ -204,19 +203,19 @@ fn work<N: Names + Send + Sync, R: Threads + Wait + Sync>(
     requires out { AllOut seats.old }
     ensures { indices seats.new ≡ indices seats.old }
 {
-    same_order();
-    let door = Door::new(rt, desk);
+    book_laws::same_order();
+    let desk_gate = DeskGate::new(rt, desk);
     let clients = Clients { alloc, course };
     let endpoint = Endpoint { alloc, course };
     let services = [Service::Active, Service::Active];
     let gate = Counted {
-        behind: &door,
+        behind: &desk_gate,
         course,
     };
     run_workers(rt, alloc, &gate, seats, &services, &clients, &endpoint, 1);
 }
 
-/// Works no seat of them.
+/// Runs workers without seats.
 fn work_none<N: Names + Send + Sync, R: Threads + Wait + Sync>(
     rt: &R,
     alloc: Global,
@@ -226,14 +225,14 @@ fn work_none<N: Names + Send + Sync, R: Threads + Wait + Sync>(
 )
     ensures { indices seats.new ≡ indices seats.old }
 {
-    same_order();
-    let door = Door::new(rt, desk);
+    book_laws::same_order();
+    let desk_gate = DeskGate::new(rt, desk);
     let clients = Clients { alloc, course };
     let endpoint = Endpoint { alloc, course };
     run_workers(
         rt,
         alloc,
-        &door,
+        &desk_gate,
         &mut seats[..0],
         &[],
         &clients,
@@ -249,7 +248,7 @@ fn tick<N: Names, R: Wait>(rt: &R, desk: &Desk<N>) {
     }
 }
 
-/// Works the seats, and makes the ticks beside them.
+/// Runs workers on the seats, and makes the ticks in parallel.
 fn work_and_tick<N: Names + Send + Sync, R: Threads + Wait + Sync>(
     rt: &R,
     alloc: Global,
@@ -271,7 +270,7 @@ fn work_and_tick<N: Names + Send + Sync, R: Threads + Wait + Sync>(
     );
 }
 
-/// How many calls both seats were answered.
+/// The number of calls of each of both seats.
 fn calls_of_both<N: Names>(seats: &[Seat<N>]) -> [u64; 2] {
     match seats {
         [first, second] => [first.calls(), second.calls()],
@@ -279,10 +278,10 @@ fn calls_of_both<N: Names>(seats: &[Seat<N>]) -> [u64; 2] {
     }
 }
 
-/// What the test looks at.
+/// The results that the test checks.
 #[derive(Clone, Copy, PartialEq, Eq, Debug, Drop)]
 struct Worked {
-    /// How many connections to endpoints were opened, also by workers of no seat.
+    /// The number of connections to endpoints that were opened, also by workers without seats.
     dialled: u64,
     calls: [u64; 2],
     entries: u64,
@@ -297,7 +296,7 @@ fn open_and_work<N: Names + Send + Sync, R: Threads + Wait + Sync>(
     requires blanks { AreAllFor N.Names blanks }
     requires seats { N.seats ≡ 2 }
 {
-    lent();
+    book_laws::lent();
     let strategy = strategy(alloc)?;
     let (desk, mut seats) = open::<N>(alloc, &strategy, 2, Limits::usual(), blanks)?;
     let told = tell_available(rt, &desk, 2);

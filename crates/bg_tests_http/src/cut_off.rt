@@ -1,5 +1,5 @@
 //! Messages that are cut after each of their bytes.
-use crate::memory::{Memory, Pace};
+use crate::paced_stream::{Pace, PacedStream};
 use crate::passing::{Kind, read};
 use bg_http::RequestFault;
 use std::alloc::Global;
@@ -15,10 +15,10 @@ static RESPONSES: [&[u8]; 2] = [
     b"HTTP/1.1 200 OK\r\nTransfer-Encoding: chunked\r\n\r\n2\r\nhi\r\n0\r\nA: b\r\n\r\n",
 ];
 
-/// Whether each front of the input is closed, and nothing is written to it.
+/// Whether each proper front of the input gives Closed, and nothing is written.
 fn is_closed_before(alloc: Global, kind: Kind<'_>, input: &[u8]) -> bool {
     for end in 0..input.len() {
-        let mut stream = Memory::new(alloc, &input[..end], Pace::UpTo(3));
+        let mut stream = PacedStream::new(alloc, &input[..end], Pace::UpTo(3));
         let fault = read(alloc, kind, &mut stream).err();
         if fault != Some(RequestFault::Closed) || !stream.written().is_empty() {
             return false;

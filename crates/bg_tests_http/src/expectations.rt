@@ -1,14 +1,14 @@
 //! Requests that ask for `100 Continue`, which is written before the body is read (RFC 9110 section
 //! 10.1.1).
-use crate::memory::{Memory, Pace};
+use crate::paced_stream::{Pace, PacedStream};
 use crate::passing::{Kind, read};
 use bg_http::RequestFault;
 use std::alloc::Global;
 
 const CONTINUE: &[u8] = b"HTTP/1.1 100 Continue\r\n\r\n";
 
-/// The name of a request, its head, what is written to the client, the body that the client sends
-/// once that is written and not before, and the fault.
+/// The name of a request, its head, the bytes that are written to the client, the body that the
+/// client sends only after they were written, and the fault.
 type Row<'a> = (&'a str, &'a [u8], &'a [u8], &'a [u8], Option<RequestFault>);
 
 static EXPECTATIONS: [Row<'static>; 15] = [
@@ -119,10 +119,10 @@ static EXPECTATIONS: [Row<'static>; 15] = [
     ),
 ];
 
-/// Whether a request has its answer, and no more is written to the client than it should be.
+/// Whether a request has its answer, and only the expected bytes are written to the client.
 fn is_answered(alloc: Global, row: &Row<'_>, pace: Pace) -> bool {
     let (_, head, written, body, fault) = row;
-    let mut stream = Memory::holding_back(alloc, head, written, body, pace);
+    let mut stream = PacedStream::holding_back(alloc, head, written, body, pace);
     let answer = read(alloc, Kind::Request, &mut stream).err();
     answer == *fault && stream.written() == *written
 }

@@ -1,11 +1,11 @@
 //! A stream whose reads are interrupted without end.
-use crate::memory::{Memory, Pace};
+use crate::paced_stream::{Pace, PacedStream};
 use crate::passing::{Kind, read};
 use bg_http::RequestFault;
 use std::alloc::Global;
 
 fn fault(alloc: Global, kind: Kind<'_>) -> Option<RequestFault> {
-    let mut stream = Memory::new(alloc, b"", Pace::InterruptedAlways);
+    let mut stream = PacedStream::new(alloc, b"", Pace::InterruptedAlways);
     read(alloc, kind, &mut stream).err()
 }
 

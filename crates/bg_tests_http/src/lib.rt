@@ -6,11 +6,13 @@ mod cut_off;
 #[cfg(test)]
 mod expectations;
 #[cfg(test)]
+mod fields;
+#[cfg(test)]
 mod interrupted;
 #[cfg(test)]
 mod limits;
 #[cfg(test)]
-mod memory;
+mod paced_stream;
 #[cfg(test)]
 mod passing;
 #[cfg(test)]

@@ -1,13 +1,13 @@
 //! Messages at each limit and one past it.
-use crate::memory::{Memory, Pace};
+use crate::paced_stream::{Pace, PacedStream};
 use crate::passing::{Kind, read};
 use bg_http::RequestFault;
 use std::alloc::{AllocError, Global};
 
-/// A text of several parts, each so many times.
+/// A text of several parts, each with its number of repetitions.
 type Parts<'a> = &'a [(&'a [u8], usize)];
 
-/// What is sent, and the size of its body or the fault.
+/// The message that is sent, and the size of its body or the fault.
 type Row<'a> = (Parts<'a>, Result<usize, RequestFault>);
 
 fn text(alloc: Global, start: &[u8], parts: Parts<'_>) -> Result<Vec<u8>, AllocError> {
@@ -23,7 +23,7 @@ fn text(alloc: Global, start: &[u8], parts: Parts<'_>) -> Result<Vec<u8>, AllocE
 
 /// The size of the body, or the fault.
 fn size(alloc: Global, kind: Kind<'_>, input: &[u8], most: usize) -> Result<usize, RequestFault> {
-    let mut stream = Memory::new(alloc, input, Pace::UpTo(most));
+    let mut stream = PacedStream::new(alloc, input, Pace::UpTo(most));
     match read(alloc, kind, &mut stream) {
         Ok(message) => Ok(message.body_size()),
         Err(fault) => Err(fault),
@@ -43,7 +43,7 @@ fn is_answered(alloc: Global, kind: Kind<'_>, start: &[u8], row: &Row<'_>) -> bo
     true
 }
 
-/// The place of the first row that has another answer, or for which memory is refused.
+/// The place of the first row that has another answer, or for which an allocation fails.
 fn first_wrong(alloc: Global, kind: Kind<'_>, start: &[u8], rows: &[Row<'_>]) -> Option<usize> {
     for (place, row) in rows.iter().enumerate() {
         if !is_answered(alloc, kind, start, row) {
@@ -53,7 +53,7 @@ fn first_wrong(alloc: Global, kind: Kind<'_>, start: &[u8], rows: &[Row<'_>]) ->
     None
 }
 
-/// The same where the message comes a byte at a time.
+/// The same if the message comes one byte at a time.
 fn first_wrong_by_byte(
     alloc: Global,
     kind: Kind<'_>,
@@ -71,12 +71,12 @@ fn first_wrong_by_byte(
     None
 }
 
-/// The begin of a head, of 25 bytes and one field.
+/// The beginning of a head, of 25 bytes and one field.
 const REQUEST: &[u8] = b"PUT / HTTP/1.1\r\nHost: x\r\n";
 
 const RESPONSE: &[u8] = b"HTTP/1.1 200 OK\r\nA: bcd\r\n";
 
-/// The head of a message in chunks.
+/// The head of a chunked message.
 const REQUEST_IN_CHUNKS: &[u8] = b"PUT / HTTP/1.1\r\nHost: x\r\nTransfer-Encoding: chunked\r\n\r\n";
 
 const RESPONSE_IN_CHUNKS: &[u8] = b"HTTP/1.1 200 OK\r\nTransfer-Encoding: chunked\r\n\r\n";
@@ -107,7 +107,7 @@ static HEADS: [Row<'static>; 11] = [
     (&[(b"A:\n", 5_451), (b"A:bb\n\n", 1)], HEAD_TOO_LARGE),
 ];
 
-/// A request's head, whose target may be as long as it has room for.
+/// A request's head, whose target may be as long as the head has room for.
 static TARGETS: [Row<'static>; 3] = [
     (
         &[
@@ -128,7 +128,8 @@ static TARGETS: [Row<'static>; 3] = [
     (&[(b"GET /", 1), (b"a", 16_384)], HEAD_TOO_LARGE),
 ];
 
-/// After a head that names chunks: the line of each may have 1,024 bytes, its end included.
+/// After the head of a chunked message: the line of each chunk may have 1,024 bytes, including its
+/// end.
 static CHUNK_LINES: [Row<'static>; 6] = [
     (
         &[(b"2;", 1), (b"a", 1_020), (b"\r\nhi\r\n0\r\n\r\n", 1)],
@@ -150,7 +151,7 @@ static CHUNK_LINES: [Row<'static>; 6] = [
     (&[(b"2;", 1), (b"a", 1_022)], BAD),
 ];
 
-/// After a head that names chunks: trailers may have 16,384 bytes and 64 fields.
+/// After the head of a chunked message: trailers may have 16,384 bytes and 64 fields.
 static TRAILERS: [Row<'static>; 7] = [
     (&[(b"0\r\n", 1), (b"A: b\r\n", 64), (b"\r\n", 1)], Ok(0)),
     (&[(b"0\r\n", 1), (b"A: b\r\n", 65), (b"\r\n", 1)], BAD),

@@ -1,5 +1,5 @@
-//! What comes of a message: it is read from a stream, and written as it goes on.
-use crate::memory::{Memory, Pace};
+//! The outcome of a message, which is read from a stream and written as it is forwarded.
+use crate::paced_stream::{Pace, PacedStream};
 use bg_http::{
     Bytes, Fields, Request, RequestFault, Response, ResponseFault, write_request, write_response,
 };
@@ -7,10 +7,10 @@ use bg_http_read::{read_request, read_response};
 use std::alloc::{AllocError, Global};
 use std::io;
 
-/// The port of the server to which requests go on.
+/// The port of the server to which requests are forwarded.
 const PORT: u16 = 9001;
 
-/// What an input is read as.
+/// The kind of message as which an input is read.
 #[derive(Clone, Copy, Drop)]
 pub enum Kind<'a> {
     Request,
@@ -22,12 +22,12 @@ pub enum Kind<'a> {
 #[derive(Drop)]
 pub enum Message {
     Request(Request),
-    /// A response, and the request that was asked.
+    /// A response, and its request.
     Response(Request, Response),
 }
 
 impl Message {
-    /// How many bytes the body has, 0 where there is none.
+    /// The number of bytes of the body, 0 if there is none.
     pub fn body_size(&self) -> usize {
         match self {
             Message::Request(request) => match &request.body {
@@ -38,7 +38,7 @@ impl Message {
         }
     }
 
-    /// The bytes in which the message goes on.
+    /// The bytes in which the message is forwarded.
     fn text(&self, alloc: Global) -> io::Result<Vec<u8>> {
         let mut text = Vec::new(alloc);
         match self {
@@ -48,7 +48,7 @@ impl Message {
         Ok(text)
     }
 
-    /// Whether the message goes on in these bytes.
+    /// Whether the message is forwarded in these bytes.
     fn goes_on_in(&self, alloc: Global, bytes: &[u8]) -> bool {
         match self.text(alloc) {
             Ok(text) => text.as_slice() == bytes,
@@ -57,7 +57,7 @@ impl Message {
     }
 }
 
-/// A fault of a response as one of a request, which may have each of them.
+/// A fault of a response, as the same fault of a request.
 fn as_request(fault: ResponseFault) -> RequestFault {
     match fault {
         ResponseFault::ReadFailed => RequestFault::ReadFailed,
@@ -71,13 +71,11 @@ fn as_request(fault: ResponseFault) -> RequestFault {
 
 /// A request of this method.
 fn asked(alloc: Global, method: &[u8]) -> Result<Request, AllocError> {
-    let mut fields = Fields::new(alloc);
-    fields.add(b"Host", b"x")?;
     Ok(Request {
         method: Bytes::new(alloc, method)?,
         target: Bytes::new(alloc, b"/")?,
         minor: 1,
-        fields,
+        fields: Fields::new(alloc, &[(b"Host", b"x")])?,
         body: None,
     })
 }
@@ -85,7 +83,7 @@ fn asked(alloc: Global, method: &[u8]) -> Result<Request, AllocError> {
 fn read_answer(
     alloc: Global,
     method: &[u8],
-    stream: &mut Memory<'_>,
+    stream: &mut PacedStream<'_>,
 ) -> Result<Message, RequestFault> {
     let Ok(request) = asked(alloc, method) else {
         return Err(RequestFault::OutOfMemory);
@@ -100,7 +98,7 @@ fn read_answer(
 pub fn read(
     alloc: Global,
     kind: Kind<'_>,
-    stream: &mut Memory<'_>,
+    stream: &mut PacedStream<'_>,
 ) -> Result<Message, RequestFault> {
     match kind {
         Kind::Request => match read_request(alloc, stream) {
@@ -111,30 +109,30 @@ pub fn read(
     }
 }
 
-/// What comes of a message.
+/// The outcome of a message.
 #[derive(Clone, Copy, Drop)]
 pub enum Outcome<'a> {
-    /// It goes on in these bytes: a request to the server, a response to the client.
+    /// It is forwarded in these bytes: a request to the server, a response to the client.
     GoesOn(&'a [u8]),
     Refused(RequestFault),
 }
 
-/// A request is answered with 400, a response with 502.
+/// The answer for a request is 400, for a response 502.
 pub const BAD: Outcome<'static> = Outcome::Refused(RequestFault::Bad);
 
-/// A request is answered with 413, a response with 502.
+/// The answer for a request is 413, for a response 502.
 pub const TOO_LARGE: Outcome<'static> = Outcome::Refused(RequestFault::TooLarge);
 
-/// A request is answered with 501.
+/// The answer for a request is 501.
 pub const NOT_DONE: Outcome<'static> = Outcome::Refused(RequestFault::NotDone);
 
-/// The input ended: a request isn't answered, a response with 502.
+/// The input ended: there is no answer for a request, and 502 for a response.
 pub const CLOSED: Outcome<'static> = Outcome::Refused(RequestFault::Closed);
 
-/// The name of a message, its bytes, and what comes of it.
+/// The name of a message, its bytes, and its outcome.
 pub type Row<'a> = (&'a str, &'a [u8], Outcome<'a>);
 
-/// Whether this outcome comes of what was read.
+/// Whether the message that was read has this outcome.
 fn is_outcome(alloc: Global, read: &Result<Message, RequestFault>, outcome: Outcome<'_>) -> bool {
     match read {
         Ok(message) => match outcome {
@@ -148,7 +146,7 @@ fn is_outcome(alloc: Global, read: &Result<Message, RequestFault>, outcome: Outc
     }
 }
 
-/// Whether this comes of the input, however it comes, and nothing is written meanwhile.
+/// Whether the input has this outcome at every pace, and nothing is written in the meantime.
 fn comes_of(alloc: Global, kind: Kind<'_>, input: &[u8], outcome: Outcome<'_>) -> bool {
     let paces = [
         Pace::UpTo(65_536),
@@ -157,7 +155,7 @@ fn comes_of(alloc: Global, kind: Kind<'_>, input: &[u8], outcome: Outcome<'_>) -
         Pace::InterruptedOnce,
     ];
     for pace in paces {
-        let mut stream = Memory::new(alloc, input, pace);
+        let mut stream = PacedStream::new(alloc, input, pace);
         let read = read(alloc, kind, &mut stream);
         if !is_outcome(alloc, &read, outcome) || !stream.written().is_empty() {
             return false;
@@ -166,7 +164,7 @@ fn comes_of(alloc: Global, kind: Kind<'_>, input: &[u8], outcome: Outcome<'_>) -
     true
 }
 
-/// The name of the first message of which something else comes.
+/// The name of the first message with another outcome.
 pub fn first_wrong<'a>(alloc: Global, kind: Kind<'_>, rows: &[Row<'a>]) -> Option<&'a str> {
     for (name, input, outcome) in rows {
         if !comes_of(alloc, kind, input, *outcome) {

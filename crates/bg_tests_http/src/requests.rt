@@ -1,5 +1,6 @@
-//! Requests as clients and smugglers send them, each with what goes on to the server or the
-//! refusal. Each answer is worked out by hand from RFC 9110, RFC 9112 and docs/HTTP.md.
+//! Requests as clients and smugglers send them, each with the bytes that are forwarded to the
+//! server or the refusal. Each answer is worked out by hand from RFC 9110, RFC 9112 and
+//! docs/HTTP.md.
 mod chunks;
 mod codings;
 mod fields;

@@ -1,5 +1,5 @@
-//! Responses as servers send them, each with what goes back to the client or the refusal. Each
-//! answer is worked out by hand from RFC 9110, RFC 9112 and docs/HTTP.md.
+//! Responses as servers send them, each with the bytes that are forwarded to the client or the
+//! refusal. Each answer is worked out by hand from RFC 9110, RFC 9112 and docs/HTTP.md.
 mod answers;
 mod refused;
 mod to_head;

@@ -1,20 +1,21 @@
-//! Makes calls that take memory, a second time where memory is refused at first.
+//! Makes calls that allocate, and repeats a call whose allocation failed.
 //!
-//! A call has a name, which standard output gives once the call is made, and standard error where it was refused.
+//! Each call has a name. Standard output names the call after it was made, and standard error names it if it was
+//! refused.
 
 use crate::page::Page;
 use crate::stop::Stop;
 use std::fmt::Display;
 
-/// What calls change, displayed as all that it answers of itself.
+/// A value that calls change. Its display shows everything that it answers about itself.
 pub trait Subject: Display {
-    /// Which call, and with what.
+    /// A call, with its arguments.
     type Call;
 
     fn make(&mut self, call: &Self::Call) -> Result<(), Stop>;
 }
 
-/// Changes `subject` by each of the calls, which have one name.
+/// Changes `subject` by each of the calls, which share one name.
 pub fn change<R: Print + Eprint, S: Subject>(
     rt: &R,
     name: &str,
@@ -27,8 +28,7 @@ pub fn change<R: Print + Eprint, S: Subject>(
     say_made(rt, name)
 }
 
-/// Makes a call. Where it is refused, it leaves all that is displayed of the subject as it was; where it doesn't, standard
-/// output says so.
+/// Makes a call. A refused call must not change the display of the subject; if it does, standard output says so.
 fn make<R: Print + Eprint, S: Subject>(
     rt: &R,
     name: &str,
@@ -46,7 +46,7 @@ fn make<R: Print + Eprint, S: Subject>(
     }
 }
 
-/// Says so on standard output where a refused call has changed what is displayed.
+/// Writes a line to standard output if a refused call has changed the display.
 pub fn compare<R: Print>(rt: &R, name: &str, before: &Page, after: &Page) -> Result<(), Stop> {
     if before.as_slice() != after.as_slice() {
         println!(rt; "changed: {name}, which was refused")?;
@@ -54,7 +54,7 @@ pub fn compare<R: Print>(rt: &R, name: &str, before: &Page, after: &Page) -> Res
     Ok(())
 }
 
-/// What a call made, or none where memory was refused, and the call is to be made again.
+/// The result of a call; `None` if an allocation failed and the call has to be repeated.
 pub fn made<R: Print + Eprint, T: Drop>(
     rt: &R,
     name: &str,
@@ -73,7 +73,7 @@ pub fn made<R: Print + Eprint, T: Drop>(
     }
 }
 
-/// What a call made that was made again.
+/// The result of a repeated call.
 pub fn made_again<R: Print, T: Drop>(
     rt: &R,
     name: &str,
@@ -84,31 +84,31 @@ pub fn made_again<R: Print, T: Drop>(
     Ok(value)
 }
 
-/// Says that the call of this name is made.
+/// Writes that the call of this name was made.
 pub fn say_made<R: Print>(rt: &R, name: &str) -> Result<(), Stop> {
     println!(rt; "made {name}")?;
     Ok(())
 }
 
-/// Says that the call of this name was refused.
+/// Writes that the call of this name was refused.
 pub fn say_refused<R: Eprint>(rt: &R, name: &str) -> Result<(), Stop> {
     eprintln!(rt; "refused {name}")?;
     Ok(())
 }
 
-/// Writes what a value is displayed as on standard output.
+/// Writes the display of a value to standard output.
 pub fn show<R: Print, S: Display>(rt: &R, value: &S) -> Result<(), Stop> {
     print!(rt; "{value}")?;
     Ok(())
 }
 
-/// From here on all memory is refused, where `scripts/refuse_memory.c` is loaded.
+/// From here on all allocations fail, if `scripts/refuse_memory.c` is loaded.
 pub fn refuse_all<R: Eprint>(rt: &R) -> Result<(), Stop> {
     eprintln!(rt; "memory: none")?;
     Ok(())
 }
 
-/// From here on memory is ample again.
+/// From here on allocations succeed again.
 pub fn refuse_none<R: Eprint>(rt: &R) -> Result<(), Stop> {
     eprintln!(rt; "memory: ample")?;
     Ok(())

@@ -1,5 +1,5 @@
-//! The calls of `bg_book` that are made at a seat, and events. A book takes memory rarely, so each call is made often
-//! enough to meet a growth.
+//! The calls of `bg_book` that are made at a seat, and events. A book allocates rarely, so each call is made often
+//! enough to include a growth.
 ghost use Rattle.std.specs.Prelude.{◌≡◌};
 ghost use Rattle.bg_ledger.specs.Blanks.{AreAllFor};
 
@@ -23,7 +23,7 @@ pub fn available() -> Control {
     }
 }
 
-/// A book and its eight seats. It can't be dropped: it ends in [`Desk::close`].
+/// A book and its eight seats. It cannot be dropped: it ends in [`Desk::close`].
 pub struct Desk<N: Names> {
     opened: OpenBook<N>,
 }
@@ -40,13 +40,13 @@ impl<N: Names> Desk<N> {
         Ok(Desk { opened })
     }
 
-    /// Lets each seat leave that is in, and ends the book.
+    /// Ends the request of each seat that is in, and ends the book.
     pub fn close(self) {
         let Desk { opened } = self;
         let _history = opened.close();
     }
 
-    /// Lets a request enter at the seat of this place, which holds none.
+    /// Lets a request enter at the seat at this place, which holds none.
     pub fn enter(&mut self, place: u32) -> Result<(), Stop> {
         self.call(&Call::Enter {
             seat: place,
@@ -54,7 +54,7 @@ impl<N: Names> Desk<N> {
         })
     }
 
-    /// Lets the request of the seat of this place leave.
+    /// Ends the request of the seat at this place.
     pub fn leave(&mut self, place: u32) -> Result<(), Stop> {
         self.call(&Call::Leave { seat: place })
     }
@@ -64,7 +64,7 @@ impl<N: Names> Desk<N> {
         Stop::unless_done(&self.opened.call(call))
     }
 
-    /// Lets a request enter at the seat of this place, and leave again.
+    /// Lets a request enter at the seat at this place, and leave again.
     pub fn enter_and_leave(&mut self, place: u32) -> Result<(), Stop> {
         self.enter(place)?;
         self.leave(place)
@@ -151,7 +151,7 @@ fn make_calls_at<N: Names, R: AllocGlobal + Print + Eprint>(
     show(rt, desk)
 }
 
-/// An event takes the room that its outcomes may need.
+/// An event reserves the room that its outcomes may need.
 fn record_events<N: Names, R: Print + Eprint>(rt: &R, desk: &mut Desk<N>) -> Result<(), Stop> {
     let events = [
         Call::Control(available()),
@@ -161,7 +161,7 @@ fn record_events<N: Names, R: Print + Eprint>(rt: &R, desk: &mut Desk<N>) -> Res
     change(rt, "Book::control", &mut Events { desk }, &events)
 }
 
-/// A deploy takes memory for its name and ports, in the history and for a new revision.
+/// A deploy allocates memory for its name and ports, in the history and for a new revision.
 fn deploy_revisions<N: Names, R: AllocGlobal + Print + Eprint>(
     rt: &R,
     desk: &mut Desk<N>,
@@ -179,7 +179,7 @@ fn deploy_revisions<N: Names, R: AllocGlobal + Print + Eprint>(
     )
 }
 
-/// A deploy of this name and these ports.
+/// A deploy with this name and these ports.
 pub fn make_deploy<R: AllocGlobal + Print + Eprint>(
     rt: &R,
     name: &str,
@@ -199,7 +199,7 @@ fn new_deploy(alloc: Global, name: &str, ports: &[u16]) -> Result<Control, Stop>
     })
 }
 
-/// Eight requests have room, since the history kept some for the outcomes of the deploys.
+/// Eight requests have room, because the history reserved some for the outcomes of the deploys.
 fn fill_seats<N: Names>(desk: &mut Desk<N>) -> Result<(), Stop> {
     for place in 0..8 {
         desk.enter(place)?;
@@ -214,7 +214,7 @@ fn empty_seats<N: Names>(desk: &mut Desk<N>) -> Result<(), Stop> {
     Ok(())
 }
 
-/// Of hundreds of requests one takes a longer history.
+/// One of hundreds of requests needs a longer history.
 fn enter_often<N: Names, R: Print + Eprint>(rt: &R, desk: &mut Desk<N>) -> Result<(), Stop> {
     let calls = [0; 200];
     change(rt, "Book::enter with a longer history", desk, &calls)

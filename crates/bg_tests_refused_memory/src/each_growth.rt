@@ -1,4 +1,4 @@
-//! Worked rows of rows/, played over a book whose growths are refused: by a call for each line, and by one run.
+//! Rows of rows/, played over a book whose growths fail: by a call for each line, and by one run.
 ghost use Rattle.std.specs.Prelude.{◌≡◌};
 ghost use Rattle.bg_ledger.specs.Blanks.{AreAllFor};
 
@@ -117,8 +117,8 @@ fn tick(moment: u64) -> Call {
     Call::Control(Control::Tick(moment))
 }
 
-/// Plays a row by calls, and then by one run. Where a growth of the run is refused, it has answered and left what a run
-/// without that call answers and leaves, and another book plays the whole row.
+/// Plays a row by calls, and then by one run. If a growth of the run fails, the run must have the replies and the final
+/// state of a run without that call, and another book plays the whole row.
 fn play<R: AllocGlobal + Print + Eprint>(
     rt: &R,
     row: &str,
@@ -143,7 +143,7 @@ fn play<R: AllocGlobal + Print + Eprint>(
     run.show(rt)
 }
 
-/// Says where a run one of whose calls was refused differs from one without that call.
+/// Writes where a run with a refused call differs from a run without that call.
 fn compare_without<R: AllocGlobal + Print + Eprint>(
     rt: &R,
     strategy: &Strategy,
@@ -175,17 +175,17 @@ enum Way<'a> {
     ByRuns(&'a [Call], &'a [Call]),
 }
 
-/// What a book has answered, and what it was then.
+/// The replies of a book, and its state after them.
 #[derive(Drop)]
 struct Played {
     replies: Vec<Reply>,
-    /// What the second run answered.
+    /// The replies to the second run.
     later: Vec<Reply>,
     state: Page,
 }
 
 impl Played {
-    /// The place of the call that was refused for want of memory.
+    /// The place of the call that was refused after an allocation failure.
     fn refused_place(&self) -> Option<usize> {
         for (place, reply) in self.replies.iter().enumerate() {
             if is_refused(reply) {
@@ -204,7 +204,7 @@ impl Played {
     }
 }
 
-/// Whether a call was refused for want of memory.
+/// Whether a call was refused after an allocation failure.
 fn is_refused(reply: &Reply) -> bool {
     Stop::unless_done(reply) == Err(Stop::OutOfMemory)
 }
@@ -224,7 +224,7 @@ fn play_once<R: AllocGlobal + Print + Eprint>(
     }
 }
 
-/// Opens a room, plays in it, and gathers its seats, for which there is no memory. The outer error is that of the opening.
+/// Opens a room, plays in it, and gathers its seats while all allocations fail. The outer error is that of the opening.
 fn work<N: Names, R: AllocGlobal + Print + Eprint>(
     rt: &R,
     strategy: &Strategy,
@@ -268,7 +268,7 @@ fn play_by_calls<N: Names, R: AllocGlobal + Print + Eprint>(
     })
 }
 
-/// A list that has room for so many replies.
+/// A list that has room for this many replies.
 fn replies_for<R: AllocGlobal + Eprint>(rt: &R, count: usize) -> Result<Vec<Reply>, Stop> {
     match Vec::with_capacity(rt.alloc(), count) {
         Ok(replies) => Ok(replies),
@@ -276,7 +276,8 @@ fn replies_for<R: AllocGlobal + Eprint>(rt: &R, count: usize) -> Result<Vec<Repl
     }
 }
 
-/// Makes a call, once more where memory is refused, which changes nothing. A request leaves without memory.
+/// Makes a call, and repeats it if an allocation fails, which must change nothing. A request leaves without
+/// an allocation.
 fn answer<N: Names, R: Print + Eprint>(
     rt: &R,
     room: &mut Room<N>,
@@ -314,7 +315,8 @@ fn play_by_runs<N: Names, R: Print + Eprint>(
     })
 }
 
-/// Makes calls by one run, once more where memory for their replies is refused, which changes nothing.
+/// Makes calls by one run, and repeats it if the allocation for their replies fails, which must change
+/// nothing.
 fn answer_run<N: Names, R: Print + Eprint>(
     rt: &R,
     room: &mut Room<N>,

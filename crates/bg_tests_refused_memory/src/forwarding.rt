@@ -1,18 +1,17 @@
-//! The call of `bg_forward`: a client is served in memory, before a book whose history has no room for its request.
+//! The call of `bg_forward`: a client is served in memory, by a book whose history has no room for its request.
 ghost use Rattle.std.specs.Prelude.{◌≡◌, ⊤};
 ghost use Rattle.bg_rollout.specs.Gathering.{indices};
 ghost use Rattle.bg_ledger.specs.Blanks.{AreAllFor};
 
 use crate::asking::{compare, made, made_again, refuse_all, refuse_none, say_made, say_refused};
 use crate::desks::available;
-use crate::line::Line;
+use crate::input_stream::InputStream;
 use crate::page::Page;
 use crate::state::State;
 use crate::stop::Stop;
 use crate::strategies::base_strategy;
-use bg_book::laws::{lent, same_order};
-use bg_book::{Book, Desk, EnterFault, GoOn, Left, Limits, Question, Ticket};
-use bg_forward::{Dial, Door, End, Exchange, Gate, serve_in_memory};
+use bg_book::{Book, Desk, EnterFault, GoOn, Left, Limits, Question, Ticket, laws as book_laws};
+use bg_forward::{DeskGate, Dial, End, Exchange, Gate, serve_in_memory};
 use bg_ledger::{Blanks, Names, Seat};
 use bg_revisions::Service;
 use bg_rollout::{MOST_ENTRIES, PLACES_OF_A_REQUEST};
@@ -21,7 +20,7 @@ use std::marker::Brand;
 use std::sync::Wait;
 use std::{fmt, io};
 
-/// So many requests find room that the first event took, and leave none for one more.
+/// The number of requests that fill the room that the first event reserved.
 const REQUESTS: u64 = (MOST_ENTRIES - 1 - PLACES_OF_A_REQUEST) / 2 + 1;
 
 const REQUEST: &str = "GET /a HTTP/1.1\r\nHost: x\r\n\r\n";
@@ -34,16 +33,17 @@ const ENTERING: &str = "serve_in_memory where a request enters";
 
 const INSIDE: &str = "serve_in_memory once a request has entered";
 
-/// A door that has all memory refused where a request leaves, and tells where a request is refused for want of memory.
+/// A gate that lets all allocations fail while a request leaves, and reports a request that is refused after an
+/// allocation failure.
 #[derive(Drop)]
 struct Watched<'a, N: Names, R> {
     rt: &'a R,
-    door: Door<'a, N, R>,
+    desk_gate: DeskGate<'a, N, R>,
 }
 
 impl<N: Names, R: Wait + Eprint> Gate<N> for Watched<'_, N, R> {
     fn enter(&self, seat: &mut Seat<N>, service: Service) -> Result<Ticket, EnterFault> {
-        let answer = self.door.enter(seat, service);
+        let answer = self.desk_gate.enter(seat, service);
         if answer == Err(EnterFault::OutOfMemory) {
             let _ = say_refused(self.rt, ENTERING);
         }
@@ -51,12 +51,12 @@ impl<N: Names, R: Wait + Eprint> Gate<N> for Watched<'_, N, R> {
     }
 
     fn may_go_on(&self, seat: &mut Seat<N>) -> GoOn {
-        self.door.may_go_on(seat)
+        self.desk_gate.may_go_on(seat)
     }
 
     fn leave(&self, seat: &mut Seat<N>) -> Left {
         let _ = refuse_all(self.rt);
-        let left = self.door.leave(seat);
+        let left = self.desk_gate.leave(seat);
         let _ = refuse_none(self.rt);
         left
     }
@@ -67,16 +67,16 @@ impl<N: Names, R: Wait + Eprint> Gate<N> for Watched<'_, N, R> {
 struct Endpoint;
 
 impl Dial for Endpoint {
-    type Stream = Line<'static>;
+    type Stream = InputStream<'static>;
 
-    fn dial(&self, _port: u16) -> io::Result<Line<'static>> {
-        Ok(Line {
+    fn dial(&self, _port: u16) -> io::Result<InputStream<'static>> {
+        Ok(InputStream {
             input: RESPONSE.as_bytes(),
         })
     }
 }
 
-/// What a book answers of itself.
+/// Everything that a book answers about itself.
 #[derive(Drop)]
 struct Whole;
 
@@ -109,7 +109,7 @@ fn work<N: Names, R: AllocGlobal + Print + Eprint + Wait>(
     requires blanks { AreAllFor N.Names blanks }
     requires seats { N.seats ≡ 1 }
 {
-    lent();
+    book_laws::lent();
     let (book, mut seats) = Book::<N>::open(
         rt.alloc(),
         strategy,
@@ -133,7 +133,7 @@ fn serve_first<N: Names, R: AllocGlobal + Print + Eprint + Wait>(
 ) -> Result<(), Stop>
     ensures { indices seats.new ≡ indices seats.old }
 {
-    same_order();
+    book_laws::same_order();
     say_made(rt, "Book::open")?;
     let _outcomes = match made(rt, "Desk::control", record(rt, desk))? {
         Some(outcomes) => outcomes,
@@ -145,12 +145,12 @@ fn serve_first<N: Names, R: AllocGlobal + Print + Eprint + Wait>(
     serve_at(rt, desk, &mut seats[0])
 }
 
-/// Tells that the first revision has its endpoints.
+/// Reports that the first revision has its endpoints.
 fn record<N: Names, R: Wait>(rt: &R, desk: &Desk<N>) -> Result<u64, Stop> {
     Ok(desk.control(rt, &available())?)
 }
 
-/// Serves a client at a seat, and another one where the first was refused for want of memory.
+/// Serves a client at a seat, and another one if the first was refused after an allocation failure.
 fn serve_at<N: Names, R: AllocGlobal + Print + Eprint + Wait>(
     rt: &R,
     desk: &Desk<N>,
@@ -199,7 +199,8 @@ fn pass_once<N: Names, R: Wait>(rt: &R, desk: &Desk<N>, seat: &mut Seat<N>) -> R
     Ok(())
 }
 
-/// Serves a client at a seat that is out. Standard output says so where the seat is not what it has to be then.
+/// Serves a client at a seat that is out. Standard output says so if the seat is not in the expected state
+/// afterwards.
 fn serve<N: Names, R: AllocGlobal + Print + Eprint + Wait>(
     rt: &R,
     desk: &Desk<N>,
@@ -213,7 +214,7 @@ fn serve<N: Names, R: AllocGlobal + Print + Eprint + Wait>(
     let calls = seat.calls();
     let gate = Watched {
         rt,
-        door: Door::new(rt, desk),
+        desk_gate: DeskGate::new(rt, desk),
     };
     let input = REQUEST.as_bytes();
     let exchange = serve_in_memory(rt.alloc(), &gate, seat, Service::Active, input, &Endpoint);

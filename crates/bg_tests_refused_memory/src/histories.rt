@@ -7,7 +7,7 @@ use bg_history::{Entry, History};
 use std::alloc::Global;
 use std::fmt;
 
-/// A history for two seats, which is displayed as all that it answers of itself.
+/// A history for two seats. Its display shows everything that it answers about itself.
 #[derive(Drop)]
 struct Entries {
     history: History,

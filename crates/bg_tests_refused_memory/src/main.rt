@@ -1,10 +1,11 @@
-//! Makes the calls up to `bg_book`, of `bg_audit`, `bg_http` and `bg_http_read` that take memory, and of the libraries
-//! above them `order`, `parse_line`, `check` and `serve_in_memory`. Where memory is refused, it looks at what the refused
-//! call has left, and asks again. Where a request leaves or seats are gathered it has all refused.
+//! Makes the allocating calls of the libraries up to `bg_book`, and of `bg_audit`, `bg_http` and `bg_http_read`, and
+//! from the libraries above them `order`, `parse_line`, `check` and `serve_in_memory`. After an allocation failure, it
+//! checks the state that the refused call has left, and repeats the call. All allocations fail while a request leaves
+//! or seats are gathered.
 //!
-//! Standard output names each call that was made, with what came of it, and is the same whichever request for memory
-//! is refused, unless a refused call has changed something. Standard error names each call that was refused.
-//! `scripts/refused_memory.sh` refuses the requests, one in each run.
+//! Standard output names each call that was made, with its result. It is the same whichever allocation fails, unless
+//! a refused call has changed something. Standard error names each call that was refused.
+//! `scripts/refused_memory.sh` lets one allocation fail in each run.
 #![tactic(auto)]
 
 mod asking;
@@ -13,7 +14,7 @@ mod desks;
 mod each_growth;
 mod forwarding;
 mod histories;
-mod line;
+mod input_stream;
 mod messages;
 mod open_lists;
 mod page;

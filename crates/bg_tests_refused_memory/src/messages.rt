@@ -1,22 +1,26 @@
 //! The calls of `bg_http` and `bg_http_read`.
 
 use crate::asking::{Subject, change, made, made_again, show};
-use crate::line::Line;
+use crate::input_stream::InputStream;
 use crate::stop::Stop;
 use bg_http::{Bytes, Fields, Request, Response};
 use bg_http_read::{read_request, read_response};
 use std::alloc::Global;
 use std::fmt;
 
-/// A request whose body comes in chunks, with a trailer after them.
-const REQUEST: &str =
-    "POST /a HTTP/1.1\r\nHost: x\r\nA: b\r\nTransfer-Encoding: chunked\r\n\r\n3\r\none\r\n4\r\nlast\r\n0\r\nT: u\r\n\r\n";
+/// Requests, each with its response.
+const EXCHANGES: [(&str, &str); 2] = [
+    (
+        "POST /a HTTP/1.1\r\nHost: x\r\nA: b\r\nTransfer-Encoding: chunked\r\n\r\n3\r\none\r\n4\r\nlast\r\n0\r\nT: u\r\n\r\n",
+        "HTTP/1.1 103 Early Hints\r\nA: b\r\n\r\nHTTP/1.1 200 OK\r\nB: c\r\nContent-Length: 3\r\n\r\none",
+    ),
+    (
+        "GET /a HTTP/1.1\r\nHost: x\r\nConnection: keep-alive, X-Drop\r\nX-Drop: 1\r\n\r\n",
+        "HTTP/1.1 200 OK\r\nTransfer-Encoding: chunked\r\n\r\n3\r\nabc\r\n0\r\n\r\n",
+    ),
+];
 
-/// An interim response, and one whose body has a length.
-const RESPONSE: &str =
-    "HTTP/1.1 103 Early Hints\r\nA: b\r\n\r\nHTTP/1.1 200 OK\r\nB: c\r\nContent-Length: 3\r\n\r\none";
-
-/// Fields, which are displayed whole.
+/// Fields, whose display shows all of them.
 #[derive(Drop)]
 struct Head {
     fields: Fields,
@@ -31,7 +35,7 @@ impl fmt::Display for Head {
 impl Subject for Head {
     type Call = u8;
 
-    /// Adds a field of this name.
+    /// Adds a field with this name.
     fn make(&mut self, name: &u8) -> Result<(), Stop> {
         self.fields.add(&[*name], b"value")?;
         Ok(())
@@ -42,10 +46,12 @@ pub fn make_calls<R: AllocGlobal + Print + Eprint>(rt: &R) -> Result<(), Stop> {
     let bytes = make_bytes(rt)?;
     println!(rt; "{bytes:?}")?;
     make_fields(rt)?;
-    let request = make_request(rt)?;
-    println!(rt; "{request:?}")?;
-    let response = make_response(rt, &request)?;
-    println!(rt; "{response:?}")?;
+    for (request, response) in &EXCHANGES {
+        let request = make_request(rt, request)?;
+        println!(rt; "{request:?}")?;
+        let response = make_response(rt, response, &request)?;
+        println!(rt; "{response:?}")?;
+    }
     Ok(())
 }
 
@@ -62,40 +68,49 @@ fn new_bytes(alloc: Global) -> Result<Bytes, Stop> {
 }
 
 fn make_fields<R: AllocGlobal + Print + Eprint>(rt: &R) -> Result<(), Stop> {
-    let mut head = Head {
-        fields: Fields::new(rt.alloc()),
+    let alloc = rt.alloc();
+    let mut head = match made(rt, "Fields::new", new_head(alloc))? {
+        Some(head) => head,
+        None => made_again(rt, "Fields::new", new_head(alloc))?,
     };
     change(rt, "Fields::add", &mut head, b"abcdef")?;
     show(rt, &head)
 }
 
-fn make_request<R: AllocGlobal + Print + Eprint>(rt: &R) -> Result<Request, Stop> {
+fn new_head(alloc: Global) -> Result<Head, Stop> {
+    Ok(Head {
+        fields: Fields::new(alloc, &[(b"Host", b"x"), (b"A", b"")])?,
+    })
+}
+
+fn make_request<R: AllocGlobal + Print + Eprint>(rt: &R, text: &str) -> Result<Request, Stop> {
     let alloc = rt.alloc();
-    match made(rt, "read_request", new_request(alloc))? {
+    match made(rt, "read_request", new_request(alloc, text))? {
         Some(request) => Ok(request),
-        None => made_again(rt, "read_request", new_request(alloc)),
+        None => made_again(rt, "read_request", new_request(alloc, text)),
     }
 }
 
-fn new_request(alloc: Global) -> Result<Request, Stop> {
-    let mut client = Line {
-        input: REQUEST.as_bytes(),
+fn new_request(alloc: Global, text: &str) -> Result<Request, Stop> {
+    let mut client = InputStream {
+        input: text.as_bytes(),
     };
     Ok(read_request(alloc, &mut client)?)
 }
 
 fn make_response<R: AllocGlobal + Print + Eprint>(
     rt: &R,
+    text: &str,
     request: &Request,
 ) -> Result<Response, Stop> {
     let alloc = rt.alloc();
-    match made(rt, "read_response", new_response(alloc, request))? {
+    match made(rt, "read_response", new_response(alloc, text, request))? {
         Some(response) => Ok(response),
-        None => made_again(rt, "read_response", new_response(alloc, request)),
+        None => made_again(rt, "read_response", new_response(alloc, text, request)),
     }
 }
 
-fn new_response(alloc: Global, request: &Request) -> Result<Response, Stop> {
-    let mut endpoint = RESPONSE.as_bytes();
+fn new_response(alloc: Global, text: &str, request: &Request) -> Result<Response, Stop> {
+    let mut endpoint = text.as_bytes();
     Ok(read_response(alloc, request, &mut endpoint)?)
 }

@@ -1,4 +1,4 @@
-//! The call of `bg_openlist` that takes memory.
+//! The call of `bg_openlist` that allocates.
 
 use crate::asking::{made, made_again};
 use crate::stop::Stop;

@@ -1,14 +1,14 @@
-//! A text that takes no memory to be written.
+//! A text that is written without an allocation.
 ghost use Rattle.std.specs.Prelude.{◌≤◌};
 
 use std::fmt::{Display, Write};
 use std::io::ErrorKind;
 use std::{fmt, io, str};
 
-/// The most bytes of a text.
+/// The maximum length of a text in bytes.
 const ROOM: usize = 4096;
 
-/// A text in a place of its own, so that none of it is a request for memory.
+/// A text in its own fixed memory, so that it needs no allocation.
 #[derive(Drop)]
 pub struct Page {
     bytes: [u8; 4096],
@@ -25,7 +25,7 @@ impl Page {
         }
     }
 
-    /// What the value is displayed as. An error where that is longer than a page.
+    /// The display of the value. An error if it is longer than a page.
     pub fn of<S: Display>(value: &S) -> Result<Page, fmt::Error> {
         let mut page = Page::new();
         write!(page, "{value}")?;
@@ -37,7 +37,7 @@ impl Page {
         &self.bytes[..self.length]
     }
 
-    /// Appends bytes to the text, where there is room for them, and says whether there is.
+    /// Appends bytes to the text if there is room for them. Returns whether there is.
     fn append(&mut self, bytes: &[u8]) -> bool {
         if bytes.len() > ROOM - self.length {
             return false;

@@ -1,4 +1,4 @@
-//! The calls that read what people write: words, a line and a strategy.
+//! The calls that read what users write: words, a line and a strategy.
 
 use crate::asking::{made, made_again, show};
 use crate::page::Page;

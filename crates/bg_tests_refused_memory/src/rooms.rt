@@ -30,11 +30,11 @@ pub fn leave(seat: u32) -> Call {
 pub enum RoomCall {
     /// One call.
     Alone(Call),
-    /// Calls that are made by one.
+    /// Calls that are made by one run.
     Run([Call; 3]),
 }
 
-/// A book and its two seats. It can't be dropped: it ends in [`Room::close`].
+/// A book and its two seats. It cannot be dropped: it ends in [`Room::close`].
 pub struct Room<N: Names> {
     opened: OpenBook<N>,
 }
@@ -51,13 +51,13 @@ impl<N: Names> Room<N> {
         Ok(Room { opened })
     }
 
-    /// Lets each seat leave that is in, and ends the book.
+    /// Ends the request of each seat that is in, and ends the book.
     pub fn close(self) {
         let Room { opened } = self;
         let _history = opened.close();
     }
 
-    /// Ends the book where no request is in. Else it lets each leave, and answers false.
+    /// Ends the book if no request is in. Otherwise ends each request, and returns false.
     pub fn gather(self) -> bool {
         let Room { opened } = self;
         let (book, seats) = opened.into_parts();
@@ -137,7 +137,7 @@ fn work<N: Names, R: AllocGlobal + Print + Eprint>(
     Ok(end)
 }
 
-/// The first event takes memory. After it the book has room, and a list of calls takes memory for its replies alone.
+/// The first event allocates. After it the book has room, and a list of calls allocates only for its replies.
 fn make_calls_in<N: Names, R: Print + Eprint>(rt: &R, room: &mut Room<N>) -> Result<(), Stop> {
     say_made(rt, "Book::open")?;
     let event = RoomCall::Alone(Call::Control(available()));

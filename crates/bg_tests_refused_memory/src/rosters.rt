@@ -9,7 +9,7 @@ use std::fmt;
 /// The names of the revisions that are added.
 const NAMES: [&str; 3] = ["v1", "v2", "v3"];
 
-/// A roster, displayed as all that it answers.
+/// A roster. Its display shows everything that it answers.
 #[derive(Drop)]
 struct Revisions {
     roster: Roster,
@@ -45,7 +45,7 @@ impl fmt::Display for Revisions {
     }
 }
 
-/// What a roster finds by name and by number.
+/// The revisions that a roster finds by name and by number.
 #[derive(Drop)]
 struct LookUps<'a>(&'a Roster);
 

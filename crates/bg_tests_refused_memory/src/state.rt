@@ -1,10 +1,11 @@
-//! What a book and its seats answer of themselves.
+//! Everything that a book and its seats answer about themselves.
 
 use bg_book::Book;
 use bg_ledger::{Names, Seat};
 use std::fmt;
 
-/// A book and its seats, displayed as all that they answer. Of the history it is the length and the newest entry.
+/// A book and its seats. Their display shows everything that they answer. Of the strategy, which no call changes, it
+/// shows the active service. Of the history it shows the length and the newest entry.
 #[derive(Drop)]
 pub struct State<'a, N: Names> {
     pub book: &'a Book<N>,
@@ -16,7 +17,7 @@ impl<N: Names> fmt::Display for State<'_, N> {
         let book = self.book;
         writeln!(f, "moment {} phase {:?}", book.moment(), book.phase())?;
         writeln!(f, "{:?}", book.selectors())?;
-        writeln!(f, "{:?}", book.strategy())?;
+        writeln!(f, "strategy {}", book.strategy().active_service.get())?;
         write!(f, "{}{}", Revisions(book), LastEntry(book))?;
         for seat in self.seats {
             write!(f, "{}", SeatLine(seat))?;
@@ -62,7 +63,7 @@ impl<N: Names> fmt::Display for LastEntry<'_, N> {
     }
 }
 
-/// What a seat answers.
+/// Everything that a seat answers.
 #[derive(Drop)]
 struct SeatLine<'a, N: Names>(&'a Seat<N>);
 

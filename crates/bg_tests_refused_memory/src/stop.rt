@@ -12,12 +12,12 @@ use std::alloc::AllocError;
 use std::{fmt, io};
 use thiserror::Error;
 
-/// Why a call has no answer, and where it has none the second time, why the program ends.
+/// Why a call has no answer; if the repeated call has none either, why the program ends.
 #[derive(Clone, Copy, Debug, Drop, PartialEq, Eq, Error)]
 pub enum Stop {
     #[error("memory was refused")]
     OutOfMemory,
-    /// No call of this program has another fault than want of memory.
+    /// A fault other than an allocation failure, which no call of this program has.
     #[error("a call has another fault")]
     OtherFault,
     #[error("a state could not be written down")]
@@ -27,7 +27,7 @@ pub enum Stop {
 }
 
 impl Stop {
-    /// Why a call of a book that was replied to so was not done, if it was not.
+    /// Why a call of a book with this reply was not done; Ok if it was done.
     pub fn unless_done(reply: &Reply) -> Result<(), Stop> {
         match reply {
             Reply::Entered(_) | Reply::Left(_) | Reply::Done(_) => Ok(()),

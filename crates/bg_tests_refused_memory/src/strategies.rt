@@ -5,8 +5,8 @@ use crate::stop::Stop;
 use bg_strategy::{ServiceName, Strategy, read};
 use std::alloc::Global;
 
-/// A document that gives every field.
-const EVERY_FIELD: &str =
+/// A document that gives many fields, of each kind.
+const MANY_FIELDS: &str =
     "{\"spec\": {\"replicas\": 3, \"revisionHistoryLimit\": 4, \"strategy\": {\"blueGreen\": {\"activeService\": \"web\", \"previewService\": \"web-preview\", \"previewReplicaCount\": 2, \"autoPromotionEnabled\": false, \"autoPromotionSeconds\": 5, \"scaleDownDelaySeconds\": 6, \"scaleDownDelayRevisionLimit\": 7, \"abortScaleDownDelaySeconds\": 8, \"drainLimitSeconds\": 9, \"prePromotionAnalysis\": {\"templates\": []}, \"postPromotionAnalysis\": {}}}}}";
 
 /// Two replicas, and no preview service.
@@ -53,13 +53,16 @@ fn clone_name(name: &ServiceName) -> Result<ServiceName, Stop> {
 }
 
 fn make_strategies<R: AllocGlobal + Print + Eprint>(rt: &R) -> Result<(), Stop> {
-    let strategy = strategy_of(rt, EVERY_FIELD)?;
+    let strategy = strategy_of(rt, MANY_FIELDS)?;
     let copy = copy_of(rt, &strategy)?;
-    show_strategies(rt, &strategy, &copy)
+    show_services(rt, &strategy)?;
+    show_services(rt, &copy)
 }
 
-fn show_strategies<R: Print>(rt: &R, strategy: &Strategy, copy: &Strategy) -> Result<(), Stop> {
-    println!(rt; "{strategy:?}\n{copy:?}")?;
+/// Prints the services of a strategy. Its other settings take no memory.
+fn show_services<R: Print>(rt: &R, strategy: &Strategy) -> Result<(), Stop> {
+    let active = strategy.active_service.get();
+    println!(rt; "strategy {active} {:?}", strategy.preview_service)?;
     Ok(())
 }
 

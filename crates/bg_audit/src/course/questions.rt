@@ -1,4 +1,4 @@
-//! What a past allows, as far as its course tells.
+//! What a past allows, as far as its course says.
 ghost use Rattle.std.specs.Prelude.{◌≡◌, ◌&&◌, ◌||◌, not, ℕ, Bool, List, Option, Some, None, is_some, is_none, if◌then◌else◌};
 ghost use Rattle.bg_history.specs.declared.entry.Entry.{Entry};
 ghost use Rattle.bg_history.specs.Turns.{newest_of};
@@ -8,7 +8,7 @@ ghost use Rattle.bg_history.specs.Promotion.{may_be_ready, may_resume, may_switc
 ghost use Rattle.bg_history.specs.Sizes.{available as available_of};
 ghost use Rattle.bg_history.specs.Allowed.{awaits, selection};
 ghost use Rattle.bg_audit.specs.Selected.{selects_in};
-ghost use Rattle.bg_audit.specs.Standing.{IsCourse};
+ghost use Rattle.bg_audit.specs.Course.{IsCourse};
 
 use super::Course;
 use bg_history::Analysis;
@@ -16,7 +16,7 @@ use bg_revisions::Service;
 use bg_strategy::Strategy;
 
 impl Course {
-    /// Whether the analysis is awaited.
+    /// Whether the rollout waits for the verdict of the analysis.
     pub fn awaits(&self, strategy: &Strategy, analysis: Analysis) -> bool
         ensures { (past : List Entry) → IsCourse strategy.now past self.now
             → result ≡ awaits analysis strategy.now past }
@@ -40,7 +40,7 @@ impl Course {
         self.attempt.passed_at.is_some() && !self.attempt.resumed && needs_pause(strategy)
     }
 
-    /// The revision that a service selects; none for a service that isn't set.
+    /// The revision that a service selects; `None` for a service that isn't set.
     pub fn selection(&self, strategy: &Strategy, service: Service) -> Option<u64>
         ensures { (past : List Entry) → IsCourse strategy.now past self.now
             → result ≡ selection strategy.now service past }
@@ -59,7 +59,7 @@ impl Course {
         revision == self.active || revision == self.preview() || revision == self.stable
     }
 
-    /// Whether the newest revision, of which so many are available, may be ready.
+    /// Whether the newest revision may become ready; it has `available` endpoints available.
     pub fn may_be_ready(&self, strategy: &Strategy, available: u32) -> bool
         ensures { (past : List Entry) → IsCourse strategy.now past self.now
             → available ≡ available_of (newest_of past) past
@@ -76,7 +76,7 @@ impl Course {
         self.running && self.attempt.ready && !self.attempt.resumed && self.ends_pause(strategy)
     }
 
-    /// Whether the active service may switch to the newest revision, of which so many are available.
+    /// Whether the active service may switch to the newest revision, which has `available` endpoints available.
     pub fn may_switch(&self, strategy: &Strategy, available: u32) -> bool
         ensures { (past : List Entry) → IsCourse strategy.now past self.now
             → available ≡ available_of (newest_of past) past
@@ -98,7 +98,7 @@ impl Course {
             && (!strategy.post || self.attempt.post_passed || self.attempt.promote_full_given)
     }
 
-    /// The revision before which a new one is tested.
+    /// The revision that the preview service selects.
     fn preview(&self) -> u64
         ensures { result ≡ (if self.now.running then self.now.newest else self.now.stable) }
     {
@@ -132,14 +132,14 @@ impl Course {
     }
 }
 
-/// Whether a new revision isn't promoted at once.
+/// Whether the strategy has a pause before the switch.
 fn needs_pause(strategy: &Strategy) -> bool
     ensures { result ≡ needs_pause strategy.now }
 {
     !strategy.auto_promotion || strategy.auto_seconds > 0
 }
 
-/// Whether the seconds of a pause that began at `at` have gone by, and may end it.
+/// Whether a pause that began at `at` ends by itself, and its seconds have passed.
 fn has_waited(strategy: &Strategy, at: u64, now: u64) -> bool
     ensures { result ≡ waited strategy.now.auto_promotion strategy.now.auto_seconds now (Some at) }
 {

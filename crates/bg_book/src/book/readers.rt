@@ -1,4 +1,4 @@
-//! What a book answers of its state.
+//! The readers of a book's state.
 ghost use Rattle.std.specs.Prelude.{◌≡◌, ◌≤◌, ◌+◌, length, nat_lt, slice_get, Some, option_copied};
 ghost use Rattle.bg_history.specs.Turns.{moment as moment_of};
 ghost use Rattle.bg_history.specs.Sizes.{existing};
@@ -17,7 +17,7 @@ use bg_history::History;
 use bg_ledger::Names;
 use bg_promotion::Phase;
 use bg_revisions::{Revision, Selectors};
-use bg_rollout::laws::state_tells;
+use bg_rollout::laws as rollout_laws;
 use bg_strategy::Strategy;
 
 impl<N: Names> Book<N> {
@@ -26,7 +26,7 @@ impl<N: Names> Book<N> {
         ensures past { result ≡ moment_of self.now.past }
         ensures running { result ≡ self.now.running.moment }
     {
-        self.rollout.stands();
+        self.rollout.holds_invariant();
         self.rollout.moment()
     }
 
@@ -35,16 +35,16 @@ impl<N: Names> Book<N> {
         ensures past { phase_of self.now.strategy self.now.past ≡ Some result }
         ensures running { self.now.running.phase ≡ Some result }
     {
-        self.rollout.stands();
+        self.rollout.holds_invariant();
         self.rollout.phase()
     }
 
-    /// The revisions that are active, preview, stable and newest.
+    /// The numbers of the active, preview, stable and newest revisions.
     pub fn selectors(&self) -> Selectors
         ensures past { result ≡ selectors_of self.now.past }
         ensures running { result ≡ self.now.running.selectors }
     {
-        self.rollout.stands();
+        self.rollout.holds_invariant();
         self.rollout.selectors()
     }
 
@@ -60,60 +60,61 @@ impl<N: Names> Book<N> {
         ensures past { result ≡ length (existing self.now.past) }
         ensures running { result ≡ length self.now.running.revisions }
     {
-        state_tells();
-        self.rollout.stands();
+        rollout_laws::state_tells();
+        self.rollout.holds_invariant();
         self.rollout.revisions().len()
     }
 
-    /// The revision at a place, from 0, in order of number; none past the last.
+    /// The revision at a place, in ascending order of the numbers; the first place is 0. `None` past the last.
     pub fn revision(&self, place: usize) -> Option<&Revision>
         ensures past { option_copied result ≡ slice_get
             (revisions_of self.now.strategy self.now.opening self.now.past) place }
         ensures running { option_copied result ≡ revision_at self.now.running place }
     {
-        state_tells();
-        self.rollout.stands();
+        rollout_laws::state_tells();
+        self.rollout.holds_invariant();
         self.rollout.revisions().get(place)
     }
 
-    /// The moment from which the revision of this number may be scaled down, if it has one.
+    /// The deadline of the revision of this number, if it has one: the moment from which it may be scaled down, in
+    /// seconds from the start.
     pub fn deadline_of(&self, number: u64) -> Option<u64>
         ensures past { result ≡ deadline self.now.strategy number self.now.past }
         ensures running { result ≡ deadline_at self.now.running number }
     {
-        state_tells();
-        self.rollout.stands();
+        rollout_laws::state_tells();
+        self.rollout.holds_invariant();
         self.rollout.deadline_of(number)
     }
 
-    /// How many requests are open at the revision of this number; 0 where there is none.
+    /// How many requests are open at the revision of this number; 0 if no such revision exists.
     pub fn open_count(&self, number: u64) -> usize
         ensures past { result ≡ length (open_at number self.now.past) }
         ensures running { result ≡ open_count_at self.now.running number }
     {
-        state_tells();
-        self.rollout.stands();
+        rollout_laws::state_tells();
+        self.rollout.holds_invariant();
         self.rollout.open_count(number)
     }
 
-    /// Whether the revision of this number may be scaled down but for its open requests.
+    /// Whether the revision of this number drains: only its open requests keep it from being scaled down.
     pub fn is_draining(&self, number: u64) -> bool
         ensures { result ≡ is_draining_in self.now.strategy number self.now.past }
     {
         self.rollout.is_draining(number)
     }
 
-    /// Whether the requests of the revision of this number are given up: it drains, and so many
-    /// seconds as the strategy's `drainLimitSeconds` says have passed since its deadline.
+    /// Whether the drain limit of the revision of this number is over: the revision drains, and the strategy's
+    /// `drainLimitSeconds` have passed since its deadline.
     pub fn past_limit(&self, number: u64) -> bool
         ensures { result ≡ is_past_limit self.now.strategy number self.now.past }
     {
         self.rollout.past_limit(number)
     }
 
-    /// How many entries of the history are used: those that it has, and the three that are kept for each open request.
-    /// [`Book::control`] has no room where 141 more are above the limit of entries ([`crate::Limits`]), and
-    /// [`Book::enter`] where 4 more are. It takes the same time whatever the length of the history.
+    /// The number of entries in use: those in the history, and three that are reserved for each open request.
+    /// [`Book::control`] has no room if 141 more would exceed the limit of entries ([`crate::Limits`]), and
+    /// [`Book::enter`] has none if 4 more would. The time of the call doesn't depend on the length of the history.
     pub fn entries_used(&self) -> u64
         ensures used { result ≡ used_entries self.now.past }
         ensures few { result ≤ 1000000 }
@@ -122,7 +123,7 @@ impl<N: Names> Book<N> {
         ensures enter { is_full_for_enter self.now.limits self.now.past
             ≡ nat_lt self.now.limits.entries (result + 4) }
     {
-        self.rollout.stands();
+        self.rollout.holds_invariant();
         self.rollout.history().len() + self.rollout.places_kept()
     }
 

@@ -1,4 +1,4 @@
--- Pasts that answer alike.
+-- Pasts that give the same answers.
 use Rattle.std.proofs.Common.{◌≡◌, Bool, true, false, ◌&&◌, ◌||◌, List, ◌∷◌, refl, ap, sym, ◌∙◌}
 use Rattle.bg_history.specs.declared.entry.Entry.{Entry}
 use Rattle.bg_history.specs.declared.entry.Entry.TheVariants.{Tick, Enter, Leave}
@@ -61,14 +61,14 @@ alike_then h k = record {
   marks = record { say = λ r. h.marks.say r ∙ k.marks.say r; order = λ q r. h.marks.order q r ∙ k.marks.order q r };
 }
 
--- a test that asks for Ready passes no quiet entry
+-- a test for Ready passes no quiet entry
 ready-quiet : (e : Entry) → is_quiet e ≡ true → is_ready e ≡ false
 ready-quiet (Tick m) q = refl
 ready-quiet (Enter seat service number r port) q = refl
 ready-quiet (Leave seat number r) q = refl
 ready-quiet e q = absurd (cc)
 
--- an entry more in front of both, at one moment
+-- one more entry in front of both, at the same moment
 pub alike_both : {s : Strategy} {o : Opening} {a b : List Entry} → (e : Entry) → Alike s o a b → moment a ≡ moment b → moment (e ∷ a) ≡ moment (e ∷ b) → Alike s o (e ∷ a) (e ∷ b)
 alike_both {s} {o} {a} {b} e h was now = record {
   stable = stable-both e a b h.stable;

@@ -1,4 +1,4 @@
--- An entry that is allowed stays allowed where whole requests are gone, but for its own.
+-- An entry that is allowed is still allowed after whole requests are removed, except its own.
 use Rattle.std.proofs.Common.{◌≡◌, ℕ, Bool, true, false, not, cond, ◌^◌, ◌==◌, ◌&&◌, nat_lt, nat_le, List, [], ◌∷◌, map, filter, find, Some, is_none, refl, arith, ap, sym, ◌∙◌}
 use Rattle.std.specs.List.{list_all}
 use Rattle.std.proofs.lemmas.Bool.Decides.{nat_tests}
@@ -20,7 +20,7 @@ use Rattle.bg_history_laws.proofs.Compacted.Thin.{thin-open, thin-numbers}
 use Rattle.bg_history_laws.proofs.Compacted.Questions.{attempted, paused-same, awaits-same, ready-same, resume-same, switch-same, promote-same, exists-same, due-same, remove-same, deploy-same, selection-same, port-same}
 use Rattle.bg_history_laws.proofs.Tests.{and_parts, and_both}
 
--- the second past has no request but those of the first, and each of those whose number doesn't pass the test
+-- the second past has only requests of the first one, and all of those whose number doesn't pass the test
 pub record FewerRequests (gone : ℕ → Bool) (a b : List Entry) : Type 0 where
   pub none : (seat : ℕ) → is_none (held_by seat a) ≡ true → is_none (held_by seat b) ≡ true
   pub same : (seat number r : ℕ) → not (gone number) ≡ true → holds number r (held_by seat a) ≡ true → holds number r (held_by seat b) ≡ true
@@ -66,7 +66,7 @@ allowed-fewer s o gone (Outcome (ScaledDown r)) a b h now f kept k =
     and_both (is_due s r b) (is_empty (open_at r b)) (sym (due-same r h now) ∙ two.0) (f.empty r two.1)
 allowed-fewer s o gone (Outcome (Removed r)) a b h now f kept k = sym (remove-same r h) ∙ k
 
--- where none is found, none is found in a part
+-- if no request is found, none is found in a part
 none-part : (p k : Request → Bool) (xs : List Request) → is_none (find p xs) ≡ true → is_none (find p (filter k xs)) ≡ true
 none-part p k [] h = refl
 none-part p k (x ∷ xs) h = go (p x) (k x) refl h (none-part p k xs) where
@@ -102,7 +102,7 @@ empty-part p k (x ∷ xs) h = go (p x) (k x) refl h (empty-part p k xs) where
   go false true is h rest = rw is (rest h)
   go false false is h rest = rest h
 
--- the numbers are a part of those before
+-- the numbers are a part of the numbers before
 pub without-numbers : (gone p : ℕ → Bool) (past : List Entry) → list_all p (request_numbers past) ≡ true → list_all p (request_numbers (without gone past)) ≡ true
 without-numbers gone p [] h = refl
 without-numbers gone p (Enter seat service number r port ∷ before) h =

@@ -32,7 +32,7 @@ pub all_stay : {X : Type 0} (k : X → Bool) (xs : List X) → list_all k xs ≡
 all_stay k [] h = refl
 all_stay k (x ∷ xs) h = let both = and_parts (k x) (list_all k xs) h in rw both.0 (ap (λ ys. x ∷ ys) (all_stay k xs both.1))
 
--- each open request has a number of those in the entries
+-- the number of each open request is a number in the entries
 pub open-numbers : (p : ℕ → Bool) (past : List Entry) → list_all p (request_numbers past) ≡ true → list_all (λ q. p q.number) (open_requests past) ≡ true
 open-numbers p [] h = refl
 open-numbers p (Enter seat service number r port ∷ before) h =
@@ -43,7 +43,7 @@ open-numbers p (Leave seat number r ∷ before) h =
     all_kept (λ q. p q.number) (λ q. not (q.number == number)) (open_requests before) (open-numbers p before two.1)
 open-numbers p (e ∷ before) h = open-numbers p before h
 
--- so has each that left
+-- the number of each request that left is a number in the entries
 pub left-numbers : (p : ℕ → Bool) (past : List Entry) → list_all p (request_numbers past) ≡ true → list_all p (left_numbers past) ≡ true
 left-numbers p [] h = refl
 left-numbers p (Enter seat service number r port ∷ before) h = left-numbers p before (and_parts (p number) (list_all p (request_numbers before)) h).1
@@ -52,7 +52,7 @@ left-numbers p (Leave seat number r ∷ before) h =
     and_both (p number) (list_all p (left_numbers before)) two.0 (left-numbers p before two.1)
 left-numbers p (e ∷ before) h = left-numbers p before h
 
--- a number above all isn't among them
+-- a number above all of them isn't among them
 pub above-none : (n : ℕ) (xs : List ℕ) → list_all (λ k. nat_lt k n) xs ≡ true → is_among xs n ≡ false
 above-none n [] h = refl
 above-none n (x ∷ xs) h =
@@ -61,7 +61,7 @@ above-none n (x ∷ xs) h =
     let other : (x == n) ≡ false = grind (arith, nat_tests) in
     rw other (above-none n xs two.1)
 
--- what an allowed Enter tells
+-- what an allowed Enter says of the past before it
 pub record Entering (s : Strategy) (o : Opening) (seat number : ℕ) (before : List Entry) : Type 0 where
   pub seat_is : nat_lt seat o.seats ≡ true
   pub none : is_none (held_by seat before) ≡ true
@@ -77,7 +77,7 @@ entering s o seat v number r port before k =
     let one = and_parts (nat_lt seat o.seats) (is_none (held_by seat before)) two.0 in
     record { seat_is = one.0; none = one.1; above = four.1 }
 
--- no open request is among those that left
+-- no open request is among the requests that left
 pub open-unclosed : (s : Strategy) (o : Opening) (past : List Entry) → all_allowed s o past ≡ true → list_all (λ q. not (is_among (left_numbers past) q.number)) (open_requests past) ≡ true
 open-unclosed s o [] h = refl
 open-unclosed s o (Enter seat service number r port ∷ before) h =
@@ -104,14 +104,14 @@ open-unclosed s o (Leave seat number r ∷ before) h =
                 rw (other, here) rest
 open-unclosed s o (e ∷ before) h = open-unclosed s o before (and_parts (is_allowed s o e before) (all_allowed s o before) h).1
 
--- so the requests that are open stay
+-- so compaction keeps the open requests
 pub compacted-open : (s : Strategy) (o : Opening) (past : List Entry) → all_allowed s o past ≡ true → open_requests (compacted past) ≡ open_requests past
 compacted-open s o past h =
     thin-open (without (is_among (left_numbers past)) past)
     ∙ without-open (is_among (left_numbers past)) past
     ∙ all_stay (λ q. not (is_among (left_numbers past) q.number)) (open_requests past) (open-unclosed s o past h)
 
--- without the entries of those that left no Leave is there
+-- without the entries of the requests that left, there is no Leave
 pub none-left : (gone : ℕ → Bool) (past : List Entry) → list_all gone (left_numbers past) ≡ true → left_numbers (without gone past) ≡ []
 none-left gone [] h = refl
 none-left gone (Enter seat service number r port ∷ before) h = go (gone number) (none-left gone before h) where

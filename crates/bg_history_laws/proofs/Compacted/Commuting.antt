@@ -1,4 +1,4 @@
--- Compacting earlier changes nothing of what compacting later gives.
+-- An earlier compaction doesn't change the result of a later one.
 use Rattle.std.proofs.Common.{◌≡◌, ℕ, Bool, true, false, not, cond, ◌&&◌, ◌||◌, ◌==◌, List, [], ◌∷◌, ◌++◌, refl, ap, sym, ◌∙◌}
 use Rattle.std.specs.List.{list_all}
 use Rattle.std.proofs.lemmas.List.Elements.{filter-append}
@@ -45,7 +45,7 @@ keeps-both g k (Leave seat number r) = by (g number) (k number) where
   by false false = refl
 keeps-both g k e = refl
 
--- dropping the requests of one test, then those of another, is dropping those of either
+-- dropping the requests of one test, then those of another, drops those of either
 without-both : (g k : ℕ → Bool) (past : List Entry) → without g (without k past) ≡ without (λ n. g n || k n) past
 without-both g k [] = refl
 without-both g k (e ∷ before) = go (keeps k e) (keeps g e) refl refl (keeps-both g k e) (without-both g k before) where
@@ -61,12 +61,12 @@ without-tests g k f (Enter seat service number r port ∷ before) = rw (f number
 without-tests g k f (Leave seat number r ∷ before) = rw (f number, without-tests g k f before) refl
 without-tests g k f (e ∷ before) = ap (λ t. e ∷ t) (without-tests g k f before)
 
--- the entry isn't the entering of a request with one of these numbers
+-- the entry isn't the Enter of a request with one of these numbers
 abbrev pub is_apart : List ℕ → Entry → Bool
 is_apart left (Enter seat service number r port) = not (is_among left number)
 is_apart left e = true
 
--- of entries apart from those requests the same are dropped
+-- of entries that don't belong to those requests, the same are dropped
 front-same : (g : ℕ → Bool) (left : List ℕ) (xs : List Entry) → list_all (is_apart left) xs ≡ true → list_all g (left_numbers xs) ≡ true
     → without (λ n. g n || is_among left n) xs ≡ without g xs
 front-same g left [] h l = refl
@@ -84,11 +84,11 @@ front-same g left (Leave seat number r ∷ xs) h l =
     rw here.0 (front-same g left xs h here.1)
 front-same g left (e ∷ xs) h l = ap (λ t. e ∷ t) (front-same g left xs h l)
 
--- the numbers that left, in front of a compacted past
+-- the numbers that left, with entries in front of a compacted past
 pub left-front : (xs p : List Entry) → left_numbers (xs ++ compacted p) ≡ left_numbers xs
 left-front xs p = left-append xs (compacted p) ∙ ap (λ t. left_numbers xs ++ t) (compacted-left p) ∙ append-none (left_numbers xs)
 
--- a number that left, in both parts of a past
+-- a number that left, in either part of a past
 pub left-either : (xs p : List Entry) (n : ℕ) → is_among (left_numbers xs) n || is_among (left_numbers p) n ≡ is_among (left_numbers (xs ++ p)) n
 left-either xs p n = sym (among-append (left_numbers xs) (left_numbers p) n) ∙ ap (λ t. is_among t n) (sym (left-append xs p))
 
@@ -104,12 +104,12 @@ commuting xs p h =
     ∙ ap thin (sym (filter-append (keeps (λ n. gx n || gp n)) xs p))
     ∙ ap thin (without-tests (λ n. gx n || gp n) (is_among (left_numbers (xs ++ p))) (left-either xs p) (xs ++ p))
 
--- outcomes and an event in front are entries in front
+-- outcomes and an event in front of a past are entries in front of it
 pub outcomes-front : (outcomes : List outcome.Outcome) (e : Entry) (p : List Entry) → with_outcomes outcomes (e ∷ p) ≡ with_outcomes outcomes (e ∷ []) ++ p
 outcomes-front [] e p = refl
 outcomes-front (x ∷ xs) e p = ap (λ t. entry.Outcome x ∷ t) (outcomes-front xs e p)
 
--- an event that enters no request anew, and outcomes, are apart from those that left
+-- outcomes, and an event that enters no request again, don't belong to the requests that left
 pub front-apart : (outcomes : List outcome.Outcome) (e : Entry) (p : List Entry) → enters_anew e p ≡ true → list_all (is_apart (left_numbers p)) (with_outcomes outcomes (e ∷ [])) ≡ true
 front-apart [] (Enter seat service number r port) p h = rw h refl
 front-apart [] (Leave seat number r) p h = refl

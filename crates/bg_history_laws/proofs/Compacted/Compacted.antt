@@ -1,4 +1,4 @@
--- What stays of a past that is compacted.
+-- What compaction keeps of a past.
 use Rattle.std.proofs.Common.{◌≡◌, ℕ, ◌+◌, Bool, true, ◌&&◌, nat_le, List, [], ◌∷◌, ◌++◌, length, sum, is_none, subst, refl, ap, sym, ◌∙◌}
 use Rattle.bg_history.specs.declared.entry.Entry.{Entry}
 use Rattle.bg_history.specs.declared.entry.Outcome as outcome

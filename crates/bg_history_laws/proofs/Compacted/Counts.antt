@@ -19,7 +19,7 @@ one : Bool → ℕ
 one true = 1
 one false = 0
 
--- one more at a place
+-- one more at the count of a seat
 bump-length : (i : ℕ) (xs : List ℕ) → length (bump i xs) ≡ length xs
 bump-length i xs = length-set xs i (get_or xs i 0 + 1)
 
@@ -41,12 +41,12 @@ raised-length gone (Enter seat service number r port ∷ before) closed = go (go
   go false h = h
 raised-length gone (e ∷ before) closed = raised-length gone before closed
 
--- each seat that entered is one of them
+-- each seat of an Enter is one of the book's seats
 pub seats-within : (s : Strategy) (o : Opening) (closed : List ℕ) (seat : ℕ) (gone : ℕ → Bool) (before : List Entry) → length closed ≡ o.seats → nat_lt seat o.seats ≡ true
     → seat < length (raised gone before closed)
 seats-within s o closed seat gone before count lt = let e : length (raised gone before closed) ≡ length closed = raised-length gone before closed in grind (arith, nat_tests)
 
--- as many requests were given
+-- the number of given request numbers is the same
 pub raised-given : (s : Strategy) (o : Opening) (gone : ℕ → Bool) (closed : List ℕ) (past : List Entry) → length closed ≡ o.seats → all_allowed s o past ≡ true
     → entered (without gone past) + sum (raised gone past closed) ≡ entered past + sum closed
 raised-given s o gone closed [] count h = refl
@@ -68,7 +68,7 @@ raised-given s o gone closed (Leave seat number r ∷ before) count h =
       go false rest = rest
 raised-given s o gone closed (e ∷ before) count h = raised-given s o gone closed before count (and_parts (is_allowed s o e before) (all_allowed s o before) h).1
 
--- how often a seat entered and left
+-- how often requests of a seat entered and left
 enters : ℕ → List Entry → ℕ
 enters i [] = 0
 enters i (Enter seat service number r port ∷ before) = one (seat == i) + enters i before
@@ -113,7 +113,7 @@ raised-at s o gone closed i (Leave seat number r ∷ before) count h =
       go false rest = rest
 raised-at s o gone closed i (e ∷ before) count h = raised-at s o gone closed i before count (and_parts (is_allowed s o e before) (all_allowed s o before) h).1
 
--- no two open requests have one number
+-- no two open requests have the same number
 pub Distinct : List Request → Type 0
 Distinct [] = Unit {0}
 Distinct (q ∷ rest) = (list_all (λ p. not (p.number == q.number)) rest ≡ true) × Distinct rest
@@ -147,7 +147,7 @@ open-distinct s o (Leave seat number r ∷ before) h =
     distinct-filter (λ q. not (q.number == number)) (open_requests before) (open-distinct s o before two.1)
 open-distinct s o (e ∷ before) h = open-distinct s o before (and_parts (is_allowed s o e before) (all_allowed s o before) h).1
 
--- how many of the requests are a seat's
+-- how many of the requests belong to a seat
 seated : ℕ → List Request → ℕ
 seated i [] = 0
 seated i (q ∷ rest) = one (q.seat == i) + seated i rest
@@ -157,7 +157,7 @@ unfolding seated
 seated-append i [] y = refl
 seated-append i (x ∷ xs) y = omega (arith, seated-append i xs y)
 
--- a request that a seat holds has a number that another number isn't
+-- the number of a request that a seat holds differs from another number
 holds-other : (seat number r n : ℕ) (xs : List Request) → list_all (λ p. not (p.number == n)) xs ≡ true → holds number r (find (λ q. q.seat == seat) xs) ≡ true → (n == number) ≡ false
 holds-other seat number r n [] a h = absurd (cc)
 holds-other seat number r n (x ∷ xs) a h =
@@ -168,7 +168,7 @@ holds-other seat number r n (x ∷ xs) a h =
       go true here h rest = grind (arith, nat_tests)
       go false here h rest = rest h
 
--- one that is taken out by its number is its seat's
+-- the request that is removed by its number belongs to its seat
 taken-out : (i seat number r : ℕ) (xs : List Request) → Distinct xs → holds number r (find (λ q. q.seat == seat) xs) ≡ true
     → one (seat == i) + seated i (filter (λ q. not (q.number == number)) xs) ≡ seated i xs
 unfolding Distinct seated
@@ -187,7 +187,7 @@ taken-out i seat number r (x ∷ xs) d h = go (x.seat == seat) refl h (taken-out
       let other : (x.number == number) ≡ false = holds-other seat number r x.number xs d.0 h in
       rw other (omega (arith, rest h))
 
--- as often as a seat entered it left or holds one
+-- a seat has as many Enters as Leaves, and one more if it holds a request
 seat-counts : (s : Strategy) (o : Opening) (i : ℕ) (past : List Entry) → all_allowed s o past ≡ true → enters i past ≡ leaves i past + seated i (open_requests past)
 unfolding enters leaves seated
 seat-counts s o i [] h = refl
@@ -208,7 +208,7 @@ none-leaves i [] h = refl
 none-leaves i (Leave seat number r ∷ before) h = absurd (cc)
 none-leaves i (e ∷ before) h = none-leaves i before h
 
--- a seat has as many calls
+-- the number of a seat's calls is the same
 pub raised-calls : (s : Strategy) (o : Opening) (gone : ℕ → Bool) (closed : List ℕ) (i : ℕ) (past : List Entry) → length closed ≡ o.seats
     → all_allowed s o past ≡ true → all_allowed s o (without gone past) ≡ true → left_numbers (without gone past) ≡ [] → open_requests (without gone past) ≡ open_requests past
     → calls_of (raised gone past closed) i (without gone past) ≡ calls_of closed i past

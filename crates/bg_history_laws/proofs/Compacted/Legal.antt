@@ -1,4 +1,4 @@
--- What was allowed stays allowed.
+-- An entry that was allowed is still allowed.
 use Rattle.std.proofs.Common.{◌≡◌, ℕ, Bool, true, false, not, cond, ◌^◌, nat_le, List, [], ◌∷◌, refl, arith, ap, sym, ◌∙◌}
 use Rattle.std.proofs.lemmas.Bool.Decides.{nat_tests}
 use Rattle.bg_strategy.specs.declared.strategy.Strategy.{Strategy}
@@ -37,7 +37,7 @@ without-allowed s o gone (Leave seat number r ∷ before) h = go (gone number) r
   go false is rest = step s o gone (Leave seat number r) before (ap not is) h rest
 without-allowed s o gone (e ∷ before) h = step s o gone e before refl h (without-allowed s o gone before)
 
--- a past without its newest tick is allowed, and not later
+-- a past without its newest tick is still allowed, and its moment isn't later
 untick-earlier : (s : Strategy) (o : Opening) (past : List Entry) → all_allowed s o past ≡ true → (all_allowed s o (untick past) ≡ true) × (nat_le (moment (untick past)) (moment past) ≡ true)
 untick-earlier s o [] h = (refl, refl)
 untick-earlier s o (Tick m ∷ before) h =

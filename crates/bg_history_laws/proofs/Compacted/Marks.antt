@@ -1,4 +1,4 @@
--- The marks of two pasts that answer alike.
+-- The marks of two pasts that give the same answers.
 use Rattle.std.proofs.Common.{◌≡◌, ◌<◌, ◌+◌, ℕ, suc, Bool, true, false, not, cond, ◌==◌, ◌&&◌, ◌||◌, List, [], ◌∷◌, length, Option, Some, None, refl, arith, ap, sym, ◌∙◌}
 use Rattle.std.specs.Option.{option_or, option_map}
 use Rattle.std.proofs.lemmas.Bool.Decides.{nat_tests}
@@ -12,9 +12,9 @@ use Rattle.bg_history.specs.Marks.{MarkKind, Left, Cleared, Mark, mark, kind_of,
 use Rattle.bg_history_laws.specs.Alike.{is_quiet, said, earlier, MarksAlike}
 use Rattle.bg_history_laws.proofs.Compacted.Steps.{begins-both}
 
--- the mark of an entry that is of that kind, else the one before
+-- the mark of an entry that makes one, else the mark before
 abbrev pub next_mark : Option MarkKind → ℕ → ℕ → Option Mark → Option Mark
-next_mark k at stood m = option_or (option_map (λ kind. record { kind = kind; moment = at; stood = stood }) k) m
+next_mark k at position m = option_or (option_map (λ kind. record { kind = kind; moment = at; position = position }) k) m
 
 supersedes-both : (s : Strategy) (r : ℕ) (e : Entry) (a b : List Entry) → stable_of a ≡ stable_of b → newest_of a ≡ newest_of b → active_of a ≡ active_of b → desired s r a ≡ desired s r b
     → supersedes s r e a ≡ supersedes s r e b
@@ -25,10 +25,10 @@ kind-both : (s : Strategy) (r : ℕ) (e : Entry) (a b : List Entry) → stable_o
     → desired s r a ≡ desired s r b → kind_of s r e a ≡ kind_of s r e b
 kind-both s r e a b st new act act2 size = rw (act2, new, act, supersedes-both s r e a b st new act size, begins-both r e a b st new) refl
 
--- a mark stands before the end
+-- a mark has fewer entries before it than the past has
 abbrev pub Within : ℕ → Option Mark → Type 0
 Within n None = Unit {0}
-Within n (Some m) = m.stood < n
+Within n (Some m) = m.position < n
 
 within-next : (k : Option MarkKind) (at n : ℕ) (m : Option Mark) → Within n m → Within (n + 1) (next_mark k at n m)
 within-next None at n None w = tt
@@ -49,8 +49,8 @@ said-next : (k : Option MarkKind) (at n p : ℕ) (x y : Option Mark) → said x 
 said-next None at n p x y h = h
 said-next (Some k) at n p x y h = refl
 
--- a mark that was made now stands after those before
-none-later : (n : ℕ) (k : MarkKind) (at : ℕ) (y : Option Mark) → Within n y → earlier (Some (record { kind = k; moment = at; stood = n })) y ≡ false
+-- a mark that an entry makes now comes after the marks before
+none-later : (n : ℕ) (k : MarkKind) (at : ℕ) (y : Option Mark) → Within n y → earlier (Some (record { kind = k; moment = at; position = n })) y ≡ false
 none-later n k at None w = refl
 none-later n k at (Some m) w = grind (arith, nat_tests)
 
@@ -58,7 +58,7 @@ is_made : Option Mark → Bool
 is_made None = false
 is_made (Some m) = true
 
-all-earlier : (n : ℕ) (k : MarkKind) (at : ℕ) (y : Option Mark) → Within n y → earlier y (Some (record { kind = k; moment = at; stood = n })) ≡ is_made y
+all-earlier : (n : ℕ) (k : MarkKind) (at : ℕ) (y : Option Mark) → Within n y → earlier y (Some (record { kind = k; moment = at; position = n })) ≡ is_made y
 unfolding is_made
 all-earlier n k at None w = refl
 all-earlier n k at (Some m) w = grind (arith, nat_tests)
@@ -95,7 +95,7 @@ pub kinds-both : (s : Strategy) (e : Entry) (a b : List Entry) → stable_of a �
     → ((r : ℕ) → desired s r a ≡ desired s r b) → (r : ℕ) → kind_of s r e a ≡ kind_of s r e b
 kinds-both s e a b st new act act2 size r = kind-both s r e a b st new act act2 (size r)
 
--- a quiet entry marks nothing
+-- a quiet entry makes no mark
 quiet-by : (a h : Bool) → cond (a && not a && h) (Some Left) (cond (not a && a || false || false) (Some Cleared) None) ≡ None
 quiet-by true h = refl
 quiet-by false h = refl

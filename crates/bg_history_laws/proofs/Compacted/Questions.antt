@@ -1,4 +1,4 @@
--- Pasts that answer alike, at one moment, answer each further question alike that asks of no request.
+-- Pasts that give the same answers at the same moment agree on each further question that doesn't depend on requests.
 use Rattle.std.proofs.Common.{◌≡◌, ℕ, Bool, true, false, ◌&&◌, List, [], ◌∷◌, length, count_by, filter, find, Option, Some, None, refl, ap, sym, ◌∙◌}
 use Rattle.std.proofs.lemmas.Option.{same_Some}
 use Rattle.std.proofs.lemmas.List.Sums.{length-filter}
@@ -146,19 +146,19 @@ deadline-by s (Some x) (Some y) h = let e = same_Some _ _ h in rw (ap (λ t. t.k
 pub deadline-same : {s : Strategy} {o : Opening} {a b : List Entry} → (r : ℕ) → Alike s o a b → deadline s r a ≡ deadline s r b
 deadline-same {s} {o} {a} {b} r h = deadline-by s (mark s r a) (mark s r b) (h.marks.say r)
 
-later-by : (x y : Mark) (m n : Option Mark) → said m ≡ said n → earlier (Some x) m ≡ earlier (Some y) n → left_later x.stood m ≡ left_later y.stood n
+later-by : (x y : Mark) (m n : Option Mark) → said m ≡ said n → earlier (Some x) m ≡ earlier (Some y) n → left_later x.position m ≡ left_later y.position n
 later-by x y None None h k = refl
 later-by x y None (Some n) h k = absurd (cc)
 later-by x y (Some m) None h k = absurd (cc)
 later-by x y (Some m) (Some n) h k = let e = same_Some _ _ h in rw (ap (λ t. t.kind) e, k) refl
 
 rank-same : {s : Strategy} {o : Opening} {a b : List Entry} → (r : ℕ) (x y : Mark) → mark s r a ≡ Some x → mark s r b ≡ Some y → Alike s o a b
-    → rank_after s x.stood a ≡ rank_after s y.stood b
+    → rank_after s x.position a ≡ rank_after s y.position b
 rank-same {s} {o} {a} {b} r x y hx hy h =
-    count-same (λ q. is_spare s q a && left_later x.stood (mark s q a)) (λ q. is_spare s q b && left_later y.stood (mark s q b))
+    count-same (λ q. is_spare s q a && left_later x.position (mark s q a)) (λ q. is_spare s q b && left_later y.position (mark s q b))
     (λ q. rw (spare-same q h, later-by x y (mark s q a) (mark s q b) (h.marks.say q) (ap (λ m. earlier m (mark s q a)) (sym hx) ∙ h.marks.order r q ∙ ap (λ m. earlier m (mark s q b)) hy)) refl)
     (existing a)
-    ∙ ap (count_by (λ q. is_spare s q b && left_later y.stood (mark s q b))) h.exist
+    ∙ ap (count_by (λ q. is_spare s q b && left_later y.position (mark s q b))) h.exist
 
 due-by : {s : Strategy} {o : Opening} {a b : List Entry} → (r : ℕ) (x y : Option Mark) → mark s r a ≡ x → mark s r b ≡ y → said x ≡ said y → Alike s o a b → moment a ≡ moment b
     → marks_due s x a ≡ marks_due s y b

@@ -1,4 +1,4 @@
--- Compacting earlier changes nothing of the closed counts that compacting later gives.
+-- An earlier compaction doesn't change the closed counts after a later one.
 use Rattle.std.proofs.Common.{◌≡◌, ℕ, zero, suc, Bool, true, false, not, cond, ◌||◌, List, [], ◌∷◌, ◌++◌, refl, ap, sym, ◌∙◌}
 use Rattle.std.specs.List.{list_all}
 use Rattle.bg_history.specs.declared.entry.Entry.{Entry}
@@ -15,7 +15,7 @@ bump-bump zero (suc j) (x ∷ xs) = refl
 bump-bump (suc i) zero (x ∷ xs) = refl
 bump-bump (suc i) (suc j) (x ∷ xs) = ap (λ t. x ∷ t) (bump-bump i j xs)
 
--- one more at first is one more at the end
+-- one more at the begin gives one more at the end
 raised-bump : (g : ℕ → Bool) (p : List Entry) (i : ℕ) (closed : List ℕ) → raised g p (bump i closed) ≡ bump i (raised g p closed)
 raised-bump g [] i closed = refl
 raised-bump g (Enter seat service number r port ∷ before) i closed = go (g number) (raised-bump g before i closed) where
@@ -56,7 +56,7 @@ thin-raised g (Enter seat service number r port ∷ before) closed = ap (λ t. c
 thin-raised g (Leave seat number r ∷ before) closed = thin-raised g before closed
 thin-raised g (e ∷ before) closed = thin-raised g before closed
 
--- the requests of one test, then those of another that are left, are those of either
+-- counting the requests of one test, then the remaining ones of another, counts those of either
 raised-both : (g k : ℕ → Bool) (p : List Entry) (closed : List ℕ) → raised g (without k p) (raised k p closed) ≡ raised (λ n. g n || k n) p closed
 raised-both g k [] closed = refl
 raised-both g k (Enter seat service number r port ∷ before) closed = go (g number) (k number) refl (raised-both g k before closed) where
@@ -74,7 +74,7 @@ raised-both g k (Leave seat number r ∷ before) closed = go (k number) (raised-
   go false h = h
 raised-both g k (e ∷ before) closed = raised-both g k before closed
 
--- of entries apart from those requests the same are counted
+-- of entries that don't belong to those requests, the same are counted
 front-raised : (g : ℕ → Bool) (left : List ℕ) (xs : List Entry) (closed : List ℕ) → list_all (is_apart left) xs ≡ true → raised (λ n. g n || is_among left n) xs closed ≡ raised g xs closed
 front-raised g left [] closed h = refl
 front-raised g left (Enter seat service number r port ∷ xs) closed h =

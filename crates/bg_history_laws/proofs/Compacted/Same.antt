@@ -1,4 +1,4 @@
--- Pasts that answer each question alike, the open requests too.
+-- Pasts that give the same answer to each question, including the open requests.
 use Rattle.std.proofs.Common.{◌≡◌, ℕ, List, [], ◌∷◌, find, refl, ap, sym, ◌∙◌}
 use Rattle.std.specs.Option.{option_or, option_map}
 use Rattle.bg_history.specs.declared.entry.Entry.{Entry}

@@ -33,7 +33,7 @@ open-entered (Enter seat service number r port ∷ before) =
 open-entered (Leave seat number r ∷ before) = all_kept (λ q. has_entered q.seat q.number before) (λ q. not (q.number == number)) (open_requests before) (open-entered before)
 open-entered (e ∷ before) = open-entered before
 
--- what all requests pass, the one that a seat holds passes
+-- if all requests pass a test, the one that a seat holds passes it
 holds-passes : (t : ℕ → ℕ → Bool) (seat number r : ℕ) (xs : List Request) → list_all (λ q. t q.seat q.number) xs ≡ true → holds number r (find (λ q. q.seat == seat) xs) ≡ true
     → t seat number ≡ true
 holds-passes t seat number r [] a h = absurd (cc)

@@ -1,4 +1,4 @@
--- A past with the newest of neighbouring ticks alone.
+-- A past without each tick that another tick directly follows.
 use Rattle.std.proofs.Common.{◌≡◌, ℕ, Bool, true, false, not, cond, List, [], ◌∷◌, ◌++◌, refl, ap, ◌∙◌}
 use Rattle.bg_history.specs.declared.entry.Entry.{Entry}
 use Rattle.bg_history.specs.declared.entry.Entry.TheVariants.{Tick, Enter, Leave}
@@ -28,7 +28,7 @@ thin-alike s o (Tick m ∷ before) =
     (alike_then (untick-alike s o (thin before)) (alike_back (alike_quiet s o (Tick m) (untick (thin before)) refl))))
 thin-alike s o (e ∷ before) = alike_both e (thin-alike s o before) (thin-moment before) (thin-moment before)
 
--- no question on requests sees a tick
+-- no question about requests depends on ticks
 untick-open : (past : List Entry) → open_requests (untick past) ≡ open_requests past
 untick-open [] = refl
 untick-open (Tick m ∷ before) = refl
@@ -87,13 +87,13 @@ thin-calls seat (Enter s service number r port ∷ before) = rw (thin-calls seat
 thin-calls seat (Leave s number r ∷ before) = rw (thin-calls seat before) refl
 thin-calls seat (e ∷ before) = thin-calls seat before
 
--- what is thinned in front of two pasts that thin alike
+-- the same entries in front of two pasts that thin to the same past
 pub thin-front : (xs a b : List Entry) → thin a ≡ thin b → thin (xs ++ a) ≡ thin (xs ++ b)
 thin-front [] a b h = h
 thin-front (Tick m ∷ xs) a b h = ap (λ t. Tick m ∷ untick t) (thin-front xs a b h)
 thin-front (e ∷ xs) a b h = ap (λ t. e ∷ t) (thin-front xs a b h)
 
--- dropping requests, then thinning: earlier thinning changes nothing
+-- dropping requests and then thinning: an earlier thinning changes nothing
 pub thin-without : (gone : ℕ → Bool) (past : List Entry) → thin (without gone (thin past)) ≡ thin (without gone past)
 thin-without gone [] = refl
 thin-without gone (Tick m ∷ before) =

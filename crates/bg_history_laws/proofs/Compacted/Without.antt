@@ -41,7 +41,7 @@ without-alike s o gone (Leave seat number r ∷ before) = go (gone number) (with
   go false h was = alike_both (Leave seat number r) h was was
 without-alike s o gone (e ∷ before) = alike_both e (without-alike s o gone before) (without-moment gone before) (without-moment gone before)
 
--- a filter that drops more makes an earlier one superfluous
+-- after a filter that drops more, an earlier filter has no effect
 pub filter-absorb : {X : Type 0} (p k : X → Bool) → ((x : X) → k x ≡ true → p x ≡ true) → (xs : List X) → filter k (filter p xs) ≡ filter k xs
 filter-absorb p k more [] = refl
 filter-absorb p k more (x ∷ xs) = go (p x) (k x) refl refl (filter-absorb p k more xs) where
@@ -64,7 +64,7 @@ append-none : (xs : List Request) → xs ++ [] ≡ xs
 append-none [] = refl
 append-none (x ∷ xs) = ap (λ ys. x ∷ ys) (append-none xs)
 
--- the open requests are those that were open, but for them
+-- the open requests are the earlier ones, except those
 pub without-open : (gone : ℕ → Bool) (past : List Entry) → open_requests (without gone past) ≡ filter (λ q. not (gone q.number)) (open_requests past)
 without-open gone [] = refl
 without-open gone (Enter seat service number r port ∷ before) =

@@ -9,26 +9,26 @@ use Rattle.bg_history_laws.proofs.Lists.{member}
 count-cons : (p : ℕ → Bool) (x : ℕ) (xs : List ℕ) → count_by p (x ∷ xs) ≡ cond (p x) 1 0 + count_by p xs
 count-cons p x xs = sum_by-cons (λ y. cond (p y) 1 0) x xs
 
--- a test that is true no more often counts no more
+-- a test that implies another one counts no more numbers
 pub count-fewer : (p t : ℕ → Bool) (xs : List ℕ) → ((q : ℕ) → t q ≡ true → p q ≡ true) → count_by t xs ≤ count_by p xs
 count-fewer p t [] fewer = omega arith
 count-fewer p t (x ∷ xs) fewer = rw (count-cons t x xs, count-cons p x xs) (grind (arith, fewer x, count-fewer p t xs fewer))
 
--- one that is also false of a number in the list, of which the other is true, counts less
+-- it counts fewer if it is false of a number in the list for which the other one is true
 pub count-less : (p t : ℕ → Bool) (r : ℕ) (xs : List ℕ) → ((q : ℕ) → t q ≡ true → p q ≡ true) → p r ≡ true → t r ≡ false → member r xs ≡ true → count_by t xs < count_by p xs
 count-less p t r [] fewer was fails within = cc
 count-less p t r (x ∷ xs) fewer was fails within =
     rw (count-cons t x xs, count-cons p x xs)
     (grind (arith, nat_tests, fewer x, count-fewer p t xs fewer, count-less p t r xs fewer was fails))
 
--- two tests that differ at r alone count the same above r
+-- two tests that differ only at r count the same above r
 count-above : (p t : ℕ → Bool) (r : ℕ) (xs : List ℕ) → ((q : ℕ) → (r == q) ≡ false → t q ≡ p q) → AllAbove r xs → count_by t xs ≡ count_by p xs
 count-above p t r [] same above = refl
 count-above p t r (x ∷ xs) same above =
     let other : (r == x) ≡ false = let less : r < x = above.0 in grind (arith, nat_tests) in
     rw (count-cons t x xs, count-cons p x xs, same x other, count-above p t r xs same above.1) refl
 
--- two tests that differ at r alone count at most one apart
+-- the counts of two tests that differ only at r differ by at most one
 pub count-one_more : (p t : ℕ → Bool) (r : ℕ) (xs : List ℕ) → Ascends xs → ((q : ℕ) → (r == q) ≡ false → t q ≡ p q) → count_by t xs ≤ count_by p xs + 1
 count-one_more p t r [] ascends same = omega arith
 count-one_more p t r (x ∷ xs) ascends same =
@@ -40,7 +40,7 @@ count-one_more p t r (x ∷ xs) ascends same =
           grind arith
       here-or-later false is later = rw (same x is) (omega (arith, later))
 
--- in a part of the list no more pass
+-- in a part of the list, no more numbers pass
 pub count-filter : (p f : ℕ → Bool) (xs : List ℕ) → count_by p (filter f xs) ≤ count_by p xs
 count-filter p f [] = omega arith
 count-filter p f (x ∷ xs) = rw (count-cons p x xs) (kept-or-not (f x) (count-filter p f xs)) where
@@ -49,17 +49,17 @@ count-filter p f (x ∷ xs) = rw (count-cons p x xs) (kept-or-not (f x) (count-f
   kept-or-not true rest = rw (count-cons p x (filter f xs)) (omega (arith, rest))
   kept-or-not false rest = omega (arith, rest)
 
--- a part of a list isn't longer
+-- a part of a list is at most as long
 pub length-part : (f : ℕ → Bool) (xs : List ℕ) → length (filter f xs) ≤ length xs
 length-part f [] = omega arith
 length-part f (x ∷ xs) = grind (arith, length-part f xs)
 
--- without a number that it has, a list is shorter
+-- a list without one of its numbers is shorter
 pub length-without : (r : ℕ) (xs : List ℕ) → member r xs ≡ true → length (filter (λ q. not (q == r)) xs) < length xs
 length-without r [] within = cc
 length-without r (x ∷ xs) within = grind (arith, nat_tests, length-part (λ q. not (q == r)) xs, length-without r xs)
 
--- a part has no number that the list hasn't
+-- a part has only numbers of the list
 pub member-part : (f : ℕ → Bool) (r : ℕ) (xs : List ℕ) → member r (filter f xs) ≡ true → member r xs ≡ true
 member-part f r [] within = within
 member-part f r (x ∷ xs) within = grind (arith, nat_tests, member-part f r xs)

@@ -11,13 +11,13 @@ use Rattle.bg_history.specs.Steps.{is_settled}
 use Rattle.bg_history_laws.proofs.Ended.Settled.{done-from_settled, settled-from_done}
 use Rattle.bg_history_laws.proofs.Ended.Lowering.{not-lowered, enter-calm}
 
--- where no request is at q with one more, none was without it
+-- if no request is at q after one more, none was at q before
 empty-more : (q : ℕ) (x : Request) (held : List Request)
     → is_empty (map (λ o. o.number) (filter (λ o. o.revision == q) (held ++ x ∷ []))) ≡ true → is_empty (map (λ o. o.number) (filter (λ o. o.revision == q) held)) ≡ true
 empty-more q x [] h = refl
 empty-more q x (o ∷ held) h = grind (arith, nat_tests, empty-more q x held)
 
--- nothing becomes due, and no revision becomes old
+-- no revision becomes due, and no revision becomes old
 pub entering-settles : (s : Strategy) (past : List Entry) (seat : ℕ) (service : Service) (number r port : ℕ)
     → is_settled s past ≡ true → is_settled s (Enter seat service number r port ∷ past) ≡ true
 entering-settles s past seat service number r port h =

@@ -30,7 +30,7 @@ use Rattle.bg_history_laws.proofs.Lists.{filter-swap}
 abbrev pub are_at : ℕ → ℕ → List Request → Bool
 are_at number r held = list_all (λ o. not (o.number == number) || (o.revision == r)) held
 
--- without them the requests at another revision are the same
+-- without them, the requests at another revision are the same
 pub open-other : (number r q : ℕ) (held : List Request) → (r == q) ≡ false → are_at number r held ≡ true
     → filter (λ o. o.revision == q) (filter (λ o. not (o.number == number)) held) ≡ filter (λ o. o.revision == q) held
 open-other number r q [] other at = refl
@@ -46,13 +46,13 @@ open-other number r q (o ∷ held) other at =
       by-tests false true is here rest = rw is (ap (λ t. o ∷ t) rest)
       by-tests false false is here rest = rw is rest
 
--- no step is allowed, no revision but r may be scaled down, and the old ones are within the limit
+-- no step is allowed, no revision other than r may be scaled down, and the old ones are within the limit
 record OneLeft (s : Strategy) (r : ℕ) (past : List Entry) : Type 0 where
   no_step : first_promotion s past ≡ None
   no_other : (q : ℕ) → (r == q) ≡ false → may_scale_down s q past ≡ false
   few_old : length (old_revisions s past) ≤ s.history_limit
 
--- so it is after a request left r
+-- this holds after a request left r
 one-after_leave : (s : Strategy) (past : List Entry) (seat number r : ℕ) → AllDone s past → are_at number r (open_requests past) ≡ true → OneLeft s r (Leave seat number r ∷ past)
 one-after_leave s past seat number r done at = record {
   no_step = done.no_step;
@@ -62,7 +62,7 @@ one-after_leave s past seat number r done at = record {
   few_old = done.few_old;
 }
 
--- so all is done where r may not be scaled down either
+-- so no outcome is allowed if r may not be scaled down either
 pub leaving-settles : (s : Strategy) (past : List Entry) (seat number r : ℕ) → is_settled s past ≡ true → are_at number r (open_requests past) ≡ true
     → may_scale_down s r (Leave seat number r ∷ past) ≡ false → is_settled s (Leave seat number r ∷ past) ≡ true
 leaving-settles s past seat number r settled at stays =
@@ -101,7 +101,7 @@ first-is_lowering s r past x one h = by-found (find (λ q. may_scale_down s q pa
           let same : r ≡ q = by-number q (r == q) refl may in
           (rw same (cc), rw same may)
 
--- no step becomes allowed where a revision that isn't selected is scaled down
+-- no step becomes allowed by the scale-down of a revision that isn't selected
 no_step-lowered : (s : Strategy) (r : ℕ) (past : List Entry) → is_selected r past ≡ false → first_promotion s past ≡ None
     → first_promotion s (Outcome (ScaledDown r) ∷ past) ≡ None
 no_step-lowered s r past apart h = by-running (is_running past) refl where
@@ -111,20 +111,20 @@ no_step-lowered s r past apart h = by-running (is_running past) refl where
       rw other h
   by-running false is = rw is refl
 
--- at most one revision more is old where one is scaled down
+-- a scale-down makes at most one more revision old
 old-lowered : (s : Strategy) (r : ℕ) (past : List Entry) → Ascends (existing past)
     → length (old_revisions s (Outcome (ScaledDown r) ∷ past)) ≤ length (old_revisions s past) + 1
 old-lowered s r past ascends =
     rw (length-filter (is_old s (Outcome (ScaledDown r) ∷ past)) (existing past), length-filter (is_old s past) (existing past))
     (count-one_more (is_old s past) (is_old s (Outcome (ScaledDown r) ∷ past)) r (existing past) ascends (λ q other. rw other refl))
 
--- no step is allowed, no revision may be scaled down, and at most one old one is too many
+-- no step is allowed, no revision may be scaled down, and at most one old revision is above the limit
 record OneTooMany (s : Strategy) (past : List Entry) : Type 0 where
   no_step : first_promotion s past ≡ None
   no_lowering : (q : ℕ) → may_scale_down s q past ≡ false
   few_old : length (old_revisions s past) ≤ s.history_limit + 1
 
--- what may be scaled down isn't selected
+-- a revision that may be scaled down isn't selected
 lowered-apart : (s : Strategy) (r : ℕ) (past : List Entry) → may_scale_down s r past ≡ true → is_selected r past ≡ false
 lowered-apart s r past may =
     let due = both (is_due s r past) (is_empty (open_at r past)) may in
@@ -132,7 +132,7 @@ lowered-apart s r past may =
     let is = both (exists_in r past) (is_spare s r past) spare.0 in
     grind (arith, is.1)
 
--- so it is after r was scaled down
+-- this holds after r was scaled down
 one-after_lowering : (s : Strategy) (r : ℕ) (past : List Entry) → Ascends (existing past) → OneLeft s r past → may_scale_down s r past ≡ true
     → OneTooMany s (Outcome (ScaledDown r) ∷ past)
 one-after_lowering s r past ascends one may = record {
@@ -144,7 +144,7 @@ one-after_lowering s r past ascends one may = record {
   by-number q true is = grind (arith, nat_tests)
   by-number q false is = not-lowered s q (Outcome (ScaledDown r)) past (scaled_down-calm s r past) (λ h. h) (one.no_other q is)
 
--- then the first outcome removes the first of the old
+-- then the first outcome removes the first of the old revisions
 first-is_removal : (s : Strategy) (past : List Entry) (x : outcome.Outcome) → OneTooMany s past → first_allowed s past ≡ Some x
     → option_map Removed (first_of (old_revisions s past)) ≡ Some x
 first-is_removal s past x one h =
@@ -154,7 +154,7 @@ first-is_removal s past x one h =
       by-test true h = h
       by-test false h = absurd (cc)
 
--- after it all is done
+-- after it, no outcome is allowed
 done-after_removal : (s : Strategy) (q : ℕ) (past : List Entry) → OneTooMany s past → first_of (old_revisions s past) ≡ Some q → AllDone s (Outcome (Removed q) ∷ past)
 done-after_removal s q past one first = record {
   no_step = one.no_step;
@@ -180,12 +180,12 @@ two-settle s past r x y ascends one first second =
     let now : OneTooMany s (Outcome x ∷ past) = rw lowering.0 (one-after_lowering s r past ascends one lowering.1) in
     settled-after_removal s (Outcome x ∷ past) y now second
 
--- none is no outcome
+-- an option that is none has no value
 none-is_some : (o : Option outcome.Outcome) (x : outcome.Outcome) → is_none o ≡ true → o ≡ Some x → ⊥
 none-is_some None x none is = cc
 none-is_some (Some y) x none is = cc
 
--- where no third outcome is allowed, at most two follow
+-- if no third outcome is allowed, at most two follow
 at-most_two : (s : Strategy) (outcomes : List outcome.Outcome) (past : List Entry)
     → ((x y : outcome.Outcome) → first_allowed s past ≡ Some x → first_allowed s (Outcome x ∷ past) ≡ Some y → is_settled s (Outcome y ∷ Outcome x ∷ past) ≡ true)
     → Follows s outcomes past → length outcomes ≤ 2

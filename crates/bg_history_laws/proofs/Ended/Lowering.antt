@@ -11,10 +11,10 @@ use Rattle.bg_history.specs.Selections.{active_of}
 use Rattle.bg_history.specs.Sizes.{existing, begins}
 use Rattle.bg_history.specs.Requests.{open_at}
 use Rattle.bg_history.specs.Marks.{Left, Cleared, Mark, supersedes, scales_down, kind_of, mark}
-use Rattle.bg_history.specs.Deadlines.{time_of, exists_in, is_spare, is_left, left_later, rank_after, is_over, is_reached, marks_due, is_due, is_empty, may_scale_down}
+use Rattle.bg_history.specs.Deadlines.{time_of, exists_in, is_spare, is_left, left_later, rank_after, reaches_limit, is_reached, marks_due, is_due, is_empty, may_scale_down}
 use Rattle.bg_history_laws.proofs.Ended.Counts.{count-fewer, count-filter, member-part}
 
--- an entry that makes no revision due: what is spare after it was so before, with the same mark
+-- an entry that makes no revision due: a spare revision after it was spare before, with the same mark
 pub record IsCalm (s : Strategy) (e : Entry) (before : List Entry) : Type 0 where
   pub moment_is : moment (e ∷ before) ≡ moment before
   pub existed : (q : ℕ) → exists_in q (e ∷ before) ≡ true → exists_in q before ≡ true
@@ -27,39 +27,39 @@ pub both : (a b : Bool) → a && b ≡ true → (a ≡ true) × (b ≡ true)
 both true b h = (refl, h)
 both false b h = absurd (cc)
 
--- no rank rises
-rank-calm : (s : Strategy) (stood : ℕ) (e : Entry) (before : List Entry) → IsCalm s e before → rank_after s stood (e ∷ before) ≤ rank_after s stood before
-rank-calm s stood e before calm =
-    let after : ℕ → Bool = λ q. is_spare s q (e ∷ before) && left_later stood (mark s q (e ∷ before)) in
-    let earlier : ℕ → Bool = λ q. is_spare s q before && left_later stood (mark s q before) in
+-- no rank increases
+rank-calm : (s : Strategy) (position : ℕ) (e : Entry) (before : List Entry) → IsCalm s e before → rank_after s position (e ∷ before) ≤ rank_after s position before
+rank-calm s position e before calm =
+    let after : ℕ → Bool = λ q. is_spare s q (e ∷ before) && left_later position (mark s q (e ∷ before)) in
+    let earlier : ℕ → Bool = λ q. is_spare s q before && left_later position (mark s q before) in
     let fewer : count_by after (existing (e ∷ before)) ≤ count_by earlier (existing (e ∷ before))
     = count-fewer earlier after (existing (e ∷ before)) (λ q h.
-    let parts = both (is_spare s q (e ∷ before)) (left_later stood (mark s q (e ∷ before))) h in
-    let later : left_later stood (mark s q before) ≡ true = ap (λ m. left_later stood m) (sym (calm.mark_is q parts.0)) ∙ parts.1 in
+    let parts = both (is_spare s q (e ∷ before)) (left_later position (mark s q (e ∷ before))) h in
+    let later : left_later position (mark s q before) ≡ true = ap (λ m. left_later position m) (sym (calm.mark_is q parts.0)) ∙ parts.1 in
     rw (calm.was_spare q parts.0, later) refl) in
     omega (arith, fewer, calm.no_more earlier)
 
--- a greater number is over the limit too
-over-more : (limit : Option ℕ) (n m : ℕ) → n ≤ m → is_over limit n ≡ true → is_over limit m ≡ true
+-- a greater number reaches the limit, too
+over-more : (limit : Option ℕ) (n m : ℕ) → n ≤ m → reaches_limit limit n ≡ true → reaches_limit limit m ≡ true
 over-more None n m le h = h
 over-more (Some limit) n m le h = grind (arith, nat_tests)
 
--- a test that holds of more makes a choice of two hold of more
+-- a test that holds for more makes a choice of two hold for more
 either-more : (a b c d : Bool) → (b ≡ true → d ≡ true) → a || (c && b) ≡ true → a || (c && d) ≡ true
 either-more true b c d more h = refl
 either-more false b true d more h = more h
 either-more false b false d more h = h
 
--- a mark that makes its revision due did so before
+-- if a mark makes its revision due, it did so before
 marks_due-calm : (s : Strategy) (m : Option Mark) (e : Entry) (before : List Entry) → IsCalm s e before → marks_due s m (e ∷ before) ≡ true → marks_due s m before ≡ true
 marks_due-calm s None e before calm h = h
 marks_due-calm s (Some m) e before calm h =
-    let now : is_reached (time_of s m.kind m.moment) (moment before) || (is_left m.kind && is_over s.revision_limit (rank_after s m.stood (e ∷ before))) ≡ true
-    = ap (λ t. is_reached (time_of s m.kind m.moment) t || (is_left m.kind && is_over s.revision_limit (rank_after s m.stood (e ∷ before)))) (sym calm.moment_is) ∙ h in
-    either-more (is_reached (time_of s m.kind m.moment) (moment before)) (is_over s.revision_limit (rank_after s m.stood (e ∷ before))) (is_left m.kind) (is_over s.revision_limit (rank_after s m.stood before))
-    (over-more s.revision_limit (rank_after s m.stood (e ∷ before)) (rank_after s m.stood before) (rank-calm s m.stood e before calm)) now
+    let now : is_reached (time_of s m.kind m.moment) (moment before) || (is_left m.kind && reaches_limit s.revision_limit (rank_after s m.position (e ∷ before))) ≡ true
+    = ap (λ t. is_reached (time_of s m.kind m.moment) t || (is_left m.kind && reaches_limit s.revision_limit (rank_after s m.position (e ∷ before)))) (sym calm.moment_is) ∙ h in
+    either-more (is_reached (time_of s m.kind m.moment) (moment before)) (reaches_limit s.revision_limit (rank_after s m.position (e ∷ before))) (is_left m.kind) (reaches_limit s.revision_limit (rank_after s m.position before))
+    (over-more s.revision_limit (rank_after s m.position (e ∷ before)) (rank_after s m.position before) (rank-calm s m.position e before calm)) now
 
--- what is due was due before
+-- a revision that is due was due before
 due-calm : (s : Strategy) (q : ℕ) (e : Entry) (before : List Entry) → IsCalm s e before → is_due s q (e ∷ before) ≡ true → is_due s q before ≡ true
 due-calm s q e before calm h =
     let two = both (exists_in q (e ∷ before) && is_spare s q (e ∷ before)) (marks_due s (mark s q (e ∷ before)) (e ∷ before)) h in
@@ -67,19 +67,19 @@ due-calm s q e before calm h =
     let due : marks_due s (mark s q before) (e ∷ before) ≡ true = ap (λ m. marks_due s m (e ∷ before)) (sym (calm.mark_is q one.1)) ∙ two.1 in
     rw (calm.existed q one.0, calm.was_spare q one.1, marks_due-calm s (mark s q before) e before calm due) refl
 
--- what still fails: two tests at once that did so before, where each still passes no more
+-- two tests that didn't both hold before don't both hold now, if each implies the one before
 still-fails : (a b c d : Bool) → (a ≡ true → c ≡ true) → (b ≡ true → d ≡ true) → c && d ≡ false → a && b ≡ false
 still-fails true true c d first second h = let e : c ≡ true = first refl in let f : d ≡ true = second refl in absurd (grind arith)
 still-fails true false c d first second h = refl
 still-fails false b c d first second h = refl
 
--- what may not be scaled down still may not, where no open request of it is gone
+-- a revision that may not be scaled down still may not, if none of its open requests left
 pub not-lowered : (s : Strategy) (q : ℕ) (e : Entry) (before : List Entry) → IsCalm s e before → (is_empty (open_at q (e ∷ before)) ≡ true → is_empty (open_at q before) ≡ true)
     → may_scale_down s q before ≡ false → may_scale_down s q (e ∷ before) ≡ false
 not-lowered s q e before calm empty fails =
     still-fails (is_due s q (e ∷ before)) (is_empty (open_at q (e ∷ before))) (is_due s q before) (is_empty (open_at q before)) (due-calm s q e before calm) empty fails
 
--- an entry marks no revision that it neither selects, begins, supersedes, stops nor scales down
+-- an entry marks only revisions that it selects, begins, supersedes, halts or scales down
 unmarked : (s : Strategy) (q : ℕ) (e : Entry) (before : List Entry) → active_of (e ∷ before) ≡ active_of before → begins q e before ≡ false → supersedes s q e before ≡ false
     → scales_down q e ≡ false → is_halt e ≡ false → mark s q (e ∷ before) ≡ mark s q before
 unmarked s q e before active begin supersede lower halt =
@@ -119,7 +119,7 @@ removed-calm s r before = record {
   mark_is = λ q h. unmarked s q (Outcome (Removed r)) before refl refl refl refl refl;
 }
 
--- what is still spare is another revision, and was spare
+-- a revision that is still spare is another one, and was spare
 spare-other : (s : Strategy) (q r : ℕ) (before : List Entry) → is_spare s q (Outcome (ScaledDown r) ∷ before) ≡ true → ((r == q) ≡ false) × (is_spare s q before ≡ true)
 spare-other s q r before h = (grind (arith, nat_tests), grind (arith, nat_tests))
 

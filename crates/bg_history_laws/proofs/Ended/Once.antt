@@ -11,16 +11,16 @@ use Rattle.bg_history_laws.specs.Settling.{Settling}
 use Rattle.bg_history_laws.specs.Work.{work}
 use Rattle.bg_history_laws.proofs.Ended.Work.{work-falls}
 
--- what is found is one
+-- an option has at most one value
 same-found : (o : Option outcome.Outcome) (x y : outcome.Outcome) → o ≡ Some x → o ≡ Some y → x ≡ y
 same-found o x y h k = cc
 
--- where one is found, one is
+-- an option with a value isn't none
 none-found : (o : Option outcome.Outcome) (x : outcome.Outcome) → o ≡ Some x → is_none o ≡ true → ⊥
 none-found None x h k = cc
 none-found (Some y) x h k = cc
 
--- as many outcomes that follow from one past are the same
+-- two lists of the same number of outcomes that follow from one past are the same
 same-many : (s : Strategy) (past : List Entry) (xs ys : List outcome.Outcome) → Follows s xs past → Follows s ys past → length xs ≡ length ys → xs ≡ ys
 same-many s past [] [] f g same = refl
 same-many s past [] (y ∷ ys) f g same = absurd (omega arith)
@@ -30,7 +30,7 @@ same-many s past (x ∷ xs) (y ∷ ys) f g same =
     let here : x ≡ y = same-found (first_allowed s (with_outcomes xs past)) x y f.1 (ap (λ zs. first_allowed s (with_outcomes zs past)) rest ∙ g.1) in
     cc
 
--- none follow those after which nothing is left undone
+-- no outcome follows after those with which none is left undone
 no-more : (s : Strategy) (past : List Entry) (xs ys : List outcome.Outcome) → Follows s xs past → is_settled s (with_outcomes xs past) ≡ true → Follows s ys past → length ys ≤ length xs
 no-more s past xs [] f settled g = omega arith
 no-more s past xs (y ∷ ys) f settled g =
@@ -42,7 +42,7 @@ no-more s past xs (y ∷ ys) f settled g =
       | inr h ↦ grind (arith, nat_tests, h.0, most)
     ]
 
--- so two settled pasts that follow one event are one
+-- so two settled pasts that follow one event are the same
 pub step-once : (s : Strategy) (e : Entry) (past : List Entry) (xs ys : List outcome.Outcome) (new other : List Entry) → Step s e past xs new → Step s e past ys other → (xs ≡ ys) × (new ≡ other)
 step-once s e past xs ys new other p q =
     let settled : is_settled s (with_outcomes xs (e ∷ past)) ≡ true = ap (is_settled s) (sym p.new_is) ∙ p.settled in
@@ -52,13 +52,13 @@ step-once s e past xs ys new other p q =
     let same : xs ≡ ys = same-many s (e ∷ past) xs ys p.follow q.follow (omega arith) in
     (same, p.new_is ∙ ap (λ zs. with_outcomes zs (e ∷ past)) same ∙ sym q.new_is)
 
--- outcomes after which nothing is left undone
+-- outcomes after which no allowed outcome is left undone
 record Ended (s : Strategy) (past : List Entry) : Type 0 where
   outcomes : List outcome.Outcome
   follow : Follows s outcomes past
   settled : is_settled s (with_outcomes outcomes past) ≡ true
 
--- since each leaves less work, they come to an end
+-- the outcomes come to an end, because each reduces the work
 ended : ((past : List Entry) → Ascends (existing past)) → (n : ℕ) (s : Strategy) (past : List Entry) (xs : List outcome.Outcome) → Follows s xs past → work s (with_outcomes xs past) < n → Ended s past
 ended ascends zero s past xs f less = absurd (omega arith)
 ended ascends (suc n) s past xs f less =

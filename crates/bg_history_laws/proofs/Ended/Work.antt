@@ -1,4 +1,4 @@
--- The work falls with each outcome, and is bounded.
+-- Each outcome reduces the work, and the work has a bound.
 use Rattle.std.proofs.Common.{◌≡◌, ◌<◌, ◌≤◌, ◌+◌, ℕ, Bool, true, false, not, cond, ◌==◌, List, ◌∷◌, length, find, Option, Some, None, refl, arith}
 use Rattle.std.specs.Option.{option_or, option_map}
 use Rattle.std.proofs.lemmas.Bool.Decides.{nat_tests}
@@ -19,16 +19,16 @@ use Rattle.bg_history_laws.proofs.Ended.Counts.{count-less, count-one_more, coun
 use Rattle.bg_history_laws.proofs.Finding.{found}
 use Rattle.bg_history_laws.proofs.Lists.{member}
 
--- the outcome leaves less work
+-- the outcome reduces the work
 Falls : Strategy → List Entry → outcome.Outcome → Type 0
 Falls s past x = work s (Outcome x ∷ past) < work s past
 
--- Ready does where it is allowed: it is a step less
+-- an allowed Ready reduces the work: one step fewer is left
 ready-falls : (s : Strategy) (r : ℕ) (past : List Entry) → may_be_ready s r past ≡ true → Falls s past (Ready r)
 unfolding Falls
 ready-falls s r past may = grind (arith, nat_tests)
 
--- so is Switched
+-- an allowed Switched reduces the work: one step fewer is left
 switched-falls : (s : Strategy) (r : ℕ) (past : List Entry) → may_switch s r past ≡ true → Falls s past (Switched r)
 unfolding Falls
 switched-falls s r past may = grind (arith, nat_tests)
@@ -38,7 +38,7 @@ promoted-falls : (s : Strategy) (r : ℕ) (past : List Entry) → may_promote s 
 unfolding Falls
 promoted-falls s r past may = grind (arith, nat_tests)
 
--- Resumed is a step less, and at most one revision more is scaled
+-- after Resumed, one step fewer is left, and at most one more revision is scaled
 resumed-falls : (s : Strategy) (r : ℕ) (past : List Entry) → Ascends (existing past) → may_resume s r past ≡ true → Falls s past (Resumed r)
 unfolding Falls
 resumed-falls s r past ascends may =
@@ -46,7 +46,7 @@ resumed-falls s r past ascends may =
     = count-one_more (λ q. is_scaled s q past) (λ q. is_scaled s q (Outcome (Resumed r) ∷ past)) r (existing past) ascends (λ q other. rw other refl) in
     grind (arith, nat_tests, more)
 
--- one revision less is scaled
+-- one revision fewer is scaled
 scaled_down-falls : (s : Strategy) (r : ℕ) (past : List Entry) → may_scale_down s r past ≡ true → member r (existing past) ≡ true → Falls s past (ScaledDown r)
 unfolding Falls
 scaled_down-falls s r past may within =
@@ -55,31 +55,31 @@ scaled_down-falls s r past may within =
     (λ q h. grind (arith, nat_tests)) (grind (arith, nat_tests)) (grind (arith, nat_tests)) within in
     omega (arith, fewer)
 
--- one revision less exists
+-- one revision fewer exists
 removed-falls : (s : Strategy) (r : ℕ) (past : List Entry) → member r (existing past) ≡ true → Falls s past (Removed r)
 unfolding Falls
 removed-falls s r past within =
     omega (arith, count-filter (λ q. is_scaled s q past) (λ q. not (q == r)) (existing past), length-without r (existing past) within)
 
--- a choice of two does where each does
+-- a choice of two reduces the work if each does
 cond-falls : (s : Strategy) (past : List Entry) (b : Bool) (v x : outcome.Outcome) (rest : Option outcome.Outcome)
     → (b ≡ true → Falls s past v) → (rest ≡ Some x → Falls s past x) → cond b (Some v) rest ≡ Some x → Falls s past x
 cond-falls s past true v x rest here there h = let e : v ≡ x = cc in rw (← e) (here refl)
 cond-falls s past false v x rest here there h = there h
 
--- so does the first of two
+-- the first of two options reduces the work if each does
 or-falls : (s : Strategy) (past : List Entry) (a b : Option outcome.Outcome) (x : outcome.Outcome)
     → (a ≡ Some x → Falls s past x) → (b ≡ Some x → Falls s past x) → option_or a b ≡ Some x → Falls s past x
 or-falls s past None b x left right h = right h
 or-falls s past (Some a) b x left right h = left h
 
--- so does one that is made of the number found
+-- an outcome made from the found number reduces the work
 found-falls : (s : Strategy) (past : List Entry) (make : ℕ → outcome.Outcome) (o : Option ℕ) (x : outcome.Outcome)
     → ((r : ℕ) → o ≡ Some r → Falls s past (make r)) → option_map make o ≡ Some x → Falls s past x
 found-falls s past make None x here h = absurd (cc)
 found-falls s past make (Some r) x here h = let e : make r ≡ x = cc in rw (← e) (here r refl)
 
--- so does a step of an attempt
+-- a step of an attempt reduces the work
 promotion-falls : (s : Strategy) (past : List Entry) (x : outcome.Outcome) → Ascends (existing past) → first_promotion s past ≡ Some x → Falls s past x
 promotion-falls s past x ascends h =
     let r : ℕ = newest_of past in
@@ -88,7 +88,7 @@ promotion-falls s past x ascends h =
     (cond-falls s past (may_switch s r past) (Switched r) x _ (switched-falls s r past)
     (cond-falls s past (may_promote s r past) (Promoted r) x _ (promoted-falls s r past) (λ e. absurd (cc))))) h
 
--- each outcome that is the first allowed leaves less work
+-- each first allowed outcome reduces the work
 pub work-falls : (s : Strategy) (past : List Entry) (x : outcome.Outcome) → Ascends (existing past) → first_allowed s past ≡ Some x → work s (Outcome x ∷ past) < work s past
 unfolding Falls
 work-falls s past x ascends h =

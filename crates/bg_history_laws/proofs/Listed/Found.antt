@@ -31,7 +31,7 @@ find-map f passes test (x ∷ xs) same =
       find-cases false true is rest = absurd (grind arith)
       find-cases false false is rest = rest
 
--- a number is found where it is in the list
+-- a number is found if it is in the list
 find-member : (r : ℕ) (xs : List ℕ) → find (λ q. q == r) xs ≡ cond (member r xs) (Some r) None
 find-member r [] = refl
 find-member r (x ∷ xs) = elim (eqb_tells x r) [
@@ -39,7 +39,7 @@ find-member r (x ∷ xs) = elim (eqb_tells x r) [
   | inr h ↦ rw h.0 (find-member r xs)
 ]
 
--- the revision of a number that may be there
+-- the revision of a number, if there is one
 map-cond : (f : ℕ → Revision) (b : Bool) (r : ℕ) → option_map f (cond b (Some r) None) ≡ cond b (Some (f r)) None
 map-cond f true r = refl
 map-cond f false r = refl
@@ -53,12 +53,12 @@ listed-numbered s o past r =
     ∙ ap (option_map (revision_of s o past)) (find-member r (existing past))
     ∙ map-cond (revision_of s o past) (exists_in r past) r
 
--- a revision that has a template has its name
+-- a revision with a template has the name of the template
 sized-named : (name : List ℕ) (r wanted there : ℕ) (t : Option Template) → is_some t ≡ true → bytes_eq (sized r wanted there t).name name ≡ is_named name t
 sized-named name r wanted there None some = absurd (grind arith)
 sized-named name r wanted there (Some t) some = refl
 
--- and its ports
+-- a revision with a template has the ports of the template
 sized-template : (name ports : List ℕ) (r wanted there : ℕ) (t : Option Template) → is_some t ≡ true
     → has_template name ports (Some (sized r wanted there t)) ≡ is_template name ports t
 sized-template name ports r wanted there None some = absurd (grind arith)
@@ -71,12 +71,12 @@ listed-named s o past name =
     find-map (revision_of s o past) (λ v. bytes_eq v.name name) (λ q. is_named name (template o q past)) (existing past)
     (λ q within. sized-named name q (desired s q past) (available q past) (template o q past) (template-there o q past within))
 
--- what is found passes the test
+-- an element that is found passes the test
 find-passes : (test : ℕ → Bool) (xs : List ℕ) (q : ℕ) → find test xs ≡ Some q → test q ≡ true
 find-passes test [] q found = absurd (grind arith)
 find-passes test (x ∷ xs) q found = grind (arith, find-passes test xs q)
 
--- a revision that has the name has a template, so its ports are that template's
+-- a revision that has the name has a template, so its ports are those of the template
 sized-owner : (name ports : List ℕ) (r wanted there : ℕ) (t : Option Template) → is_named name t ≡ true
     → owner_of ports (Some (sized r wanted there t)) ≡ cond (has_ports ports t) (Ok (Some r)) (Err PortsDiffer)
 sized-owner name ports r wanted there None named = absurd (grind arith)
@@ -89,7 +89,7 @@ owner-answer s o past name ports None is = refl
 owner-answer s o past name ports (Some q) is = sized-owner name ports q (desired s q past) (available q past) (template o q past)
     (find-passes (λ r. is_named name (template o r past)) (existing past) q is)
 
--- what a roster of these revisions answers to a template
+-- the answer of a roster of these revisions to a template
 pub listed-template : (s : Strategy) (o : Opening) (past : List Entry) (newest : ℕ) (name ports : List ℕ) → exists_in newest past ≡ true
     → template_of newest name ports (revisions_of s o past) ≡ template_answer o newest name ports past
 listed-template s o past newest name ports within =

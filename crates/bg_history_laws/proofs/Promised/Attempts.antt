@@ -1,4 +1,4 @@
--- What the steps of an attempt ask for, and what is active.
+-- What the steps of an attempt require, and which revision is active.
 use Rattle.std.proofs.Common.{◌≡◌, ℕ, true, false, ◌==◌, List, arith}
 use Rattle.std.proofs.lemmas.Bool.Decides.{nat_tests}
 use Rattle.bg_strategy.specs.declared.strategy.Strategy.{Strategy}
@@ -8,7 +8,7 @@ use Rattle.bg_history.specs.Selections.{is_selected}
 use Rattle.bg_history.specs.Promotion.{may_be_ready, may_resume, may_switch, may_promote}
 use Rattle.bg_history.specs.Deadlines.{may_scale_down}
 
--- each step is of the newest revision, while an attempt runs
+-- each step belongs to the newest revision, and comes while an attempt runs
 pub record IsStep (r : ℕ) (past : List Entry) : Type 0 where
   pub runs : is_running past ≡ true
   pub newest : r ≡ newest_of past
@@ -25,10 +25,10 @@ switched-step s r past h = record { runs = grind (arith, nat_tests); newest = gr
 pub promoted-step : (s : Strategy) (r : ℕ) (past : List Entry) → may_promote s r past ≡ true → IsStep r past
 promoted-step s r past h = record { runs = grind (arith, nat_tests); newest = grind (arith, nat_tests) }
 
--- what is scaled down isn't selected
+-- a revision that is scaled down isn't selected
 pub down-unselected : (s : Strategy) (r : ℕ) (past : List Entry) → may_scale_down s r past ≡ true → is_selected r past ≡ false
 down-unselected s r past h = grind (arith, nat_tests)
 
--- so it isn't the stable one
+-- a revision that is scaled down isn't the stable one
 pub down-not_stable : (s : Strategy) (r : ℕ) (past : List Entry) → may_scale_down s r past ≡ true → (r == stable_of past) ≡ false
 down-not_stable s r past h = grind (arith, nat_tests)

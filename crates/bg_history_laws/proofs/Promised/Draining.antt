@@ -32,12 +32,12 @@ use Rattle.bg_history_laws.proofs.Ended.Leaving.{open-other}
 -- a request that leaves marks no revision
 mark-left : (s : Strategy) (seat number r : ℕ) (past : List Entry) (q : ℕ) → mark s q (Leave seat number r ∷ past) ≡ mark s q past
 mark-left s seat number r past q =
-    ap (λ k. option_or (option_map (λ kind. record { kind = kind; moment = moment past; stood = length past }) k) (mark s q past)) (by-active (active_of past == q)) where
+    ap (λ k. option_or (option_map (λ kind. record { kind = kind; moment = moment past; position = length past }) k) (mark s q past)) (by-active (active_of past == q)) where
       by-active : (a : Bool) → cond (a && not a && true) (Some Left) (cond (false || (not a && a) || false || false) (Some Cleared) None) ≡ None
       by-active true = refl
       by-active false = refl
 
--- nor makes one due
+-- a request that leaves makes no revision due
 marks_due-left : (s : Strategy) (m : Option Mark) (seat number r : ℕ) (past : List Entry) → marks_due s m (Leave seat number r ∷ past) ≡ marks_due s m past
 marks_due-left s None seat number r past = refl
 marks_due-left s (Some m) seat number r past = simp (mark-left s seat number r past)
@@ -56,7 +56,7 @@ empty-left seat number r past last =
     ap (map (λ x. x.number))
     (filter-swap (λ x. x.revision == r) (λ x. not (x.number == number)) (open_requests past) ∙ none-without number (filter (λ x. x.revision == r) (open_requests past)) last)
 
--- where no outcome is allowed there is no step of an attempt, and no revision that may be scaled down
+-- if no outcome is allowed, no step of an attempt is allowed, and no revision may be scaled down
 record AllDone (s : Strategy) (past : List Entry) : Type 0 where
   no_step : first_promotion s past ≡ None
   no_lowering : find (λ q. may_scale_down s q past) (existing past) ≡ None
@@ -70,22 +70,22 @@ all-done s past h =
       go None (Some b) c h = absurd (cc)
       go (Some a) b c h = absurd (cc)
 
--- what is due exists
+-- a revision that is due exists
 due-exists : (s : Strategy) (r : ℕ) (past : List Entry) → is_due s r past ≡ true → exists_in r past ≡ true
 due-exists s r past due = (and_parts (exists_in r past) (is_spare s r past) (and_parts (exists_in r past && is_spare s r past) (marks_due s (mark s r past) past) due).0).0
 
--- once its last request left, it may be scaled down
+-- once its last request left, a revision that is due may be scaled down
 may-lower : (s : Strategy) (seat number r : ℕ) (past : List Entry) → is_due s r past ≡ true → open_at r past ≡ number ∷ [] → may_scale_down s r (Leave seat number r ∷ past) ≡ true
 may-lower s seat number r past due last =
     and_both (is_due s r (Leave seat number r ∷ past)) (is_empty (open_at r (Leave seat number r ∷ past))) (due-left s r seat number r past ∙ due)
     (ap is_empty (empty-left seat number r past last))
 
--- a number and a revision by other names
+-- the same for equal numbers and revisions
 at-names : (m k number r : ℕ) (xs : List Request) → m ≡ number → k ≡ r → list_all (λ x. not (x.number == m) || (x.revision == k)) xs ≡ true
     → list_all (λ x. not (x.number == number) || (x.revision == r)) xs ≡ true
 at-names m k number r xs e f h = rw (← e, ← f) h
 
--- the request that alone is open at r
+-- the only open request at r
 record IsLast (number r : ℕ) (xs : List Request) : Type 0 where
   q : Request
   is : find (λ x. x.revision == r) xs ≡ Some q
@@ -100,7 +100,7 @@ last-one number r (x ∷ xs) h = go (x.revision == r) refl h (last-one number r 
   go true same h rest = record { q = x; is = rw same refl; number_is = cc; revision_is = equal_numbers x.revision r same }
   go false other h rest = let one = rest h in record { q = one.q; is = rw other one.is; number_is = one.number_is; revision_is = one.revision_is }
 
--- then the first outcome after the last request left scales its revision down
+-- after the last request left, the first outcome scales its revision down
 first-lowers : (s : Strategy) (o : Opening) (seat number r : ℕ) (past : List Entry) (x : outcome.Outcome) → all_allowed s o past ≡ true → is_settled s past ≡ true
     → is_due s r past ≡ true → open_at r past ≡ number ∷ [] → first_allowed s (Leave seat number r ∷ past) ≡ Some x
     → x ≡ ScaledDown r
@@ -155,7 +155,7 @@ record StaysDown (s : Strategy) (r : ℕ) (past : List Entry) : Type 0 where
   unavailable : available r past ≡ 0
   apart : is_running past ≡ true → (r == newest_of past) ≡ false
 
--- each outcome keeps that
+-- each outcome keeps this
 down-kept : (s : Strategy) (o : Opening) (r : ℕ) (x : outcome.Outcome) (p : List Entry) → is_allowed s o (Outcome x) p ≡ true → StaysDown s r p → StaysDown s r (Outcome x ∷ p)
 down-kept s o r (Ready q) p may h = record { unwanted = h.unwanted; unavailable = h.unavailable; apart = h.apart }
 down-kept s o r (Resumed q) p may h =
@@ -170,7 +170,7 @@ down-kept s o r (ScaledDown q) p may h = record { unwanted = zero-either (q == r
   zero-either false n h = h
 down-kept s o r (Removed q) p may h = record { unwanted = h.unwanted; unavailable = h.unavailable; apart = h.apart }
 
--- it holds once r is scaled down
+-- this holds after r is scaled down
 down-now : (s : Strategy) (r : ℕ) (past : List Entry) → may_scale_down s r past ≡ true → StaysDown s r (Outcome (ScaledDown r) ∷ past)
 down-now s r past may = record {
   unwanted = rw (equal_itself r) refl;
@@ -178,7 +178,7 @@ down-now s r past may = record {
   apart = λ runs. down-not_newest s r past runs may;
 }
 
--- so after all outcomes that follow, where one does
+-- so it holds after all outcomes that follow, if one of them scales r down
 down-after : (s : Strategy) (o : Opening) (r : ℕ) (past : List Entry) (xs : List outcome.Outcome) → ((x : outcome.Outcome) → first_allowed s past ≡ Some x → x ≡ ScaledDown r)
     → Follows s xs past → (xs ≡ []) ⊎ StaysDown s r (with_outcomes xs past)
 down-after s o r past [] first f = inl refl

@@ -1,4 +1,4 @@
--- Strategies, an opening and pasts that several worked histories share, and what calls make of a past.
+-- Strategies, an opening and pasts that several worked histories share, and the pasts after calls.
 use Rattle.std.proofs.Common.{lit≤, ℕ, zero, suc, true, false, List, [], ◌∷◌, Some, None, codes}
 use Rattle.bg_history.specs.declared.entry.Entry.{Entry}
 use Rattle.bg_history.specs.declared.entry.Entry.TheVariants.{Deploy, Available, Outcome}
@@ -29,7 +29,7 @@ plain = record {
   history_limit = 10;
 }
 
--- an analysis before and one after the switch, no promotion but by an operator, and one endpoint before the switch
+-- an analysis before and one after the switch, only an operator promotes, and one endpoint before the switch
 abbrev pub careful : Strategy
 careful = record plain { some_preview = lit≤ tt; few_previews = lit≤ tt; preview_replicas = 1; auto_promotion = false; pre = true; post = true }
 
@@ -53,16 +53,16 @@ deploy_2 = Deploy 2 (codes "v2") (9101 ∷ 9102 ∷ [])
 abbrev pub deploy_3 : Entry
 deploy_3 = Deploy 3 (codes "v3") (9201 ∷ 9202 ∷ [])
 
--- the past after so many outcomes at most, each the first that was allowed
+-- the past after at most this many outcomes, each the first allowed one
 abbrev pub settle : ℕ → Strategy → List Entry → List Entry
 settle zero s past = past
 settle (suc n) s past = elim (first_allowed s past) [ None ↦ past | Some x ↦ settle n s (Outcome x ∷ past) ]
 
--- the past after a call: its event, and the outcomes that this allows
+-- the past after a call: its event, and the outcomes that the event allows
 abbrev pub call : Strategy → Entry → List Entry → List Entry
 call s e past = settle 8 s (e ∷ past)
 
--- the past after so many calls of the way forward
+-- the past after this many calls of a full promotion
 abbrev pub go_on : ℕ → Strategy → List Entry → List Entry
 go_on zero s past = past
 go_on (suc n) s past = go_on n s (call s (next_promotion_call s past) past)
@@ -71,6 +71,6 @@ go_on (suc n) s past = go_on n s (call s (next_promotion_call s past) past)
 abbrev pub live : List Entry
 live = call sparse (Available 2 2) (call sparse deploy_2 (call sparse (Available 1 2) []))
 
--- revision 2 is deployed, and nothing is available
+-- revision 2 is deployed, and has no available endpoint
 abbrev pub begun : List Entry
 begun = call careful deploy_2 []

@@ -1,4 +1,4 @@
--- Live traffic meets the first revision, or one that went live as the strategy asks.
+-- Live requests reach only the first revision, or one that went live as the strategy requires.
 use Rattle.std.proofs.Common.{◌≡◌, ◌≤◌, ℕ, Bool, true, false, not, cond, ◌==◌, ◌&&◌, ◌||◌, List, [], ◌∷◌, Option, Some, None, is_some, refl, arith, ap, sym, subst, ◌∙◌}
 use Rattle.std.proofs.lemmas.Bool.Decides.{nat_tests}
 use Rattle.bg_strategy.specs.declared.strategy.Strategy.{Strategy}
@@ -23,18 +23,18 @@ use Rattle.bg_history_laws.proofs.Reached.Allowing.{allowed_now, allowed_before,
 use Rattle.bg_history_laws.proofs.Reached.Running.{in_attempt-running}
 use Rattle.bg_history_laws.proofs.Reached.Steady.{switched-active}
 
--- a moment is kept where one was, or where the test holds
+-- if there is a moment, there was one before or the test holds
 first_at-some : (b : Bool) (at : ℕ) (kept : Option ℕ) → is_some (first_at b at kept) ≡ true → b || is_some kept ≡ true
 first_at-some true at kept h = refl
 first_at-some false at kept h = h
 
--- what passes an attempt for which an analysis is set is its success, in the attempt
+-- if an analysis is set, the attempt passes with the success of that analysis
 passes-success : (s : Strategy) (e : Entry) (before : List Entry) → s.pre ≡ true → passes s e before ≡ true → (is_pre_success e ≡ true) × (is_running before ≡ true)
 passes-success s (Outcome (Ready r)) before pre h = absurd (grind arith)
 passes-success s (Verdict Pre Successful) before pre h = let ready : has_ready before ≡ true = grind arith in (refl, in_attempt-running is_ready before ready)
 passes-success s e before pre h = absurd (cc)
 
--- so where one is set, an attempt that is passed has that success
+-- so if an analysis is set, an attempt that has passed has its success
 passed-success : (s : Strategy) (past : List Entry) → s.pre ≡ true → is_passed s past ≡ true → has_pre_success past ≡ true
 passed-success s [] pre h = absurd (cc)
 passed-success s (e ∷ before) pre h = go (is_turn e) h (passed-success s before pre) where
@@ -48,12 +48,12 @@ passed-success s (e ∷ before) pre h = go (is_turn e) h (passed-success s befor
         or_left (is_pre_success e && is_running before) (has_pre_success before) (and_both (is_pre_success e) (is_running before) both.0 both.1)
     by-pass false is h = or_right (is_pre_success e && is_running before) (has_pre_success before) (rest h)
 
--- a pause that was waited for is one of an attempt that is passed
+-- a pause that was waited for belongs to an attempt that has passed
 waited-some : (auto : Bool) (seconds now : ℕ) (at : Option ℕ) → waited auto seconds now at ≡ true → is_some at ≡ true
 waited-some auto seconds now None h = absurd (cc)
 waited-some auto seconds now (Some at) h = refl
 
--- a passed attempt has the success that is asked
+-- an attempt that has passed has the success that the strategy requires
 passed-asked : (s : Strategy) (past : List Entry) → is_passed s past ≡ true → not s.pre || has_pre_success past ≡ true
 passed-asked s past h = go s.pre refl where
   go : (b : Bool) → s.pre ≡ b → not b || has_pre_success past ≡ true
@@ -70,13 +70,13 @@ resumes-live s r past h = go (has_promote_full past) (is_passed s past) refl ref
   go false true is was h = or_right (has_promote_full past) _ (and_both _ (is_pause_over s past) (passed-asked s past was) h)
   go false false is was h = both_ways (is_passed s past) (waited-some s.auto_promotion s.auto_seconds (moment past) (pass_moment s past) h) was
 
--- a pause that was over stays so
+-- a pause that is over stays over
 waited-more : (auto : Bool) (seconds now later : ℕ) (at : Option ℕ) (b : Bool) (m : ℕ) → now ≤ later → waited auto seconds now at ≡ true → waited auto seconds later (first_at b m at) ≡ true
 waited-more auto seconds now later None b m le h = absurd (cc)
 waited-more auto seconds now later (Some at) true m le h = grind (arith, nat_tests)
 waited-more auto seconds now later (Some at) false m le h = grind (arith, nat_tests)
 
--- after an entry that is no turn an attempt may go live still where it might
+-- if an attempt may go live, it may go live after an entry that is no turn
 live-more : (s : Strategy) (e : Entry) (before : List Entry) → is_turn e ≡ false → moment before ≤ moment (e ∷ before) → may_go_live s before ≡ true → may_go_live s (e ∷ before) ≡ true
 live-more s e before turn le h =
     rw turn (go (is_promote_full e && is_running before) (is_pre_success e && is_running before) (is_promote e && is_running before) (has_promote_full before) (has_pre_success before) (has_promote before)
@@ -88,11 +88,11 @@ live-more s e before turn le h =
       go a b c full success promote true v f h = let k : v ≡ true = f refl in grind arith
       go a b c full success promote false v f h = grind arith
 
--- a tick is of no earlier moment
+-- a tick goes to no earlier moment
 tick-later : (s : Strategy) (o : Opening) (m : ℕ) (before : List Entry) → is_allowed s o (Tick m) before ≡ true → moment before ≤ m
 tick-later s o m before h = grind (arith, nat_tests)
 
--- so may each that was resumed
+-- an attempt that was resumed may go live
 resumed-live : (s : Strategy) (o : Opening) (past : List Entry) → all_allowed s o past ≡ true → has_resumed past ≡ true → may_go_live s past ≡ true
 resumed-live s o [] a h = absurd (cc)
 resumed-live s o (Outcome (Resumed r) ∷ before) a h = live-more s (Outcome (Resumed r)) before refl (omega arith) (resumes-live s r before (allowed_now s o (Outcome (Resumed r)) before a))
@@ -115,16 +115,16 @@ resumed-live s o (Verdict analysis Failed ∷ before) a h = absurd (cc)
 resumed-live s o (Verdict analysis Error ∷ before) a h = absurd (cc)
 resumed-live s o (Outcome (Promoted r) ∷ before) a h = absurd (cc)
 
--- so a switch is of an attempt that may go live
+-- so a switch comes in an attempt that may go live
 switches-live : (s : Strategy) (o : Opening) (r : ℕ) (past : List Entry) → all_allowed s o past ≡ true → may_switch s r past ≡ true → may_go_live s past ≡ true
 switches-live s o r past a h = let resumed : has_resumed past ≡ true = grind (arith, nat_tests) in resumed-live s o past a resumed
 
--- what was tested stays so
+-- a tested revision stays tested
 tested-more : (s : Strategy) (r : ℕ) (e : Entry) (before : List Entry) → is_tested s r before ≡ true → is_tested s r (e ∷ before) ≡ true
 tested-more s r (Outcome (Switched q)) before h = grind arith
 tested-more s r e before h = h
 
--- a switch tests its revision
+-- a switch makes its revision tested
 tested-now : (s : Strategy) (r : ℕ) (before : List Entry) → may_go_live s before ≡ true → is_tested s r (Outcome (Switched r) ∷ before) ≡ true
 tested-now s r before h = rw (equal_itself r, h) (or_right (r == 1) true refl)
 
@@ -133,7 +133,7 @@ record AreTested (s : Strategy) (past : List Entry) : Type 0 where
   active : is_tested s (active_of past) past ≡ true
   stable : is_tested s (stable_of past) past ≡ true
 
--- where both are kept
+-- the case in which both stay the same
 tested-kept : (s : Strategy) (e : Entry) (before : List Entry) → AreTested s before → active_of (e ∷ before) ≡ active_of before → stable_of (e ∷ before) ≡ stable_of before
     → AreTested s (e ∷ before)
 tested-kept s e before h active stable = record {
@@ -141,7 +141,7 @@ tested-kept s e before h active stable = record {
   stable = subst (λ (r : ℕ). is_tested s r (e ∷ before) ≡ true) (sym stable) (tested-more s (stable_of before) e before h.stable);
 }
 
--- where the active service goes back
+-- the case in which the active service goes back
 tested-back : (s : Strategy) (e : Entry) (before : List Entry) → AreTested s before → active_of (e ∷ before) ≡ stable_of before → stable_of (e ∷ before) ≡ stable_of before
     → AreTested s (e ∷ before)
 tested-back s e before h active stable = record {
@@ -179,7 +179,7 @@ are-tested s o (Outcome (Promoted r) ∷ before) a =
     }
 are-tested s o (e ∷ before) a = let h = are-tested s o before (allowed_before s o e before a) in record { active = h.active; stable = h.stable }
 
--- each switch was of an attempt that might go live
+-- each switch came in an attempt that might go live
 all-switched : (s : Strategy) (o : Opening) (past : List Entry) → all_allowed s o past ≡ true → switched_tested s past ≡ true
 all-switched s o [] a = refl
 all-switched s o (Outcome (Switched r) ∷ before) a =
@@ -187,7 +187,7 @@ all-switched s o (Outcome (Switched r) ∷ before) a =
     and_both (may_go_live s before) (switched_tested s before) (switches-live s o r before earlier (allowed_now s o (Outcome (Switched r)) before a)) (all-switched s o before earlier)
 all-switched s o (e ∷ before) a = all-switched s o before (allowed_before s o e before a)
 
--- a request that enters by the active service enters at the active revision
+-- a request that enters at the active service gets the active revision
 enters-active : (s : Strategy) (o : Opening) (seat number r port : ℕ) (before : List Entry) → may_enter s o seat service.Active number r port before ≡ true → active_of before ≡ r
 enters-active s o seat number r port before h = grind (arith, nat_tests)
 
@@ -204,11 +204,11 @@ only-tested s o past a =
     let tested = are-tested s o past a in
     record { active = tested.active; stable = tested.stable; switches = all-switched s o past a; requests = all-met s o past a }
 
--- where an analysis is set, it succeeded or the attempt was fully promoted
+-- if an analysis is set, it succeeded or the attempt was fully promoted
 pub live-tested : (s : Strategy) (past : List Entry) → s.pre ≡ true → may_go_live s past ≡ true → has_pre_success past || has_promote_full past ≡ true
 live-tested s past pre h = grind arith
 
--- where promotion isn't automatic, an operator has promoted it
+-- if promotion isn't automatic, an operator has promoted the attempt
 pub live-by_hand : (s : Strategy) (past : List Entry) → s.auto_promotion ≡ false → may_go_live s past ≡ true → has_promote past || has_promote_full past ≡ true
 live-by_hand s past auto h =
     go (waited s.auto_promotion s.auto_seconds (moment past) (pass_moment s past)) (never (pass_moment s past)) h where

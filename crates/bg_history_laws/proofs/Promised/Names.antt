@@ -1,5 +1,5 @@
--- Names and ports: each revision's are well formed, and no two existing revisions have one name; so the stable revision's
--- template may be deployed again where another one is the newest.
+-- Names and ports: each revision's are well formed, and no two existing revisions have the same name. So the stable
+-- revision's template may be deployed again while another revision is the newest.
 use Rattle.std.proofs.Common.{◌≡◌, ◌<◌, ◌+◌, ℕ, Bool, true, false, not, cond, ◌==◌, ◌&&◌, ◌||◌, nat_le, List, [], ◌∷◌, Option, Some, None, is_some, refl, arith, ap, sym, subst, ◌∙◌, ◌⊎◌, inl, inr}
 use Rattle.std.specs.Option.{option_or}
 use Rattle.std.specs.Str.{bytes_eq}
@@ -25,40 +25,40 @@ use Rattle.bg_history_laws.proofs.Reached.Allowing.{allowed_now, allowed_before,
 use Rattle.bg_history_laws.proofs.Finding.{found, none-passes}
 use Rattle.bg_history_laws.proofs.Reached.Existing.{exists-Deploy, exists-Removed}
 
--- what exists after a deploy is its revision, or existed before
+-- a revision that exists after a deploy is the deployed one, or it existed before
 exists-deployed : (q n : ℕ) (name ports : List ℕ) (before : List Entry) → exists_in q (Deploy n name ports ∷ before) ≡ true → (exists_in q before ≡ true) ⊎ ((exists_in q before ≡ false) × (q ≡ n))
 exists-deployed q n name ports before h = go (exists_in q before) refl (sym (exists-Deploy q n name ports before) ∙ h) where
   go : (b : Bool) → exists_in q before ≡ b → ((n == q) || b) ≡ true → (exists_in q before ≡ true) ⊎ ((exists_in q before ≡ false) × (q ≡ n))
   go true is h = inl is
   go false is h = inr (is, grind (arith, nat_tests))
 
--- what exists after a removal existed before
+-- a revision that exists after a removal existed before
 exists-removed : (q n : ℕ) (before : List Entry) → exists_in q (Outcome (Removed n) ∷ before) ≡ true → exists_in q before ≡ true
 exists-removed q n before h = (and_parts (not (q == n)) (exists_in q before) (sym (exists-Removed q n before) ∙ h)).1
 
--- the template of a revision that had one stays
+-- a revision keeps the template that it had
 old-template : (o : Opening) (q n : ℕ) (name ports : List ℕ) (before : List Entry) → is_some (template o q before) ≡ true → template o q (Deploy n name ports ∷ before) ≡ template o q before
 old-template o q n name ports before h = go (template o q before) h where
   go : (t : Option Template) → is_some t ≡ true → option_or t (cond (n == q) (Some (record { name = name; ports = ports })) None) ≡ t
   go None h = absurd (cc)
   go (Some t) h = refl
 
--- that of one that had none is the deployed one
+-- a revision that had no template gets the deployed one
 new-template : (o : Opening) (n : ℕ) (name ports : List ℕ) (before : List Entry) → template o n before ≡ None → template o n (Deploy n name ports ∷ before) ≡ Some (record { name = name; ports = ports })
 new-template o n name ports before h = rw (h, equal_itself n) refl
 
--- what is named alike is named by either name
+-- if two names are equal, a template is named by either
 named-same : (name other : List ℕ) (t : Option Template) → bytes_eq name other ≡ true → is_named other t ≡ true → is_named name t ≡ true
 named-same name other t same h = let e : name ≡ other = (bytes_eq-Decides name other).0 same in rw e h
 
--- existing revisions of one name are one
+-- existing revisions with the same name are the same revision
 abbrev pub OwnNames : Opening → List Entry → Type 0
 OwnNames o past = (q r : ℕ) (name : List ℕ) → exists_in q past ≡ true → exists_in r past ≡ true → is_named name (template o q past) ≡ true → is_named name (template o r past) ≡ true → q ≡ r
 
 own-deployed : (o : Opening) (n : ℕ) (name ports : List ℕ) (before : List Entry) → ((q : ℕ) → exists_in q before ≡ true → is_some (template o q before) ≡ true)
     → ((q : ℕ) → last_number before < q → template o q before ≡ None) → Returns o n name ports before ⊎ Begins o n name before
     → OwnNames o before → OwnNames o (Deploy n name ports ∷ before)
-own-deployed o n name ports before some unborn kind own q r other hq hr nq nr =
+own-deployed o n name ports before some undeployed kind own q r other hq hr nq nr =
     go (exists-deployed q n name ports before hq) (exists-deployed r n name ports before hr) kind where
       earlier : (k : ℕ) → exists_in k before ≡ true → is_named other (template o k (Deploy n name ports ∷ before)) ≡ true → is_named other (template o k before) ≡ true
       earlier k here h = ap (is_named other) (sym (old-template o k n name ports before (some k here))) ∙ h
@@ -66,7 +66,7 @@ own-deployed o n name ports before some unborn kind own q r other hq hr nq nr =
       fresh : (k : ℕ) → Begins o n name before → k ≡ n → is_named other (template o k (Deploy n name ports ∷ before)) ≡ true → bytes_eq name other ≡ true
       fresh k new is h =
           let e : last_number before < n = let next : n ≡ last_number before + 1 = new.next in omega arith in
-          ap (is_named other) (sym (new-template o n name ports before (unborn n e))) ∙ subst (λ (m : ℕ). is_named other (template o m (Deploy n name ports ∷ before)) ≡ true) is h
+          ap (is_named other) (sym (new-template o n name ports before (undeployed n e))) ∙ subst (λ (m : ℕ). is_named other (template o m (Deploy n name ports ∷ before)) ≡ true) is h
 
       go : ((exists_in q before ≡ true) ⊎ ((exists_in q before ≡ false) × (q ≡ n))) → ((exists_in r before ≡ true) ⊎ ((exists_in r before ≡ false) × (r ≡ n)))
           → Returns o n name ports before ⊎ Begins o n name before → q ≡ r
@@ -85,17 +85,17 @@ own-names reach s o [] a = λ q r name hq hr nq nr. let e : q ≡ 1 = grind (ari
 own-names reach s o (Deploy n name ports ∷ before) a =
     let earlier = allowed_before s o (Deploy n name ports) before a in
     let there = reach s o before earlier in
-    own-deployed o n name ports before there.templates there.unborn_template (deployed s o n name ports before (allowed_now s o (Deploy n name ports) before a))
+    own-deployed o n name ports before there.templates there.undeployed_template (deployed s o n name ports before (allowed_now s o (Deploy n name ports) before a))
     (own-names reach s o before earlier)
 own-names reach s o (Outcome (Removed n) ∷ before) a = λ q r name hq hr nq nr.
     own-names reach s o before (allowed_before s o (Outcome (Removed n)) before a) q r name (exists-removed q n before hq) (exists-removed r n before hr) nq nr
 own-names reach s o (e ∷ before) a = own-names reach s o before (allowed_before s o e before a)
 
--- a template is a label and a revision's ports
+-- a deployed template has a label and the ports of a revision
 abbrev pub has_form : Strategy → Template → Bool
 has_form s t = is_label t.name && are_ports s.replicas t.ports
 
--- so is each that a revision has
+-- the template of each revision has a label and the ports of a revision
 pub template-form : (s : Strategy) (o : Opening) (r : ℕ) (past : List Entry) (t : Template) → is_opening s o ≡ true → all_allowed s o past ≡ true → template o r past ≡ Some t → has_form s t ≡ true
 template-form s o r [] t opens a is = go (r == 1) is where
   good : has_form s o.template ≡ true

@@ -1,4 +1,4 @@
--- A request stays open, at a revision that exists and is scaled, until it leaves; and no two open requests have one number.
+-- A request stays open until it leaves; its revision exists and is scaled. No two open requests have the same number.
 use Rattle.std.proofs.Common.{◌≡◌, ℕ, Bool, true, false, not, cond, ◌==◌, ◌&&◌, ◌||◌, nat_lt, List, [], ◌∷◌, ◌++◌, filter, find, Option, Some, None, refl, arith, ap, sym, ◌∙◌}
 use Rattle.std.specs.List.{list_all}
 use Rattle.std.specs.Option.{option_or}
@@ -20,7 +20,7 @@ use Rattle.bg_history_laws.proofs.Reached.Allowing.{allowed_now, allowed_before}
 use Rattle.bg_history_laws.proofs.Lists.{all_filter, all_weaker}
 use Rattle.bg_history_laws.proofs.Compacted.Closed.{open-numbers}
 
--- what all of a list pass, what is found in it passes
+-- if all elements pass a test, the one that is found passes it
 pub found-all : (p t : Request → Bool) (q : Request) (xs : List Request) → find p xs ≡ Some q → list_all t xs ≡ true → t q ≡ true
 found-all p t q [] is h = absurd (cc)
 found-all p t q (x ∷ xs) is h =
@@ -29,7 +29,7 @@ found-all p t q (x ∷ xs) is h =
       go true is rest here later = let e : x ≡ q = same_Some x q is in ap t (sym e) ∙ here
       go false is rest here later = rest is later
 
--- what is found passes
+-- an element that is found passes the test
 pub found-passes : (p : Request → Bool) (q : Request) (xs : List Request) → find p xs ≡ Some q → p q ≡ true
 found-passes p q [] is = absurd (cc)
 found-passes p q (x ∷ xs) is = go (p x) refl is (found-passes p q xs) where
@@ -37,7 +37,7 @@ found-passes p q (x ∷ xs) is = go (p x) refl is (found-passes p q xs) where
   go true h is rest = let e : x ≡ q = same_Some x q is in ap p (sym e) ∙ h
   go false h is rest = rest is
 
--- what is found is found among those of other numbers too
+-- a request that is found is found among those of other numbers, too
 found-others : (number n : ℕ) (q : Request) (xs : List Request) → (n == number) ≡ false → find (λ x. x.number == number) xs ≡ Some q
     → find (λ x. x.number == number) (filter (λ x. not (x.number == n)) xs) ≡ Some q
 found-others number n q [] other is = absurd (cc)
@@ -51,7 +51,7 @@ found-others number n q (x ∷ xs) other is =
       go false true here leaves is rest = rest is
       go false false here leaves is rest = rw here (rest is)
 
--- a request stays open at each entry but its leaving
+-- a request stays open at each entry other than its Leave
 pub stays-open : (number : ℕ) (q : Request) (e : Entry) (before : List Entry) → is_leaving number e ≡ false → open_request number before ≡ Some q → open_request number (e ∷ before) ≡ Some q
 stays-open number q (Enter seat v n r port) before other is =
     find-append (λ x. x.number == number) (open_requests before) (record { seat = seat; number = n; revision = r; port = port } ∷ [])
@@ -59,12 +59,12 @@ stays-open number q (Enter seat v n r port) before other is =
 stays-open number q (Leave seat n r) before other is = found-others number n q (open_requests before) other is
 stays-open number q e before other is = is
 
--- a template that a revision has stays
+-- a revision keeps its template
 pub stays-template : (o : Opening) (r : ℕ) (t : Template) (e : Entry) (before : List Entry) → template o r before ≡ Some t → template o r (e ∷ before) ≡ Some t
 stays-template o r t (Deploy q name ports) before is = ap (λ u. option_or u (cond (q == r) (Some (record { name = name; ports = ports })) None)) is
 stays-template o r t e before is = is
 
--- so over all that follow
+-- so a revision keeps its template over all entries that follow
 pub stays-open_over : (number : ℕ) (q : Request) (later past : List Entry) → stays number later ≡ true → open_request number past ≡ Some q → open_request number (later ++ past) ≡ Some q
 stays-open_over number q [] past h is = is
 stays-open_over number q (e ∷ later) past h is =
@@ -75,7 +75,7 @@ pub stays-template_over : (o : Opening) (r : ℕ) (t : Template) (later past : L
 stays-template_over o r t [] past is = is
 stays-template_over o r t (e ∷ later) past is = stays-template o r t e (later ++ past) (stays-template_over o r t later past is)
 
--- no two of the requests have one number
+-- no two of the requests have the same number
 abbrev pub apart : List Request → Bool
 apart [] = true
 apart (q ∷ rest) = list_all (λ x. not (x.number == q.number)) rest && apart rest
@@ -88,7 +88,7 @@ apart-filter k (x ∷ xs) h =
       go true here rest = and_both (list_all (λ y. not (y.number == x.number)) (filter k xs)) (apart (filter k xs)) here rest
       go false here rest = rest
 
--- a request of a number that none has is apart from all
+-- a request whose number is above all others differs from all of them
 apart-new : (new : Request) (xs : List Request) → apart xs ≡ true → list_all (λ x. nat_lt x.number new.number) xs ≡ true → apart (xs ++ new ∷ []) ≡ true
 apart-new new [] h less = refl
 apart-new new (x ∷ xs) h less =
@@ -104,7 +104,7 @@ enters-above : (s : Strategy) (o : Opening) (seat : ℕ) (v : Service) (number r
     → list_all (λ n. nat_lt n number) (request_numbers before) ≡ true
 enters-above s o seat v number r port before h = (and_parts _ (list_all (λ n. nat_lt n number) (request_numbers before)) (and_parts _ (has_value port (port_of o r number before)) h).0).1
 
--- so no two open requests have one number
+-- so no two open requests have the same number
 pub open-apart : (s : Strategy) (o : Opening) (past : List Entry) → all_allowed s o past ≡ true → apart (open_requests past) ≡ true
 open-apart s o [] a = refl
 open-apart s o (Enter seat v n r port ∷ before) a =
@@ -113,7 +113,7 @@ open-apart s o (Enter seat v n r port ∷ before) a =
 open-apart s o (Leave seat n r ∷ before) a = apart-filter (λ x. not (x.number == n)) (open_requests before) (open-apart s o before (allowed_before s o (Leave seat n r) before a))
 open-apart s o (e ∷ before) a = open-apart s o before (allowed_before s o e before a)
 
--- of such requests the one that is found is the only one of its number
+-- of such requests, the one that is found is the only one of its number
 pub only-one : (p : Request → Bool) (q : Request) (xs : List Request) → apart xs ≡ true → find p xs ≡ Some q → find (λ x. x.number == q.number) xs ≡ Some q
 only-one p q [] h is = absurd (cc)
 only-one p q (x ∷ xs) h is =
@@ -126,7 +126,7 @@ only-one p q (x ∷ xs) h is =
           let other : (x.number == q.number) ≡ false = grind (arith, nat_tests) in
           rw other (rest is)
 
--- and each of its number is at its revision
+-- each request of its number is at its revision
 pub at-one : (p : Request → Bool) (q : Request) (xs : List Request) → apart xs ≡ true → find p xs ≡ Some q → list_all (λ x. not (x.number == q.number) || (x.revision == q.revision)) xs ≡ true
 at-one p q [] h is = absurd (cc)
 at-one p q (x ∷ xs) h is =
@@ -142,7 +142,7 @@ at-one p q (x ∷ xs) h is =
           let apart : not (q.number == x.number) ≡ true = found-all p (λ y. not (y.number == x.number)) q xs is others in
           and_both (not (x.number == q.number) || (x.revision == q.revision)) _ (grind (arith, nat_tests)) (rest is)
 
--- a request that leaves is one that its seat holds
+-- the seat holds the request that leaves
 pub record Leaves (seat number r : ℕ) (past : List Entry) : Type 0 where
   pub q : Request
   pub held : held_by seat past ≡ Some q
@@ -157,7 +157,7 @@ leaves-held seat number r past h = go (held_by seat past) refl h where
       let both = and_parts (q.number == number) (q.revision == r) h in
       record { q = q; held = is; number_is = equal_numbers q.number number both.0; revision_is = equal_numbers q.revision r both.1 }
 
--- and it is the one that is open by its number
+-- the request that leaves is the open request of its number
 pub leaving-own : (s : Strategy) (o : Opening) (past : List Entry) (seat number r : ℕ) → all_allowed s o past ≡ true → holds number r (held_by seat past) ≡ true → LeavesAsItself seat number r past
 leaving-own s o past seat number r a may =
     let one = leaves-held seat number r past may in

@@ -1,4 +1,4 @@
--- The outcomes that follow an event: each is allowed, and what each keeps holds after all.
+-- The outcomes that follow an event: each is allowed, and a fact that each keeps holds after all of them.
 use Rattle.std.proofs.Common.{◌≡◌, ℕ, Bool, true, false, cond, List, [], ◌∷◌, find, Option, Some, None, refl, ap, ◌∙◌}
 use Rattle.std.specs.Option.{option_or, option_map}
 use Rattle.std.proofs.lemmas.Option.{same_Some}
@@ -17,7 +17,7 @@ use Rattle.bg_history.specs.Steps.{first_allowed, all_allowed, with_outcomes, Fo
 use Rattle.bg_history_laws.proofs.Tests.{and_both}
 use Rattle.bg_history_laws.proofs.Finding.{found}
 
--- the first of two, else the rest
+-- the first of two options, else the rest
 either : {X : Type 0} (a b : Option X) (x : X) (P : Type 0) → (a ≡ Some x → P) → (b ≡ Some x → P) → option_or a b ≡ Some x → P
 either None b x P left right h = right h
 either (Some a) b x P left right h = left h
@@ -42,7 +42,7 @@ promotion_allowed s o past x h =
     (chosen (may_switch s r past) (Switched r) x _ P (λ may is. allowed_as s o past (Switched r) x is may)
     (chosen (may_promote s r past) (Promoted r) x _ P (λ may is. allowed_as s o past (Promoted r) x is may) (λ e. absurd (cc))))) h
 
--- the first outcome that is allowed is allowed
+-- the first allowed outcome is allowed
 pub first-allowed : (s : Strategy) (o : Opening) (past : List Entry) (x : outcome.Outcome) → first_allowed s past ≡ Some x → is_allowed s o (Outcome x) past ≡ true
 first-allowed s o past x h =
     let P : Type 0 = is_allowed s o (Outcome x) past ≡ true in
@@ -52,7 +52,7 @@ first-allowed s o past x h =
     (mapped Removed (find (λ r. may_remove s r past) (existing past)) x P
     (λ r is same. allowed_as s o past (Removed r) x same (found (λ q. may_remove s q past) r (existing past) is).0))) h
 
--- so all entries are allowed after outcomes that follow
+-- so all entries are allowed after the outcomes that follow
 pub follow-allowed : (s : Strategy) (o : Opening) (xs : List outcome.Outcome) (past : List Entry) → all_allowed s o past ≡ true → Follows s xs past
     → all_allowed s o (with_outcomes xs past) ≡ true
 follow-allowed s o [] past a f = a
@@ -60,7 +60,7 @@ follow-allowed s o (x ∷ xs) past a f =
     and_both (is_allowed s o (Outcome x) (with_outcomes xs past)) (all_allowed s o (with_outcomes xs past)) (first-allowed s o (with_outcomes xs past) x f.1)
     (follow-allowed s o xs past a f.0)
 
--- what each allowed outcome keeps holds after all that follow
+-- a fact that each allowed outcome keeps holds after all outcomes that follow
 pub follow-keeps : (s : Strategy) (o : Opening) (P : List Entry → Type 0)
     → ((x : outcome.Outcome) (p : List Entry) → all_allowed s o p ≡ true → is_allowed s o (Outcome x) p ≡ true → P p → P (Outcome x ∷ p))
     → (xs : List outcome.Outcome) (past : List Entry) → all_allowed s o past ≡ true → Follows s xs past → P past → P (with_outcomes xs past)
@@ -68,13 +68,13 @@ follow-keeps s o P keep [] past a f h = h
 follow-keeps s o P keep (x ∷ xs) past a f h =
     keep x (with_outcomes xs past) (follow-allowed s o xs past a f.0) (first-allowed s o (with_outcomes xs past) x f.1) (follow-keeps s o P keep xs past a f.0 h)
 
--- so it holds of each past that steps by an event after which it holds
+-- so it holds after each step whose event makes it hold
 pub step-keeps : (s : Strategy) (o : Opening) (P : List Entry → Type 0)
     → ((x : outcome.Outcome) (p : List Entry) → all_allowed s o p ≡ true → is_allowed s o (Outcome x) p ≡ true → P p → P (Outcome x ∷ p))
     → (e : Entry) (past : List Entry) (xs : List outcome.Outcome) (new : List Entry) → all_allowed s o (e ∷ past) ≡ true → Step s e past xs new → P (e ∷ past) → P new
 step-keeps s o P keep e past xs new a step h = rw step.new_is (follow-keeps s o P keep xs (e ∷ past) a step.follow h)
 
--- and all its entries are allowed
+-- all entries are allowed after the step
 pub step-allowed : (s : Strategy) (o : Opening) (e : Entry) (past : List Entry) (xs : List outcome.Outcome) (new : List Entry) → all_allowed s o (e ∷ past) ≡ true
     → Step s e past xs new → all_allowed s o new ≡ true
 step-allowed s o e past xs new a step = ap (all_allowed s o) step.new_is ∙ follow-allowed s o xs (e ∷ past) a step.follow

@@ -29,7 +29,7 @@ abbrev pub has_port : ℕ → Option Template → Bool
 has_port port None = false
 has_port port (Some t) = is_among t.ports port
 
--- a port that is taken in turn is one of the list
+-- a port that is taken in turn is in the list
 turn-among : (ports : List ℕ) (number size port : ℕ) → 1 ≤ size → size ≤ length ports → slice_index ports (number % size) ≡ port → is_among ports port ≡ true
 turn-among ports number size port some most is =
     let less : number % size < length ports = omega arith in
@@ -37,7 +37,7 @@ turn-among ports number size port some most is =
       itself : (n : ℕ) → (n == n) ≡ true
       itself n = grind (arith, nat_tests)
 
--- so is that of a request that enters
+-- the port of a request that enters is a port of its revision
 enters-port : ((s : Strategy) (o : Opening) (past : List Entry) → all_allowed s o past ≡ true → Reachable s o past)
     → (s : Strategy) (o : Opening) (seat : ℕ) (v : Service) (number r port : ℕ) (before : List Entry) → is_opening s o ≡ true → all_allowed s o before ≡ true
     → may_enter s o seat v number r port before ≡ true → has_port port (template o r before) ≡ true
@@ -57,7 +57,7 @@ enters-port reach s o seat v number r port before opens a h =
           let first : 1 ≤ available r before = grind (arith, nat_tests) in
           turn-among t.ports number (available r before) port first (omega arith) (equal_numbers (slice_index t.ports (number % available r before)) port k)
 
--- a template that is there has the ports that it had
+-- a template keeps its ports
 port-stays : (p k q : ℕ) (name ports : List ℕ) (o : Opening) (before : List Entry) → has_port p (template o k before) ≡ true → has_port p (template o k (Deploy q name ports ∷ before)) ≡ true
 port-stays p k q name ports o before h = go (template o k before) h where
   go : (t : Option Template) → has_port p t ≡ true → has_port p (option_or t (cond (q == k) (Some (record { name = name; ports = ports })) None)) ≡ true

@@ -1,4 +1,4 @@
--- The way forward is open.
+-- A running attempt can always be promoted.
 use Rattle.std.proofs.Common.{◌≡◌, ◌≤◌, ℕ, zero, suc, Bool, true, false, not, cond, ◌==◌, ◌&&◌, ◌||◌, nat_le, List, ◌∷◌, Option, Some, None, is_none, refl, arith, ap, sym, subst, ◌∙◌, ◌⊎◌, inl, inr}
 use Rattle.std.specs.Option.{option_or}
 use Rattle.std.proofs.lemmas.Bool.Decides.{nat_tests}
@@ -32,11 +32,11 @@ record IsOnItsWay (r n : ℕ) (resumed : Bool) (past : List Entry) : Type 0 wher
   available_is : available r past ≡ n
   resumed_still : resumed ≡ true → has_resumed past ≡ true
 
--- r is fully promoted, or on its way
+-- r is fully promoted, or its attempt is in progress
 abbrev IsThrough : ℕ → ℕ → Bool → List Entry → Type 0
 IsThrough r n resumed past = IsFullyPromoted r past ⊎ IsOnItsWay r n resumed past
 
--- each outcome that is allowed on the way leads on, or ends it
+-- each outcome that is allowed in progress continues the attempt, or ends it
 way-kept : (s : Strategy) (o : Opening) (r n : ℕ) (resumed : Bool) (x : outcome.Outcome) (p : List Entry) → all_allowed s o p ≡ true → is_allowed s o (Outcome x) p ≡ true
     → IsOnItsWay r n resumed p → IsThrough r n resumed (Outcome x ∷ p)
 way-kept s o r n resumed (Ready q) p a may h = inr (record { runs = h.runs; newest = h.newest; full = h.full; available_is = h.available_is; resumed_still = h.resumed_still })
@@ -57,7 +57,7 @@ way-kept s o r n resumed (ScaledDown q) p a may h =
     inr (record { runs = h.runs; newest = h.newest; full = h.full; available_is = rw other h.available_is; resumed_still = h.resumed_still })
 way-kept s o r n resumed (Removed q) p a may h = inr (record { runs = h.runs; newest = h.newest; full = h.full; available_is = h.available_is; resumed_still = h.resumed_still })
 
--- once it is fully promoted, none but a revision that is scaled down or removed follows
+-- once r is fully promoted, only outcomes that scale down or remove a revision follow
 place-kept : (s : Strategy) (o : Opening) (r : ℕ) (x : outcome.Outcome) (p : List Entry) → is_allowed s o (Outcome x) p ≡ true → IsFullyPromoted r p → IsFullyPromoted r (Outcome x ∷ p)
 place-kept s o r (Ready q) p may h = both_ways (is_running p) (ready-step s q p may).runs h.ended
 place-kept s o r (Resumed q) p may h = both_ways (is_running p) (resumed-step s q p may).runs h.ended
@@ -71,13 +71,13 @@ through-kept : (s : Strategy) (o : Opening) (r n : ℕ) (resumed : Bool) (x : ou
 through-kept s o r n resumed x p a may (inl h) = inl (place-kept s o r x p may h)
 through-kept s o r n resumed x p a may (inr h) = way-kept s o r n resumed x p a may h
 
--- so each past that steps by an event after which r is on the way
+-- so r is in progress after each step whose event makes it so
 through-step : (s : Strategy) (o : Opening) (r n : ℕ) (resumed : Bool) (e : Entry) (past : List Entry) (xs : List outcome.Outcome) (new : List Entry) → all_allowed s o (e ∷ past) ≡ true
     → Step s e past xs new → IsOnItsWay r n resumed (e ∷ past) → IsThrough r n resumed new
 through-step s o r n resumed e past xs new a step h =
     step-keeps s o (λ p. IsThrough r n resumed p) (λ x p. through-kept s o r n resumed x p) e past xs new a step (inr h)
 
--- where nothing is left undone no step of an attempt is allowed
+-- if no allowed outcome is left undone, no step of an attempt is allowed
 record NoStep (s : Strategy) (past : List Entry) : Type 0 where
   ready : may_be_ready s (newest_of past) past ≡ false
   resume : may_resume s (newest_of past) past ≡ false
@@ -101,7 +101,7 @@ no-step s past h = go (may_be_ready s r past) (may_resume s r past) (may_switch 
   go false false false true ha hb hc hd h = absurd (cc)
   go false false false false ha hb hc hd h = record { ready = ha; resume = hb; switch = hc; promote = hd }
 
--- so on the way r either isn't ready, since its preview wants more endpoints; or was resumed, and has not its full size
+-- so in progress, r isn't ready because its preview wants more endpoints; or it was resumed and hasn't its full size
 stage : (s : Strategy) (past : List Entry) (r n : ℕ) (resumed : Bool) → is_settled s past ≡ true → IsOnItsWay r n resumed past
     → ((has_resumed past ≡ false) × (nat_le s.preview_replicas n ≡ false)) ⊎ ((has_resumed past ≡ true) × ((n == s.replicas) ≡ false))
 stage s past r n resumed settled h = by-resumed (has_resumed past) refl where
@@ -120,7 +120,7 @@ stage s past r n resumed settled h = by-resumed (has_resumed past) refl where
   there : available (newest_of past) past ≡ n
   there = ap (λ k. available k past) h.newest ∙ h.available_is
 
-  -- it has not switched, since promote full would have promoted it
+  -- it hasn't switched, because the full promotion would have promoted it
   unswitched : has_switched past ≡ false
   unswitched = let k : may_promote s (newest_of past) past ≡ false = none.promote in grind (arith, nat_tests)
 
@@ -137,26 +137,26 @@ stage s past r n resumed settled h = by-resumed (has_resumed past) refl where
       let small : nat_le s.preview_replicas (available (newest_of past) past) ≡ false = grind (arith, nat_tests) in
       inl (is, ap (λ m. nat_le s.preview_replicas m) (sym there) ∙ small)
 
--- where r is fully promoted, no call is needed
+-- if r is fully promoted, no call is needed
 arrived : (calls : ℕ) (s : Strategy) (o : Opening) (r : ℕ) (past : List Entry) → IsFullyPromoted r past → CanPromote calls s o r past
 arrived zero s o r past h = h
 arrived (suc calls) s o r past h = inl h
 
--- else the next call is made
+-- otherwise the next call is made
 takes : (calls : ℕ) (s : Strategy) (o : Opening) (r : ℕ) (past : List Entry) (e : Entry) → next_promotion_call s past ≡ e → is_allowed s o e past ≡ true
     → ((xs : List outcome.Outcome) (new : List Entry) → Step s e past xs new → CanPromote calls s o r new) → CanPromote (suc calls) s o r past
 takes calls s o r past e is may go =
     inr (subst (λ (e : Entry). (is_allowed s o e past ≡ true) × ((xs : List outcome.Outcome) (new : List Entry) → Step s e past xs new → CanPromote calls s o r new)) (sym is) (may, go))
 
--- on the way that call is the report of all that is wanted
+-- in progress, that call is the report that all wanted endpoints are available
 reports : (s : Strategy) (r : ℕ) (past : List Entry) → has_promote_full past ≡ true → newest_of past ≡ r → next_promotion_call s past ≡ Available r (desired s r past)
 reports s r past full newest = ap (λ b. cond b (Available (newest_of past) (desired s (newest_of past) past)) PromoteFull) full ∙ ap (λ k. Available k (desired s k past)) newest
 
--- which is allowed
+-- this report is allowed
 may-report : (s : Strategy) (o : Opening) (r : ℕ) (past : List Entry) → exists_in r past ≡ true → is_allowed s o (Available r (desired s r past)) past ≡ true
 may-report s o r past here = and_both (exists_in r past) (nat_le (desired s r past) (desired s r past)) here (grind (arith, nat_tests))
 
--- and after which all that was wanted is available
+-- after the report, all wanted endpoints are available
 after-report : (r n wanted : ℕ) (resumed : Bool) (past : List Entry) → IsOnItsWay r n resumed past → IsOnItsWay r wanted resumed (Available r wanted ∷ past)
 after-report r n wanted resumed past h = record { runs = h.runs; newest = h.newest; full = h.full; available_is = rw (equal_itself r) refl; resumed_still = h.resumed_still }
 
@@ -164,7 +164,7 @@ module _ (reach : (s : Strategy) (o : Opening) (past : List Entry) → all_allow
   exists-newest : (s : Strategy) (o : Opening) (r : ℕ) (past : List Entry) → all_allowed s o past ≡ true → newest_of past ≡ r → exists_in r past ≡ true
   exists-newest s o r past a newest = subst (λ (k : ℕ). exists_in k past ≡ true) newest (reach s o past a).newest
 
-  -- once it was resumed, one report fully promotes r
+  -- after it was resumed, one report fully promotes r
   last-call : (calls : ℕ) (s : Strategy) (o : Opening) (r n : ℕ) (past : List Entry) → all_allowed s o past ≡ true → IsOnItsWay r n true past → CanPromote (suc calls) s o r past
   last-call calls s o r n past a h =
       takes calls s o r past (Available r (desired s r past)) (reports s r past h.full h.newest) may (λ xs new step. go new step.settled (through-step s o r (desired s r past) true (Available r (desired s r past)) past xs new
@@ -185,7 +185,7 @@ module _ (reach : (s : Strategy) (o : Opening) (past : List Entry) → all_allow
           | inr w ↦ both_ways (desired s r past == s.replicas) all w.1
         ]
 
-  -- before that, two reports
+  -- before it was resumed, two reports do
   two-calls : (calls : ℕ) (s : Strategy) (o : Opening) (r n : ℕ) (past : List Entry) → all_allowed s o past ≡ true → IsOnItsWay r n false past → CanPromote (suc (suc calls)) s o r past
   two-calls calls s o r n past a h =
       takes (suc calls) s o r past (Available r (desired s r past)) (reports s r past h.full h.newest) may (λ xs new step. go new (step-allowed s o (Available r (desired s r past)) past xs new now step) step.settled
@@ -208,7 +208,7 @@ module _ (reach : (s : Strategy) (o : Opening) (past : List Entry) → all_allow
           | inr w ↦ last-call calls s o r (desired s r past) new b (record { runs = k.runs; newest = k.newest; full = k.full; available_is = k.available_is; resumed_still = λ h. w.0 })
         ]
 
-  -- promote full comes first, where the attempt has none
+  -- the full promotion comes first, unless the attempt has one
   pub can-promote : (s : Strategy) (o : Opening) (past : List Entry) → all_allowed s o past ≡ true → is_running past ≡ true
       → CanPromote 3 s o (newest_of past) past
   can-promote s o past a runs = go (has_promote_full past) refl where

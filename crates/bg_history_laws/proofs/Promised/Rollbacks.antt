@@ -1,4 +1,4 @@
--- The way back is open.
+-- A rollback is always possible.
 use Rattle.std.proofs.Common.{◌≡◌, ℕ, true, false, not, cond, ◌==◌, List, ◌∷◌, refl, ap, sym, subst, ◌∙◌}
 use Rattle.bg_strategy.specs.declared.strategy.Strategy.{Strategy}
 use Rattle.bg_history.specs.declared.entry.Entry.{Entry}
@@ -13,21 +13,21 @@ use Rattle.bg_history.specs.Sizes.{available, is_scaled}
 use Rattle.bg_history.specs.Deadlines.{exists_in}
 use Rattle.bg_history.specs.Allowed.{is_allowed}
 use Rattle.bg_history.specs.Steps.{all_allowed, IsLegal, Step}
-use Rattle.bg_history_laws.specs.Reachable.{stands_scaled, Reachable}
+use Rattle.bg_history_laws.specs.Reachable.{exists_scaled, Reachable}
 use Rattle.bg_history_laws.specs.Rollback.{IsRolledBack, RollsBack, CanRollBack}
 use Rattle.bg_history_laws.proofs.Tests.{and_parts, and_both, both_ways, equal_itself}
 use Rattle.bg_history_laws.proofs.Promised.Outcomes.{step-keeps, step-allowed}
 use Rattle.bg_history_laws.proofs.Promised.Names.{may-revert}
 use Rattle.bg_history_laws.proofs.Promised.Attempts.{ready-step, resumed-step, switched-step, promoted-step, down-not_stable}
 
--- no attempt runs, r is active and stable, and has so many endpoints
+-- no attempt runs, and r is active and stable and has this many available endpoints
 record IsCalmAt (r endpoints : ℕ) (past : List Entry) : Type 0 where
   ended : is_running past ≡ false
   active : active_of past ≡ r
   stable : stable_of past ≡ r
   available_is : available r past ≡ endpoints
 
--- each outcome that is allowed then keeps that: it is no step of an attempt, and scales down another revision
+-- each outcome that is then allowed keeps this: it is no step of an attempt, and scales down another revision
 calm-kept : (s : Strategy) (o : Opening) (r n : ℕ) (x : outcome.Outcome) (p : List Entry) → all_allowed s o p ≡ true → is_allowed s o (Outcome x) p ≡ true
     → IsCalmAt r n p → IsCalmAt r n (Outcome x ∷ p)
 calm-kept s o r n (Ready q) p a may h = both_ways (is_running p) (ready-step s q p may).runs h.ended
@@ -39,7 +39,7 @@ calm-kept s o r n (ScaledDown q) p a may h =
     record { ended = h.ended; active = h.active; stable = h.stable; available_is = rw other h.available_is }
 calm-kept s o r n (Removed q) p a may h = record { ended = h.ended; active = h.active; stable = h.stable; available_is = h.available_is }
 
--- so an event that is allowed and after which it holds goes back
+-- so an allowed event after which this holds rolls back
 rolls-back : ((s : Strategy) (o : Opening) (past : List Entry) → all_allowed s o past ≡ true → Reachable s o past)
     → (s : Strategy) (o : Opening) (e : Entry) (past : List Entry) → all_allowed s o past ≡ true → is_allowed s o e past ≡ true
     → IsCalmAt (stable_of past) (available (stable_of past) past) (e ∷ past) → RollsBack s o e past
@@ -55,7 +55,7 @@ rolls-back reach s o e past a may calm = record { allowed = may; back = λ xs ne
         active = after.active;
         preview = ap (λ b. cond b (newest_of new) (stable_of new)) after.ended ∙ after.stable;
         stable = after.stable;
-        stands = subst (λ (k : ℕ). stands_scaled s k new ≡ true) after.stable (reach s o new (step-allowed s o e past xs new now step)).stable;
+        exists_and_scaled = subst (λ (k : ℕ). exists_scaled s k new ≡ true) after.stable (reach s o new (step-allowed s o e past xs new now step)).stable;
         available = after.available_is;
         ended = after.ended;
       }

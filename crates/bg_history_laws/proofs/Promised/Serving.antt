@@ -1,4 +1,4 @@
--- A request that was open and hasn't left is served still.
+-- A request that was open and hasn't left is still open at its revision and port.
 use Rattle.std.proofs.Common.{◌≡◌, ℕ, Bool, ◌==◌, true, false, cond, List, [], ◌∷◌, ◌++◌, map, filter, find, Option, Some, None, is_some, refl, ap, sym, subst, ◌∙◌}
 use Rattle.std.proofs.lemmas.Option.{same_Some}
 use Rattle.bg_strategy.specs.declared.strategy.Strategy.{Strategy}
@@ -14,7 +14,7 @@ use Rattle.bg_history.specs.Deadlines.{exists_in, is_empty}
 use Rattle.bg_history.specs.Templates.{template}
 use Rattle.bg_history.specs.Allowed.{is_allowed}
 use Rattle.bg_history.specs.Steps.{all_allowed, is_opening, with_outcomes, Follows, Step}
-use Rattle.bg_history_laws.specs.Reachable.{stands_scaled, Reachable}
+use Rattle.bg_history_laws.specs.Reachable.{exists_scaled, Reachable}
 use Rattle.bg_history_laws.specs.Compaction.{Same}
 use Rattle.bg_history_laws.specs.OpenRequests.{open_request, is_leaving, is_outcome, stays, IsServed}
 use Rattle.bg_history_laws.proofs.Tests.{and_parts, both_ways, equal_itself, equal_numbers}
@@ -32,28 +32,28 @@ served reach s o later past q t opens a is there h =
     let same = stays-template_over o q.revision t later past there in
     record {
       open_still = still;
-      revision = found-all (λ x. x.number == q.number) (λ x. stands_scaled s x.revision (later ++ past)) q (open_requests (later ++ past)) still (reach s o (later ++ past) a).open_scaled;
+      revision = found-all (λ x. x.number == q.number) (λ x. exists_scaled s x.revision (later ++ past)) q (open_requests (later ++ past)) still (reach s o (later ++ past) a).open_scaled;
       template_is = same;
       port = ap (has_port q.port) (sym same)
           ∙ found-all (λ x. x.number == q.number) (λ x. has_port x.port (template o x.revision (later ++ past))) q (open_requests (later ++ past)) still (open-ports reach s o (later ++ past) opens a);
     }
 
--- each open request is served
+-- each open request is open at its revision and port
 pub served-now : ((s : Strategy) (o : Opening) (past : List Entry) → all_allowed s o past ≡ true → Reachable s o past)
     → (s : Strategy) (o : Opening) (past : List Entry) (q : Request) → is_opening s o ≡ true → all_allowed s o past ≡ true → open_request q.number past ≡ Some q
     → (t : Template) × IsServed s o q t past
-served-now reach s o past q opens a is = go (template o q.revision past) refl (there.templates q.revision (and_parts (exists_in q.revision past) (is_scaled s q.revision past) standing).0) where
+served-now reach s o past q opens a is = go (template o q.revision past) refl (there.templates q.revision (and_parts (exists_in q.revision past) (is_scaled s q.revision past) selected_scaled).0) where
   there : Reachable s o past
   there = reach s o past a
 
-  standing : stands_scaled s q.revision past ≡ true
-  standing = found-all (λ x. x.number == q.number) (λ x. stands_scaled s x.revision past) q (open_requests past) is there.open_scaled
+  selected_scaled : exists_scaled s q.revision past ≡ true
+  selected_scaled = found-all (λ x. x.number == q.number) (λ x. exists_scaled s x.revision past) q (open_requests past) is there.open_scaled
 
   go : (t : Option Template) → template o q.revision past ≡ t → is_some t ≡ true → (t : Template) × IsServed s o q t past
   go None same h = absurd (cc)
   go (Some t) same h = (t, served reach s o [] past q t opens a is same refl)
 
--- where a request of r is open, r has open requests
+-- if a request of r is open, r has open requests
 open-some : (p : Request → Bool) (q : Request) (xs : List Request) → find p xs ≡ Some q → is_empty (map (λ x. x.number) (filter (λ x. x.revision == q.revision) xs)) ≡ false
 open-some p q [] is = absurd (cc)
 open-some p q (x ∷ xs) is = go (p x) (x.revision == q.revision) refl is (open-some p q xs) where
@@ -63,17 +63,17 @@ open-some p q (x ∷ xs) is = go (p x) (x.revision == q.revision) refl is (open-
   go true false here is rest = let e : x ≡ q = same_Some x q is in both_ways (x.revision == q.revision) (ap (λ y. x.revision == y.revision) (sym e) ∙ equal_itself x.revision) here
   go false false here is rest = rest is
 
--- an entry keeps what is served, where it keeps the size of its revision and isn't its leaving
+-- an entry that isn't its Leave keeps the request served if it keeps the size of its revision
 served-kept : (s : Strategy) (o : Opening) (e : Entry) (past : List Entry) (q : Request) (t : Template) → IsServed s o q t past → is_leaving q.number e ≡ false
-    → stands_scaled s q.revision (e ∷ past) ≡ true → IsServed s o q t (e ∷ past)
-served-kept s o e past q t h other stands = record {
+    → exists_scaled s q.revision (e ∷ past) ≡ true → IsServed s o q t (e ∷ past)
+served-kept s o e past q t h other exists_and_scaled = record {
   open_still = stays-open q.number q e past other h.open_still;
-  revision = stands;
+  revision = exists_and_scaled;
   template_is = stays-template o q.revision t e past h.template_is;
   port = h.port;
 }
 
--- so does each event, whether it is allowed or not
+-- each other event keeps the request served, whether it is allowed or not
 served-event : (s : Strategy) (o : Opening) (e : Entry) (past : List Entry) (q : Request) (t : Template) → IsServed s o q t past → is_outcome e ≡ false → is_leaving q.number e ≡ false
     → IsServed s o q t (e ∷ past)
 served-event s o (Deploy r name ports) past q t h event other = served-kept s o (Deploy r name ports) past q t h other (stays-Deploy s q.revision r name ports past h.revision)
@@ -81,7 +81,7 @@ served-event s o Retry past q t h event other = served-kept s o Retry past q t h
 served-event s o (came x) past q t h event other = absurd (cc)
 served-event s o e past q t h event other = served-kept s o e past q t h other h.revision
 
--- and each outcome that is allowed
+-- each allowed outcome keeps the request served
 served-outcome : (s : Strategy) (o : Opening) (x : outcome.Outcome) (past : List Entry) (q : Request) (t : Template) → IsServed s o q t past → is_allowed s o (came x) past ≡ true
     → IsServed s o q t (came x ∷ past)
 served-outcome s o (Resumed r) past q t h may = served-kept s o (came (Resumed r)) past q t h refl (stays-Resumed s q.revision r past h.revision)
@@ -103,13 +103,13 @@ served-outcomes : (s : Strategy) (o : Opening) (xs : List outcome.Outcome) (past
 served-outcomes s o [] past q t f h = h
 served-outcomes s o (x ∷ xs) past q t f h = served-outcome s o x (with_outcomes xs past) q t (served-outcomes s o xs past q t f.0 h) (first-allowed s o (with_outcomes xs past) x f.1)
 
--- so does each step but its leaving
+-- each step other than its Leave keeps the request served
 pub served-step : (s : Strategy) (o : Opening) (e : Entry) (past : List Entry) (xs : List outcome.Outcome) (new : List Entry) (q : Request) (t : Template)
     → IsServed s o q t past → is_outcome e ≡ false → is_leaving q.number e ≡ false → Step s e past xs new → IsServed s o q t new
 served-step s o e past xs new q t h event other step =
     subst (λ (p : List Entry). IsServed s o q t p) (sym step.new_is) (served-outcomes s o xs (e ∷ past) q t step.follow (served-event s o e past q t h event other))
 
--- a past that answers alike serves it
+-- the request is served in a past that gives the same answers
 pub served-compacted : (s : Strategy) (o : Opening) (past : List Entry) (q : Request) (t : Template) → Same s o past (compacted past) → IsServed s o q t past → IsServed s o q t (compacted past)
 served-compacted s o past q t same h = record {
   open_still = ap (find (λ x. x.number == q.number)) (sym same.held) ∙ h.open_still;

@@ -1,4 +1,4 @@
--- How many endpoints are wanted of the newest revision while its attempt runs.
+-- How many endpoints the newest revision wants while its attempt runs.
 use Rattle.std.proofs.Common.{◌≡◌, ◌≤◌, ℕ, Bool, true, false, not, ◌==◌, ◌&&◌, List, [], ◌∷◌, arith, ap, sym, ◌∙◌}
 use Rattle.std.proofs.lemmas.Bool.Decides.{nat_tests}
 use Rattle.bg_strategy.specs.declared.strategy.Strategy.{Strategy}
@@ -26,7 +26,7 @@ at_least-raised false n size is = absurd (cc)
 pub down-not_newest : (s : Strategy) (r : ℕ) (past : List Entry) → is_running past ≡ true → may_scale_down s r past ≡ true → (r == newest_of past) ≡ false
 down-not_newest s r past runs h = grind (arith, nat_tests)
 
--- so at least the preview's size is wanted of it
+-- so it wants at least the preview's size
 pub running-desired : (s : Strategy) (o : Opening) (past : List Entry) → all_allowed s o past ≡ true → is_running past ≡ true → s.preview_replicas ≤ desired s (newest_of past) past
 running-desired s o [] a runs = absurd (cc)
 running-desired s o (Deploy r name ports ∷ before) a runs =
@@ -44,7 +44,7 @@ running-desired s o (Outcome (ScaledDown r) ∷ before) a runs =
     rw (down-not_newest s r before runs (allowed_now s o (Outcome (ScaledDown r)) before a)) (running-desired s o before (allowed_before s o (Outcome (ScaledDown r)) before a) runs)
 running-desired s o (e ∷ before) a runs = running-desired s o before (allowed_before s o e before a) runs
 
--- and once it was resumed the full size
+-- once it was resumed, it wants full size
 pub resumed-desired : (s : Strategy) (o : Opening) (past : List Entry) → all_allowed s o past ≡ true → has_resumed past ≡ true → s.replicas ≤ desired s (newest_of past) past
 resumed-desired s o [] a h = absurd (cc)
 resumed-desired s o (Deploy r name ports ∷ before) a h = absurd (cc)

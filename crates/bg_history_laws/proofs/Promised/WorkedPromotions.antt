@@ -7,7 +7,7 @@ use Rattle.bg_history.specs.Sizes.{available}
 use Rattle.bg_history.specs.Steps.{all_allowed}
 use Rattle.bg_history_laws.proofs.Promised.Examples.{plain, careful, sparse, opening, call, go_on, live, begun}
 
--- three calls: promote full, one endpoint for the preview, both
+-- three calls: a full promotion, a report of one endpoint for the preview, and a report of both
 begun-after_1 : newest_of (go_on 1 careful begun) ≡ 2
 begun-after_1 = refl
 
@@ -26,19 +26,19 @@ begun-stable = refl
 begun-legal : all_allowed careful opening (go_on 3 careful begun) ≡ true
 begun-legal = refl
 
--- one call where the analysis after the switch is awaited
+-- one call, while the analysis after the switch is awaited
 live-ended_after_1 : stable_of (go_on 1 sparse live) ≡ 2
 live-ended_after_1 = refl
 
--- one call after a retry, where the endpoints are there still
+-- one call after a retry, if the endpoints are still available
 retried-ended_after_1 : active_of (go_on 1 sparse (call sparse Retry (call sparse Abort live))) ≡ 2
 retried-ended_after_1 = refl
 
--- where no more is wanted than before the switch, two calls
+-- two calls, if full size is no more than the size before the switch
 plain-ended_after_2 : stable_of (go_on 2 (record careful { some_preview = plain.some_preview; few_previews = plain.few_previews; preview_replicas = 2 }) begun) ≡ 2
 plain-ended_after_2 = refl
 
--- a revision that lost its endpoints after the switch is promoted without them: no size is promised
+-- a revision that lost its endpoints after the switch is promoted without them: the law promises no size
 lost-legal : all_allowed sparse opening (go_on 1 sparse (call sparse (Available 2 0) live)) ≡ true
 lost-legal = refl
 

@@ -1,4 +1,4 @@
--- Worked histories of rolling back. Each is read from its last line up, the oldest entry first.
+-- Worked histories of rollbacks. Read each from its last line up: the oldest entry is first.
 use Rattle.std.proofs.Common.{◌≡◌, true, false, [], ◌∷◌, refl}
 use Rattle.bg_history.specs.declared.entry.Entry.TheVariants.{Available, Verdict, Abort, Retry}
 use Rattle.bg_history.specs.declared.entry.Analysis.TheVariants.{Pre, Post}
@@ -18,7 +18,7 @@ live_is_settled = refl
 live_is_legal : all_allowed sparse opening live ≡ true
 live_is_legal = refl
 
--- the stable revision is still scaled, whatever the limit for old revisions is
+-- the stable revision is still scaled, regardless of the limit for old revisions
 live-stable : available 1 live ≡ 2
 live-stable = refl
 
@@ -34,14 +34,14 @@ aborted-preview = refl
 aborted-stable : available 1 (call sparse Abort live) ≡ 2
 aborted-stable = refl
 
--- where aborted revisions have no delay, the new one stays scaled
+-- if the strategy has no delay for aborted revisions, the new one stays scaled
 aborted-newest : desired sparse 2 (call sparse Abort live) ≡ 2
 aborted-newest = refl
 
 failed-active : active_of (call sparse (Verdict Post Failed) live) ≡ 1
 failed-active = refl
 
--- a deploy of the stable revision's template does the same; with no old revision kept the other is removed at once
+-- a deploy of the stable revision does the same; if the strategy keeps no old revision, the other is removed at once
 revert_is_allowed : is_allowed sparse opening deploy_1 live ≡ true
 revert_is_allowed = refl
 
@@ -51,19 +51,19 @@ reverted-active = refl
 reverted-existing : existing (call sparse deploy_1 live) ≡ 1 ∷ []
 reverted-existing = refl
 
--- after an abort too
+-- it is also allowed after an abort
 aborted-revert : is_allowed sparse opening deploy_1 (call sparse Abort live) ≡ true
 aborted-revert = refl
 
--- but not where the stable revision is the newest, as at the opening
+-- it isn't allowed if the stable revision is the newest one, as at the opening
 revert_of_the_newest : is_allowed sparse opening deploy_1 [] ≡ false
 revert_of_the_newest = refl
 
--- nor is there anything to abort
+-- then an abort isn't allowed either
 abort_of_none : is_allowed sparse opening Abort [] ≡ false
 abort_of_none = refl
 
--- the stable revision has as many endpoints as before, and that may be none
+-- the stable revision has as many endpoints as before, which may be none
 none-before : available 1 (call careful deploy_2 []) ≡ 0
 none-before = refl
 
@@ -77,6 +77,6 @@ retried-active = refl
 retried-abort : is_allowed sparse opening Abort (call sparse Retry (call sparse Abort (call sparse (Available 2 0) live))) ≡ true
 retried-abort = refl
 
--- with an analysis before the switch that fails, both services select the stable revision
+-- after the analysis before the switch failed, both services select the stable revision
 pre_failed-preview : preview_of (call careful (Verdict Pre Failed) (call careful (Available 2 1) (call careful deploy_2 []))) ≡ 1
 pre_failed-preview = refl

@@ -1,4 +1,4 @@
--- What an entry that is allowed tells of the past before it.
+-- What an allowed entry says of the past before it.
 use Rattle.std.proofs.Common.{◌≡◌, ◌<◌, ◌+◌, ℕ, Bool, true, false, not, cond, ◌==◌, ◌&&◌, nat_lt, List, [], ◌∷◌, length, filter, Option, Some, None, refl, arith, ap, sym, ◌∙◌, ◌⊎◌, inl, inr}
 use Rattle.std.proofs.lemmas.Bool.Decides.{nat_tests}
 use Rattle.bg_strategy.specs.declared.strategy.Strategy.{Strategy}
@@ -18,15 +18,15 @@ use Rattle.bg_history.specs.Steps.{all_allowed}
 use Rattle.bg_history_laws.proofs.Tests.{and_parts, not_true, equal_numbers}
 use Rattle.bg_history_laws.proofs.Finding.{found, none-passes}
 
--- of a past whose entries were allowed, the newest was allowed
+-- the newest entry of a past whose entries were allowed was allowed
 pub allowed_now : (s : Strategy) (o : Opening) (e : Entry) (before : List Entry) → all_allowed s o (e ∷ before) ≡ true → is_allowed s o e before ≡ true
 allowed_now s o e before h = (and_parts (is_allowed s o e before) (all_allowed s o before) h).0
 
--- and those before it were
+-- the entries before it were allowed
 pub allowed_before : (s : Strategy) (o : Opening) (e : Entry) (before : List Entry) → all_allowed s o (e ∷ before) ≡ true → all_allowed s o before ≡ true
 allowed_before s o e before h = (and_parts (is_allowed s o e before) (all_allowed s o before) h).1
 
--- an attempt is of the newest revision
+-- an attempt belongs to the newest revision
 attempts-newest : (r : ℕ) (past : List Entry) → attempts r past ≡ true → r ≡ newest_of past
 attempts-newest r past h = equal_numbers r (newest_of past) (and_parts (is_running past) (r == newest_of past) h).1
 
@@ -40,11 +40,11 @@ switched-attempts : (s : Strategy) (r : ℕ) (past : List Entry) → may_switch 
 switched-attempts s r past h =
     (and_parts (attempts r past) (has_resumed past) (and_parts _ (not (has_switched past)) (and_parts _ (available r past == s.replicas) h).0).0).0
 
--- so it is to the newest revision
+-- so a switch is to the newest revision
 pub switched-newest : (s : Strategy) (r : ℕ) (past : List Entry) → may_switch s r past ≡ true → r ≡ newest_of past
 switched-newest s r past h = attempts-newest r past (switched-attempts s r past h)
 
--- and the attempt runs
+-- a switch comes while the attempt runs
 pub switched-running : (s : Strategy) (r : ℕ) (past : List Entry) → may_switch s r past ≡ true → is_running past ≡ true
 switched-running s r past h = (and_parts (is_running past) (r == newest_of past) (switched-attempts s r past h)).0
 
@@ -52,25 +52,25 @@ switched-running s r past h = (and_parts (is_running past) (r == newest_of past)
 promoted-parts : (s : Strategy) (r : ℕ) (past : List Entry) → may_promote s r past ≡ true → (attempts r past ≡ true) × (has_switched past ≡ true)
 promoted-parts s r past h = and_parts (attempts r past) (has_switched past) (and_parts (attempts r past && has_switched past) _ h).0
 
--- so it is of the newest revision
+-- so a promotion is of the newest revision
 pub promoted-newest : (s : Strategy) (r : ℕ) (past : List Entry) → may_promote s r past ≡ true → r ≡ newest_of past
 promoted-newest s r past h = attempts-newest r past (promoted-parts s r past h).0
 
--- whose attempt runs
+-- a promotion comes while the attempt of its revision runs
 pub promoted-running : (s : Strategy) (r : ℕ) (past : List Entry) → may_promote s r past ≡ true → is_running past ≡ true
 promoted-running s r past h = (and_parts (is_running past) (r == newest_of past) (promoted-parts s r past h).0).0
 
--- and comes after the switch
+-- a promotion comes after the switch
 pub promoted-switched : (s : Strategy) (r : ℕ) (past : List Entry) → may_promote s r past ≡ true → has_switched past ≡ true
 promoted-switched s r past h = (promoted-parts s r past h).1
 
--- what a revision that is scaled down is: not selected, due by its mark, and without an open request
+-- a revision that is scaled down isn't selected, is due by its mark, and has no open request
 pub record ScalesDown (s : Strategy) (r : ℕ) (past : List Entry) : Type 0 where
   pub unselected : is_selected r past ≡ false
   pub due : marks_due s (mark s r past) past ≡ true
   pub empty : is_empty (open_at r past) ≡ true
 
--- each that is allowed to be scaled down is that
+-- this holds of each revision that may be scaled down
 pub scaled_down : (s : Strategy) (r : ℕ) (past : List Entry) → may_scale_down s r past ≡ true → ScalesDown s r past
 scaled_down s r past h =
     let both = and_parts (exists_in r past && is_spare s r past && marks_due s (mark s r past) past) (is_empty (open_at r past)) h in
@@ -79,7 +79,7 @@ scaled_down s r past h =
     let two = and_parts (is_scaled s r past) (not (is_selected r past)) spare.1 in
     record { unselected = not_true (is_selected r past) two.1; due = due.1; empty = both.1 }
 
--- the first that passes a test passes it
+-- the first element that passes a test passes it
 first-passes : (p : ℕ → Bool) (r : ℕ) (xs : List ℕ) → is_first r (filter p xs) ≡ true → p r ≡ true
 first-passes p r [] h = absurd (cc)
 first-passes p r (x ∷ xs) h = go (p x) refl h (first-passes p r xs) where
@@ -104,13 +104,13 @@ pub record Returns (o : Opening) (r : ℕ) (name ports : List ℕ) (past : List 
   pub exists : exists_in r past ≡ true
   pub same : is_template name ports (template o r past) ≡ true
 
--- or it has the next number, there is room for it, and no revision has the name
+-- or it has the next number, there is room for it, and no revision has its name
 pub record Begins (o : Opening) (r : ℕ) (name : List ℕ) (past : List Entry) : Type 0 where
   pub next : r ≡ last_number past + 1
   pub room : length (existing past) < 64
   pub free : (q : ℕ) → exists_in q past ≡ true → is_named name (template o q past) ≡ false
 
--- which of the two is told by the owner of the name
+-- the owner of the name decides which of the two holds
 deployed-owner : (o : Opening) (r : ℕ) (name ports : List ℕ) (past : List Entry) (q : Option ℕ) → owner o name past ≡ q → fits_owner o q r ports past ≡ true
     → Returns o r name ports past ⊎ Begins o r name past
 deployed-owner o r name ports past None is h =
@@ -130,13 +130,13 @@ deployed-owner o r name ports past (Some q) is h =
       same = rw (← e, here.0, both.1) refl;
     })
 
--- each deploy is one of the two
+-- one of the two holds for each deploy
 pub deployed : (s : Strategy) (o : Opening) (r : ℕ) (name ports : List ℕ) (past : List Entry) → may_deploy s o r name ports past ≡ true
     → Returns o r name ports past ⊎ Begins o r name past
 deployed s o r name ports past h =
     deployed-owner o r name ports past (owner o name past) refl (and_parts _ (fits_owner o (owner o name past) r ports past) h).1
 
--- and none is of the newest revision's template
+-- no deploy has the newest revision's template
 pub deployed-other : (s : Strategy) (o : Opening) (r : ℕ) (name ports : List ℕ) (past : List Entry) → may_deploy s o r name ports past ≡ true
     → is_template name ports (template o (newest_of past) past) ≡ false
 deployed-other s o r name ports past h =

@@ -1,4 +1,4 @@
--- All that holds of a past whose entries were allowed.
+-- Everything that holds of a past whose entries were allowed.
 use Rattle.std.proofs.Common.{◌≡◌, true, List, is_some, ap}
 use Rattle.bg_strategy.specs.declared.strategy.Strategy.{Strategy}
 use Rattle.bg_history.specs.declared.entry.Entry.{Entry}
@@ -12,26 +12,26 @@ use Rattle.bg_history_laws.proofs.Reached.Sizes.{desired-most, available-most}
 use Rattle.bg_history_laws.proofs.Reached.Numbers as number
 use Rattle.bg_history_laws.proofs.Reached.Unmarked.{active_unmarked}
 use Rattle.bg_history_laws.proofs.Reached.Steady.{preview_unmarked}
-use Rattle.bg_history_laws.proofs.Reached.Selected.{Standing, standing, standing-preview}
+use Rattle.bg_history_laws.proofs.Reached.Selected.{SelectedScaled, selected_scaled, selected_scaled-preview}
 use Rattle.bg_history_laws.proofs.Reached.Marked.{marked}
 use Rattle.bg_history_laws.proofs.Reached.Requests as requests
 
--- each part stands in the file of its subject
+-- the file of each subject has the proof of its part
 pub reaching : ((past : List Entry) → Ascends (existing past)) → (s : Strategy) (o : Opening) (past : List Entry) → all_allowed s o past ≡ true → Reachable s o past
 reaching ascends s o past a =
-    let stand : Standing s past = standing s o past a in
+    let represents : SelectedScaled s past = selected_scaled s o past a in
     record {
-      active = stand.active;
-      preview = standing-preview s past stand;
-      stable = stand.stable;
-      newest = stand.newest;
+      active = represents.active;
+      preview = selected_scaled-preview s past represents;
+      stable = represents.stable;
+      newest = represents.newest;
       desired_most = λ r. desired-most s r past;
       available_most = λ r. available-most s o r past a;
       given_from = λ r. number.given_from s o r past a;
       given_to = λ r. number.given_to r past;
-      unborn_size = λ r. number.unborn_size s o r past a;
-      unborn_available = λ r. number.unborn_available s o r past a;
-      unborn_template = λ r. number.unborn_template o r past;
+      undeployed_size = λ r. number.undeployed_size s o r past a;
+      undeployed_available = λ r. number.undeployed_available s o r past a;
+      undeployed_template = λ r. number.undeployed_template o r past;
       templates = λ r. number.templates o r past;
       few = number.few s o past ascends a;
       numbers = number.numbers s o past a;

@@ -16,14 +16,14 @@ use Rattle.bg_history.specs.Requests.{Request, open_requests, open_at, held_by, 
 use Rattle.bg_history.specs.Deadlines.{exists_in, is_empty}
 use Rattle.bg_history.specs.Allowed.{selection, has_value, port_of, may_enter}
 use Rattle.bg_history.specs.Steps.{all_allowed}
-use Rattle.bg_history_laws.specs.Reachable.{stands_scaled}
+use Rattle.bg_history_laws.specs.Reachable.{exists_scaled}
 use Rattle.bg_history_laws.proofs.Tests.{and_parts, and_both, equal_numbers}
 use Rattle.bg_history_laws.proofs.Reached.Allowing.{allowed_now, allowed_before, scaled_down, removed}
 use Rattle.bg_history_laws.proofs.Reached.Staying.{stays-Deploy, stays-Retry, stays-Resumed, stays-ScaledDown, stays-Removed}
-use Rattle.bg_history_laws.proofs.Reached.Selected.{Standing, standing, standing-preview}
+use Rattle.bg_history_laws.proofs.Reached.Selected.{SelectedScaled, selected_scaled, selected_scaled-preview}
 use Rattle.bg_history_laws.proofs.Lists.{all_filter, all_weaker}
 
--- where none is at r, all stay that stay at another revision
+-- if no request is at r and all pass p, all pass a test q that p implies at each other revision
 all_elsewhere : (p q : Request → Bool) (r : ℕ) → ((x : Request) → (r == x.revision) ≡ false → p x ≡ true → q x ≡ true) → (xs : List Request)
     → is_empty (map (λ x. x.number) (filter (λ x. x.revision == r) xs)) ≡ true → list_all p xs ≡ true → list_all q xs ≡ true
 all_elsewhere p q r f [] none h = refl
@@ -36,14 +36,14 @@ all_elsewhere p q r f (x ∷ xs) none h =
       go false is none here rest = and_both (q x) (list_all q xs) (f x (grind (arith, nat_tests)) here) (rest none)
 
 -- a request enters at the active or the preview revision
-entered : (s : Strategy) (service : Service) (r : ℕ) (before : List Entry) → Standing s before → has_value r (selection s service before) ≡ true → stands_scaled s r before ≡ true
-entered s service.Active r before h is = subst (λ (k : ℕ). stands_scaled s k before ≡ true) (equal_numbers (active_of before) r is) h.active
+entered : (s : Strategy) (service : Service) (r : ℕ) (before : List Entry) → SelectedScaled s before → has_value r (selection s service before) ≡ true → exists_scaled s r before ≡ true
+entered s service.Active r before h is = subst (λ (k : ℕ). exists_scaled s k before ≡ true) (equal_numbers (active_of before) r is) h.active
 entered s service.Preview r before h is = go (is_some s.preview_service) is where
-  go : (b : Bool) → has_value r (cond b (Some (preview_of before)) None) ≡ true → stands_scaled s r before ≡ true
-  go true is = subst (λ (k : ℕ). stands_scaled s k before ≡ true) (equal_numbers (preview_of before) r is) (standing-preview s before h)
+  go : (b : Bool) → has_value r (cond b (Some (preview_of before)) None) ≡ true → exists_scaled s r before ≡ true
+  go true is = subst (λ (k : ℕ). exists_scaled s k before ≡ true) (equal_numbers (preview_of before) r is) (selected_scaled-preview s before h)
   go false is = absurd (cc)
 
--- which a request that may enter is given
+-- a request that may enter gets the active or the preview revision
 may_enter-selected : (s : Strategy) (o : Opening) (seat : ℕ) (service : Service) (number r port : ℕ) (before : List Entry) → may_enter s o seat service number r port before ≡ true
     → has_value r (selection s service before) ≡ true
 may_enter-selected s o seat service number r port before h =
@@ -52,39 +52,39 @@ may_enter-selected s o seat service number r port before h =
     (and_parts _ (list_all (λ n. nat_lt n number) (request_numbers before))
     (and_parts _ (has_value port (port_of o r number before)) h).0).0).0).1
 
--- each open request is at a revision that exists and is scaled, in each past whose entries were allowed
-pub open_scaled : (s : Strategy) (o : Opening) (past : List Entry) → all_allowed s o past ≡ true → list_all (λ q. stands_scaled s q.revision past) (open_requests past) ≡ true
+-- in each past whose entries were allowed, each open request is at a revision that exists and is scaled
+pub open_scaled : (s : Strategy) (o : Opening) (past : List Entry) → all_allowed s o past ≡ true → list_all (λ q. exists_scaled s q.revision past) (open_requests past) ≡ true
 open_scaled s o [] a = refl
 open_scaled s o (Enter seat service number r port ∷ before) a =
     let earlier = allowed_before s o (Enter seat service number r port) before a in
     let selected = may_enter-selected s o seat service number r port before (allowed_now s o (Enter seat service number r port) before a) in
     let new : Request = record { seat = seat; number = number; revision = r; port = port } in
-    list_all-append (λ q. stands_scaled s q.revision before) (open_requests before) (new ∷ [])
-    ∙ and_both (list_all (λ q. stands_scaled s q.revision before) (open_requests before)) (stands_scaled s r before && true) (open_scaled s o before earlier)
-    (and_both (stands_scaled s r before) true (entered s service r before (standing s o before earlier) selected) refl)
+    list_all-append (λ q. exists_scaled s q.revision before) (open_requests before) (new ∷ [])
+    ∙ and_both (list_all (λ q. exists_scaled s q.revision before) (open_requests before)) (exists_scaled s r before && true) (open_scaled s o before earlier)
+    (and_both (exists_scaled s r before) true (entered s service r before (selected_scaled s o before earlier) selected) refl)
 open_scaled s o (Leave seat number r ∷ before) a =
-    all_filter (λ q. stands_scaled s q.revision before) (λ q. not (q.number == number)) (open_requests before) (open_scaled s o before (allowed_before s o (Leave seat number r) before a))
+    all_filter (λ q. exists_scaled s q.revision before) (λ q. not (q.number == number)) (open_requests before) (open_scaled s o before (allowed_before s o (Leave seat number r) before a))
 open_scaled s o (Deploy r name ports ∷ before) a =
-    all_weaker (λ q. stands_scaled s q.revision before) (λ q. stands_scaled s q.revision (Deploy r name ports ∷ before)) (λ q. stays-Deploy s q.revision r name ports before)
+    all_weaker (λ q. exists_scaled s q.revision before) (λ q. exists_scaled s q.revision (Deploy r name ports ∷ before)) (λ q. stays-Deploy s q.revision r name ports before)
     (open_requests before) (open_scaled s o before (allowed_before s o (Deploy r name ports) before a))
 open_scaled s o (Retry ∷ before) a =
-    all_weaker (λ q. stands_scaled s q.revision before) (λ q. stands_scaled s q.revision (Retry ∷ before)) (λ q. stays-Retry s q.revision before)
+    all_weaker (λ q. exists_scaled s q.revision before) (λ q. exists_scaled s q.revision (Retry ∷ before)) (λ q. stays-Retry s q.revision before)
     (open_requests before) (open_scaled s o before (allowed_before s o Retry before a))
 open_scaled s o (Outcome (Resumed r) ∷ before) a =
-    all_weaker (λ q. stands_scaled s q.revision before) (λ q. stands_scaled s q.revision (Outcome (Resumed r) ∷ before)) (λ q. stays-Resumed s q.revision r before)
+    all_weaker (λ q. exists_scaled s q.revision before) (λ q. exists_scaled s q.revision (Outcome (Resumed r) ∷ before)) (λ q. stays-Resumed s q.revision r before)
     (open_requests before) (open_scaled s o before (allowed_before s o (Outcome (Resumed r)) before a))
 open_scaled s o (Outcome (ScaledDown r) ∷ before) a =
-    all_elsewhere (λ q. stands_scaled s q.revision before) (λ q. stands_scaled s q.revision (Outcome (ScaledDown r) ∷ before)) r
+    all_elsewhere (λ q. exists_scaled s q.revision before) (λ q. exists_scaled s q.revision (Outcome (ScaledDown r) ∷ before)) r
     (λ q other. stays-ScaledDown s q.revision r before other) (open_requests before)
     (scaled_down s r before (allowed_now s o (Outcome (ScaledDown r)) before a)).empty
     (open_scaled s o before (allowed_before s o (Outcome (ScaledDown r)) before a))
 open_scaled s o (Outcome (Removed r) ∷ before) a =
     let unscaled = removed s r before (allowed_now s o (Outcome (Removed r)) before a) in
-    all_weaker (λ q. stands_scaled s q.revision before) (λ q. stands_scaled s q.revision (Outcome (Removed r) ∷ before)) (λ q. stays-Removed s q.revision r before unscaled)
+    all_weaker (λ q. exists_scaled s q.revision before) (λ q. exists_scaled s q.revision (Outcome (Removed r) ∷ before)) (λ q. stays-Removed s q.revision r before unscaled)
     (open_requests before) (open_scaled s o before (allowed_before s o (Outcome (Removed r)) before a))
 open_scaled s o (e ∷ before) a = open_scaled s o before (allowed_before s o e before a)
 
--- where all are at a revision that passes, none is at one that doesn't
+-- if all requests are at revisions that pass a test, none is at one that fails it
 none_at : (t : ℕ → Bool) (r : ℕ) (xs : List Request) → t r ≡ false → list_all (λ x. t x.revision) xs ≡ true → map (λ x. x.number) (filter (λ x. x.revision == r) xs) ≡ []
 none_at t r [] fails h = refl
 none_at t r (x ∷ xs) fails h =
@@ -101,5 +101,5 @@ none_at t r (x ∷ xs) fails h =
 pub unscaled_empty : (s : Strategy) (o : Opening) (r : ℕ) (past : List Entry) → all_allowed s o past ≡ true → is_scaled s r past ≡ false → open_at r past ≡ []
 unscaled_empty s o r past a unscaled =
     none_at (λ q. is_scaled s q past) r (open_requests past) unscaled
-    (all_weaker (λ q. stands_scaled s q.revision past) (λ q. is_scaled s q.revision past) (λ q h. (and_parts (exists_in q.revision past) (is_scaled s q.revision past) h).1)
+    (all_weaker (λ q. exists_scaled s q.revision past) (λ q. is_scaled s q.revision past) (λ q h. (and_parts (exists_in q.revision past) (is_scaled s q.revision past) h).1)
     (open_requests past) (open_scaled s o past a))

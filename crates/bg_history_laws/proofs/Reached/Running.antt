@@ -1,4 +1,4 @@
--- While an attempt runs, and once it was stopped, the newest revision isn't the stable one.
+-- While an attempt runs, and after it was halted, the newest revision isn't the stable one.
 use Rattle.std.proofs.Common.{◌≡◌, Bool, true, false, not, ◌==◌, ◌&&◌, ◌||◌, List, [], ◌∷◌, refl}
 use Rattle.bg_strategy.specs.declared.strategy.Strategy.{Strategy}
 use Rattle.bg_history.specs.declared.entry.Entry.{Entry}
@@ -21,7 +21,7 @@ this_or_earlier test true earlier rest h = refl
 this_or_earlier true false earlier rest h = rest h
 this_or_earlier false false earlier rest h = rest h
 
--- what stands in an attempt stands in one that runs
+-- an entry of the running attempt implies that an attempt runs
 pub in_attempt-running : (test : Entry → Bool) (past : List Entry) → in_attempt test past ≡ true → is_running past ≡ true
 in_attempt-running test [] h = absurd (cc)
 in_attempt-running test (Deploy r name ports ∷ before) h = absurd (cc)
@@ -32,7 +32,7 @@ in_attempt-running test (Verdict analysis Failed ∷ before) h = absurd (cc)
 in_attempt-running test (Verdict analysis Error ∷ before) h = absurd (cc)
 in_attempt-running test (e ∷ before) h = this_or_earlier (test e) (is_running before) (in_attempt test before) (in_attempt-running test before) h
 
--- an analysis is awaited in an attempt that runs
+-- an analysis is awaited only while an attempt runs
 awaits-running : (s : Strategy) (analysis : Analysis) (past : List Entry) → awaits analysis s past ≡ true → is_running past ≡ true
 awaits-running s Pre past h =
     let unpassed = and_parts (has_ready past && not (has_resumed past) && s.pre) (not (is_passed s past)) h in
@@ -40,7 +40,7 @@ awaits-running s Pre past h =
     in_attempt-running is_ready past (and_parts (has_ready past) (not (has_resumed past)) unresumed.0).0
 awaits-running s Post past h = in_attempt-running is_switched past (and_parts (has_switched past) s.post h).0
 
--- what stops an attempt comes while one runs
+-- an entry halts an attempt only while one runs
 pub halt-running : (s : Strategy) (o : Opening) (e : Entry) (before : List Entry) → all_allowed s o (e ∷ before) ≡ true → is_halt e ≡ true → is_running before ≡ true
 halt-running s o Abort before a h = allowed_now s o Abort before a
 halt-running s o (Verdict analysis Failed) before a h = awaits-running s analysis before (allowed_now s o (Verdict analysis Failed) before a)

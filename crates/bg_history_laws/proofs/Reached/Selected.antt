@@ -13,7 +13,7 @@ use Rattle.bg_history.specs.Sizes.{begins, at_least, desired, is_scaled}
 use Rattle.bg_history.specs.Marks.{Left, Superseded, Aborted, Cleared, Mark, MarkKind, mark}
 use Rattle.bg_history.specs.Deadlines.{exists_in, deadline_of, deadline, time_of, marks_due}
 use Rattle.bg_history.specs.Steps.{all_allowed}
-use Rattle.bg_history_laws.specs.Reachable.{stands_scaled}
+use Rattle.bg_history_laws.specs.Reachable.{exists_scaled}
 use Rattle.bg_history_laws.proofs.Tests.{and_parts, and_both, equal_itself, equal_numbers}
 use Rattle.bg_history_laws.proofs.Reached.Existing.{exists-Deploy, exists-Removed}
 use Rattle.bg_history_laws.proofs.Reached.Allowing.{allowed_now, allowed_before, ScalesDown, scaled_down, removed, removed-older, switched-newest, switched-running, promoted-newest, promoted-running}
@@ -21,72 +21,72 @@ use Rattle.bg_history_laws.proofs.Reached.Unmarked.{newest_unmarked}
 use Rattle.bg_history_laws.proofs.Reached.Staying.{scaled-more, stays-Deploy, stays-Retry, stays-Resumed, stays-ScaledDown, stays-Removed}
 
 -- the active and the stable revision exist and are scaled, the newest one exists, and is scaled while its attempt runs
-pub record Standing (s : Strategy) (past : List Entry) : Type 0 where
-  pub active : stands_scaled s (active_of past) past ≡ true
-  pub stable : stands_scaled s (stable_of past) past ≡ true
+pub record SelectedScaled (s : Strategy) (past : List Entry) : Type 0 where
+  pub active : exists_scaled s (active_of past) past ≡ true
+  pub stable : exists_scaled s (stable_of past) past ≡ true
   pub newest : exists_in (newest_of past) past ≡ true
-  pub running : is_running past ≡ true → stands_scaled s (newest_of past) past ≡ true
+  pub running : is_running past ≡ true → exists_scaled s (newest_of past) past ≡ true
 
--- revision 1 does at the opening
-standing-opening : (s : Strategy) → Standing s []
-standing-opening s =
-    let first : stands_scaled s 1 [] ≡ true = scaled-more 1 s.replicas s.some_replica refl in
+-- this holds at the opening
+selected_scaled-opening : (s : Strategy) → SelectedScaled s []
+selected_scaled-opening s =
+    let first : exists_scaled s 1 [] ≡ true = scaled-more 1 s.replicas s.some_replica refl in
     record { active = first; stable = first; newest = refl; running = λ h. first }
 
--- a size that an attempt begins with is some
+-- an attempt begins with a size above 0
 raised : (b : Bool) (n size : ℕ) → 1 ≤ n → b ≡ true → nat_le 1 (at_least b n size) ≡ true
 raised true n size some is = scaled-more 1 (max n size) (omega arith) refl
 raised false n size some is = absurd (cc)
 
--- the deployed one does, as the stable one or since its attempt begins
-standing-deployed : (s : Strategy) (r : ℕ) (name ports : List ℕ) (before : List Entry) → stands_scaled s (stable_of before) before ≡ true
-    → stands_scaled s r (Deploy r name ports ∷ before) ≡ true
-standing-deployed s r name ports before stable = go (r == stable_of before) refl where
-  go : (b : Bool) → (r == stable_of before) ≡ b → stands_scaled s r (Deploy r name ports ∷ before) ≡ true
+-- this holds of the deployed revision: it is the stable one, or its attempt begins
+selected_scaled-deployed : (s : Strategy) (r : ℕ) (name ports : List ℕ) (before : List Entry) → exists_scaled s (stable_of before) before ≡ true
+    → exists_scaled s r (Deploy r name ports ∷ before) ≡ true
+selected_scaled-deployed s r name ports before stable = go (r == stable_of before) refl where
+  go : (b : Bool) → (r == stable_of before) ≡ b → exists_scaled s r (Deploy r name ports ∷ before) ≡ true
   go true is =
-      stays-Deploy s r r name ports before (subst (λ (k : ℕ). stands_scaled s k before ≡ true) (sym (equal_numbers r (stable_of before) is)) stable)
+      stays-Deploy s r r name ports before (subst (λ (k : ℕ). exists_scaled s k before ≡ true) (sym (equal_numbers r (stable_of before) is)) stable)
   go false is =
       and_both (exists_in r (Deploy r name ports ∷ before)) (is_scaled s r (Deploy r name ports ∷ before))
       (exists-Deploy r r name ports before ∙ ap (λ b. b || exists_in r before) (equal_itself r))
       (raised (begins r (Deploy r name ports) before) s.preview_replicas (desired s r before) s.some_preview (rw (equal_itself r, is) refl))
 
--- the newest one does after a retry, at which its attempt begins
-standing-retried : (s : Strategy) (before : List Entry) → exists_in (newest_of before) before ≡ true → stands_scaled s (newest_of before) (Retry ∷ before) ≡ true
-standing-retried s before exists =
+-- this holds of the newest revision after a retry, which begins its attempt
+selected_scaled-retried : (s : Strategy) (before : List Entry) → exists_in (newest_of before) before ≡ true → exists_scaled s (newest_of before) (Retry ∷ before) ≡ true
+selected_scaled-retried s before exists =
     and_both (exists_in (newest_of before) before) (is_scaled s (newest_of before) (Retry ∷ before)) exists
     (raised (begins (newest_of before) Retry before) s.preview_replicas (desired s (newest_of before) before) s.some_preview (equal_itself (newest_of before)))
 
--- they do after a deploy, at which the active one stays or is the deployed one
-standing-Deploy : (s : Strategy) (r : ℕ) (name ports : List ℕ) (before : List Entry) → Standing s before → Standing s (Deploy r name ports ∷ before)
-standing-Deploy s r name ports before h =
-    let new = standing-deployed s r name ports before h.stable in
+-- this holds after a deploy: the active revision stays, or is the deployed one
+selected_scaled-Deploy : (s : Strategy) (r : ℕ) (name ports : List ℕ) (before : List Entry) → SelectedScaled s before → SelectedScaled s (Deploy r name ports ∷ before)
+selected_scaled-Deploy s r name ports before h =
+    let new = selected_scaled-deployed s r name ports before h.stable in
     record {
       active = go (r == stable_of before) new (stays-Deploy s (active_of before) r name ports before h.active);
       stable = stays-Deploy s (stable_of before) r name ports before h.stable;
       newest = (and_parts (exists_in r (Deploy r name ports ∷ before)) (is_scaled s r (Deploy r name ports ∷ before)) new).0;
       running = λ h. new;
     } where
-      go : (b : Bool) → stands_scaled s r (Deploy r name ports ∷ before) ≡ true → stands_scaled s (active_of before) (Deploy r name ports ∷ before) ≡ true
-          → stands_scaled s (cond b r (active_of before)) (Deploy r name ports ∷ before) ≡ true
+      go : (b : Bool) → exists_scaled s r (Deploy r name ports ∷ before) ≡ true → exists_scaled s (active_of before) (Deploy r name ports ∷ before) ≡ true
+          → exists_scaled s (cond b r (active_of before)) (Deploy r name ports ∷ before) ≡ true
       go true new active = new
       go false new active = active
 
--- of three that don't hold together, neither the first nor the third holds
+-- if none of three tests holds, neither the first nor the third does
 or_parts : (a p t : Bool) → a || p || t ≡ false → (a ≡ false) × (t ≡ false)
 or_parts false false false h = (refl, refl)
 or_parts false false true h = absurd (cc)
 or_parts false true t h = absurd (cc)
 or_parts true p t h = absurd (cc)
 
--- what has no deadline isn't due
+-- a revision without a deadline isn't due
 due_marked : (s : Strategy) (m : Option Mark) (past : List Entry) → deadline_of s m ≡ None → marks_due s m past ≡ false
 due_marked s None past h = refl
-due_marked s (Some m) past h = go m.kind m.moment m.stood h where
-  go : (k : MarkKind) (at stood : ℕ) → time_of s k at ≡ None → marks_due s (Some (record { kind = k; moment = at; stood = stood })) past ≡ false
-  go Left at stood h = absurd (cc)
-  go Superseded at stood h = absurd (cc)
-  go Aborted at stood h = absurd (cc)
-  go Cleared at stood h = refl
+due_marked s (Some m) past h = go m.kind m.moment m.position h where
+  go : (k : MarkKind) (at position : ℕ) → time_of s k at ≡ None → marks_due s (Some (record { kind = k; moment = at; position = position })) past ≡ false
+  go Left at position h = absurd (cc)
+  go Superseded at position h = absurd (cc)
+  go Aborted at position h = absurd (cc)
+  go Cleared at position h = refl
 
 -- so the newest revision isn't scaled down while its attempt runs
 down_older : (s : Strategy) (o : Opening) (r : ℕ) (before : List Entry) → all_allowed s o before ≡ true → is_running before ≡ true → marks_due s (mark s r before) before ≡ true
@@ -98,10 +98,10 @@ down_older s o r before a runs due = go (r == newest_of before) refl where
       let none : deadline s r before ≡ None = subst (λ (k : ℕ). deadline s k before ≡ None) (sym (equal_numbers r (newest_of before) is)) (newest_unmarked s o before a runs) in
       sym due ∙ due_marked s (mark s r before) before none
 
--- they do after a revision is scaled down, which is none of them
-standing-ScaledDown : (s : Strategy) (o : Opening) (r : ℕ) (before : List Entry) → all_allowed s o before ≡ true → ScalesDown s r before → Standing s before
-    → Standing s (Outcome (ScaledDown r) ∷ before)
-standing-ScaledDown s o r before a d h =
+-- this holds after a scale-down, which is of none of these revisions
+selected_scaled-ScaledDown : (s : Strategy) (o : Opening) (r : ℕ) (before : List Entry) → all_allowed s o before ≡ true → ScalesDown s r before → SelectedScaled s before
+    → SelectedScaled s (Outcome (ScaledDown r) ∷ before)
+selected_scaled-ScaledDown s o r before a d h =
     let apart = or_parts (r == active_of before) (r == preview_of before) (r == stable_of before) d.unselected in
     record {
       active = stays-ScaledDown s (active_of before) r before apart.0 h.active;
@@ -114,10 +114,10 @@ standing-ScaledDown s o r before a d h =
 other_way : (r n : ℕ) → (r == n) ≡ false → (n == r) ≡ false
 other_way r n h = grind (arith, nat_tests)
 
--- they do after a revision is removed, which isn't scaled, nor the newest one
-standing-Removed : (s : Strategy) (r : ℕ) (before : List Entry) → is_scaled s r before ≡ false → (r == newest_of before) ≡ false → Standing s before
-    → Standing s (Outcome (Removed r) ∷ before)
-standing-Removed s r before unscaled older h = record {
+-- this holds after a removal, which is of a revision that is neither scaled nor the newest
+selected_scaled-Removed : (s : Strategy) (r : ℕ) (before : List Entry) → is_scaled s r before ≡ false → (r == newest_of before) ≡ false → SelectedScaled s before
+    → SelectedScaled s (Outcome (Removed r) ∷ before)
+selected_scaled-Removed s r before unscaled older h = record {
   active = stays-Removed s (active_of before) r before unscaled h.active;
   stable = stays-Removed s (stable_of before) r before unscaled h.stable;
   newest =
@@ -125,64 +125,64 @@ standing-Removed s r before unscaled older h = record {
   running = λ k. stays-Removed s (newest_of before) r before unscaled (h.running k);
 }
 
--- they do in each past whose entries were allowed
-pub standing : (s : Strategy) (o : Opening) (past : List Entry) → all_allowed s o past ≡ true → Standing s past
-standing s o [] a = standing-opening s
-standing s o (Deploy r name ports ∷ before) a = standing-Deploy s r name ports before (standing s o before (allowed_before s o (Deploy r name ports) before a))
-standing s o (Abort ∷ before) a =
-    let h = standing s o before (allowed_before s o Abort before a) in record { active = h.stable; stable = h.stable; newest = h.newest; running = λ k. absurd (cc) }
-standing s o (Verdict analysis Failed ∷ before) a =
-    let h = standing s o before (allowed_before s o (Verdict analysis Failed) before a) in record { active = h.stable; stable = h.stable; newest = h.newest; running = λ k. absurd (cc) }
-standing s o (Verdict analysis Error ∷ before) a =
-    let h = standing s o before (allowed_before s o (Verdict analysis Error) before a) in record { active = h.stable; stable = h.stable; newest = h.newest; running = λ k. absurd (cc) }
-standing s o (Retry ∷ before) a =
-    let h = standing s o before (allowed_before s o Retry before a) in
+-- this holds in each past whose entries were allowed
+pub selected_scaled : (s : Strategy) (o : Opening) (past : List Entry) → all_allowed s o past ≡ true → SelectedScaled s past
+selected_scaled s o [] a = selected_scaled-opening s
+selected_scaled s o (Deploy r name ports ∷ before) a = selected_scaled-Deploy s r name ports before (selected_scaled s o before (allowed_before s o (Deploy r name ports) before a))
+selected_scaled s o (Abort ∷ before) a =
+    let h = selected_scaled s o before (allowed_before s o Abort before a) in record { active = h.stable; stable = h.stable; newest = h.newest; running = λ k. absurd (cc) }
+selected_scaled s o (Verdict analysis Failed ∷ before) a =
+    let h = selected_scaled s o before (allowed_before s o (Verdict analysis Failed) before a) in record { active = h.stable; stable = h.stable; newest = h.newest; running = λ k. absurd (cc) }
+selected_scaled s o (Verdict analysis Error ∷ before) a =
+    let h = selected_scaled s o before (allowed_before s o (Verdict analysis Error) before a) in record { active = h.stable; stable = h.stable; newest = h.newest; running = λ k. absurd (cc) }
+selected_scaled s o (Retry ∷ before) a =
+    let h = selected_scaled s o before (allowed_before s o Retry before a) in
     record {
       active = stays-Retry s (active_of before) before h.active;
       stable = stays-Retry s (stable_of before) before h.stable;
       newest = h.newest;
-      running = λ k. standing-retried s before h.newest;
+      running = λ k. selected_scaled-retried s before h.newest;
     }
-standing s o (Outcome (Resumed r) ∷ before) a =
-    let h = standing s o before (allowed_before s o (Outcome (Resumed r)) before a) in
+selected_scaled s o (Outcome (Resumed r) ∷ before) a =
+    let h = selected_scaled s o before (allowed_before s o (Outcome (Resumed r)) before a) in
     record {
       active = stays-Resumed s (active_of before) r before h.active;
       stable = stays-Resumed s (stable_of before) r before h.stable;
       newest = h.newest;
       running = λ k. stays-Resumed s (newest_of before) r before (h.running k);
     }
-standing s o (Outcome (Switched r) ∷ before) a =
-    let h = standing s o before (allowed_before s o (Outcome (Switched r)) before a) in
+selected_scaled s o (Outcome (Switched r) ∷ before) a =
+    let h = selected_scaled s o before (allowed_before s o (Outcome (Switched r)) before a) in
     let allowed = allowed_now s o (Outcome (Switched r)) before a in
     let new = h.running (switched-running s r before allowed) in
     record {
-      active = subst (λ (k : ℕ). stands_scaled s k before ≡ true) (sym (switched-newest s r before allowed)) new;
+      active = subst (λ (k : ℕ). exists_scaled s k before ≡ true) (sym (switched-newest s r before allowed)) new;
       stable = h.stable;
       newest = h.newest;
       running = h.running;
     }
-standing s o (Outcome (Promoted r) ∷ before) a =
-    let h = standing s o before (allowed_before s o (Outcome (Promoted r)) before a) in
+selected_scaled s o (Outcome (Promoted r) ∷ before) a =
+    let h = selected_scaled s o before (allowed_before s o (Outcome (Promoted r)) before a) in
     let allowed = allowed_now s o (Outcome (Promoted r)) before a in
     let new = h.running (promoted-running s r before allowed) in
     record {
       active = h.active;
-      stable = subst (λ (k : ℕ). stands_scaled s k before ≡ true) (sym (promoted-newest s r before allowed)) new;
+      stable = subst (λ (k : ℕ). exists_scaled s k before ≡ true) (sym (promoted-newest s r before allowed)) new;
       newest = h.newest;
       running = λ k. absurd (cc);
     }
-standing s o (Outcome (ScaledDown r) ∷ before) a =
+selected_scaled s o (Outcome (ScaledDown r) ∷ before) a =
     let earlier = allowed_before s o (Outcome (ScaledDown r)) before a in
-    standing-ScaledDown s o r before earlier (scaled_down s r before (allowed_now s o (Outcome (ScaledDown r)) before a)) (standing s o before earlier)
-standing s o (Outcome (Removed r) ∷ before) a =
+    selected_scaled-ScaledDown s o r before earlier (scaled_down s r before (allowed_now s o (Outcome (ScaledDown r)) before a)) (selected_scaled s o before earlier)
+selected_scaled s o (Outcome (Removed r) ∷ before) a =
     let allowed = allowed_now s o (Outcome (Removed r)) before a in
-    standing-Removed s r before (removed s r before allowed) (removed-older s r before allowed) (standing s o before (allowed_before s o (Outcome (Removed r)) before a))
-standing s o (e ∷ before) a =
-    let h = standing s o before (allowed_before s o e before a) in record { active = h.active; stable = h.stable; newest = h.newest; running = h.running }
+    selected_scaled-Removed s r before (removed s r before allowed) (removed-older s r before allowed) (selected_scaled s o before (allowed_before s o (Outcome (Removed r)) before a))
+selected_scaled s o (e ∷ before) a =
+    let h = selected_scaled s o before (allowed_before s o e before a) in record { active = h.active; stable = h.stable; newest = h.newest; running = h.running }
 
--- and the preview revision, which is the newest or the stable one
-pub standing-preview : (s : Strategy) (past : List Entry) → Standing s past → stands_scaled s (preview_of past) past ≡ true
-standing-preview s past h = go (is_running past) refl where
-  go : (b : Bool) → is_running past ≡ b → stands_scaled s (cond b (newest_of past) (stable_of past)) past ≡ true
+-- the same holds of the preview revision, which is the newest or the stable one
+pub selected_scaled-preview : (s : Strategy) (past : List Entry) → SelectedScaled s past → exists_scaled s (preview_of past) past ≡ true
+selected_scaled-preview s past h = go (is_running past) refl where
+  go : (b : Bool) → is_running past ≡ b → exists_scaled s (cond b (newest_of past) (stable_of past)) past ≡ true
   go true is = h.running is
   go false is = h.stable

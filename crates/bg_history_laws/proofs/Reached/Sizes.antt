@@ -12,22 +12,22 @@ use Rattle.bg_history.specs.Steps.{all_allowed}
 use Rattle.bg_history_laws.proofs.Tests.{and_parts}
 use Rattle.bg_history_laws.proofs.Reached.Allowing.{allowed_now, allowed_before}
 
--- a size that is raised isn't smaller
+-- raising a size doesn't make it smaller
 pub at_least-more : (b : Bool) (n size : ℕ) → size ≤ at_least b n size
 at_least-more true n size = omega arith
 at_least-more false n size = omega arith
 
--- nor greater than what is no less than both
+-- a raised size is at most a bound of both sizes
 at_least-most : (b : Bool) (n size most : ℕ) → n ≤ most → size ≤ most → at_least b n size ≤ most
 at_least-most true n size most hn hs = omega arith
 at_least-most false n size most hn hs = hs
 
--- nor is either of two
+-- a choice of two sizes is at most a bound of both
 cond-most : (b : Bool) (n m most : ℕ) → n ≤ most → m ≤ most → cond b n m ≤ most
 cond-most true n m most hn hm = hn
 cond-most false n m most hn hm = hm
 
--- no revision is wanted greater than at full size
+-- no revision wants more than full size
 pub desired-most : (s : Strategy) (r : ℕ) (past : List Entry) → desired s r past ≤ s.replicas
 desired-most s r [] = cond-most (r == 1) s.replicas 0 s.replicas (omega arith) (omega arith)
 desired-most s r (Outcome (ScaledDown q) ∷ before) = cond-most (q == r) 0 (desired s r before) s.replicas (omega arith) (desired-most s r before)
@@ -38,7 +38,7 @@ desired-most s r (Retry ∷ before) =
     at_least-most (begins r Retry before) s.preview_replicas (desired s r before) s.replicas s.few_previews (desired-most s r before)
 desired-most s r (_ ∷ before) = desired-most s r before
 
--- a report is of no more than is wanted
+-- a report has at most as many endpoints as the revision wants
 reported-most : (b : Bool) (q r n a : ℕ) (d : ℕ → ℕ) → (q == r) ≡ b → nat_le n (d q) ≡ true → a ≤ d r → cond b n a ≤ d r
 reported-most true q r n a d is h rest = let e : q ≡ r = grind (arith, nat_tests) in subst (λ k. n ≤ d k) e (grind (arith, nat_tests))
 reported-most false q r n a d is h rest = rest
@@ -48,7 +48,7 @@ down-most : (b : Bool) (a d : ℕ) → a ≤ d → cond b 0 a ≤ cond b 0 d
 down-most true a d h = omega arith
 down-most false a d h = h
 
--- no more is available than is wanted
+-- a revision has at most as many available endpoints as it wants
 pub available-most : (s : Strategy) (o : Opening) (r : ℕ) (past : List Entry) → all_allowed s o past ≡ true → available r past ≤ desired s r past
 available-most s o r [] h = omega arith
 available-most s o r (Available q n ∷ before) h =

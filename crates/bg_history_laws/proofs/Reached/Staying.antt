@@ -1,4 +1,4 @@
--- A revision that exists and is scaled stays so, but for an entry that scales it down or removes it.
+-- A revision that exists and is scaled stays so, unless an entry scales it down or removes it.
 use Rattle.std.proofs.Common.{◌≡◌, ◌≤◌, ℕ, Bool, true, false, not, ◌==◌, ◌&&◌, nat_le, List, ◌∷◌, refl, arith, ap, sym, subst, ◌∙◌}
 use Rattle.std.proofs.lemmas.Bool.Decides.{nat_tests}
 use Rattle.bg_strategy.specs.declared.strategy.Strategy.{Strategy}
@@ -7,44 +7,44 @@ use Rattle.bg_history.specs.declared.entry.Entry.TheVariants.{Deploy, Retry, Out
 use Rattle.bg_history.specs.declared.entry.Outcome.TheVariants.{Resumed, ScaledDown, Removed}
 use Rattle.bg_history.specs.Sizes.{begins, desired, is_scaled}
 use Rattle.bg_history.specs.Deadlines.{exists_in}
-use Rattle.bg_history_laws.specs.Reachable.{stands_scaled}
+use Rattle.bg_history_laws.specs.Reachable.{exists_scaled}
 use Rattle.bg_history_laws.proofs.Tests.{and_parts, and_both, or_right, equal_numbers}
 use Rattle.bg_history_laws.proofs.Reached.Existing.{exists-Deploy, exists-Removed}
 use Rattle.bg_history_laws.proofs.Reached.Sizes.{at_least-more}
 
--- a greater size is scaled too
+-- a revision with a greater size is still scaled
 pub scaled-more : (n m : ℕ) → n ≤ m → nat_le 1 n ≡ true → nat_le 1 m ≡ true
 scaled-more n m le h = grind (arith, nat_tests)
 
--- at a deploy each stays
-pub stays-Deploy : (s : Strategy) (q r : ℕ) (name ports : List ℕ) (before : List Entry) → stands_scaled s q before ≡ true
-    → stands_scaled s q (Deploy r name ports ∷ before) ≡ true
+-- a deploy keeps each such revision
+pub stays-Deploy : (s : Strategy) (q r : ℕ) (name ports : List ℕ) (before : List Entry) → exists_scaled s q before ≡ true
+    → exists_scaled s q (Deploy r name ports ∷ before) ≡ true
 stays-Deploy s q r name ports before h =
     let both = and_parts (exists_in q before) (is_scaled s q before) h in
     and_both (exists_in q (Deploy r name ports ∷ before)) (is_scaled s q (Deploy r name ports ∷ before))
     (exists-Deploy q r name ports before ∙ or_right (r == q) (exists_in q before) both.0)
     (scaled-more (desired s q before) (desired s q (Deploy r name ports ∷ before)) (at_least-more (begins q (Deploy r name ports) before) s.preview_replicas (desired s q before)) both.1)
 
--- at a retry each stays
-pub stays-Retry : (s : Strategy) (q : ℕ) (before : List Entry) → stands_scaled s q before ≡ true → stands_scaled s q (Retry ∷ before) ≡ true
+-- a retry keeps each such revision
+pub stays-Retry : (s : Strategy) (q : ℕ) (before : List Entry) → exists_scaled s q before ≡ true → exists_scaled s q (Retry ∷ before) ≡ true
 stays-Retry s q before h =
     let both = and_parts (exists_in q before) (is_scaled s q before) h in
     and_both (exists_in q before) (is_scaled s q (Retry ∷ before)) both.0
     (scaled-more (desired s q before) (desired s q (Retry ∷ before)) (at_least-more (begins q Retry before) s.preview_replicas (desired s q before)) both.1)
 
--- when a revision grows to full size each stays
-pub stays-Resumed : (s : Strategy) (q r : ℕ) (before : List Entry) → stands_scaled s q before ≡ true → stands_scaled s q (Outcome (Resumed r) ∷ before) ≡ true
+-- the end of the pause keeps each such revision
+pub stays-Resumed : (s : Strategy) (q r : ℕ) (before : List Entry) → exists_scaled s q before ≡ true → exists_scaled s q (Outcome (Resumed r) ∷ before) ≡ true
 stays-Resumed s q r before h =
     let both = and_parts (exists_in q before) (is_scaled s q before) h in
     and_both (exists_in q before) (is_scaled s q (Outcome (Resumed r) ∷ before)) both.0
     (scaled-more (desired s q before) (desired s q (Outcome (Resumed r) ∷ before)) (at_least-more (r == q) s.replicas (desired s q before)) both.1)
 
--- when a revision is scaled down each other one stays
-pub stays-ScaledDown : (s : Strategy) (q r : ℕ) (before : List Entry) → (r == q) ≡ false → stands_scaled s q before ≡ true
-    → stands_scaled s q (Outcome (ScaledDown r) ∷ before) ≡ true
+-- a scale-down keeps each other revision
+pub stays-ScaledDown : (s : Strategy) (q r : ℕ) (before : List Entry) → (r == q) ≡ false → exists_scaled s q before ≡ true
+    → exists_scaled s q (Outcome (ScaledDown r) ∷ before) ≡ true
 stays-ScaledDown s q r before other h = rw other h
 
--- what is scaled isn't the revision that is not scaled
+-- a scaled revision differs from one that isn't scaled
 scaled_other : (s : Strategy) (q r : ℕ) (before : List Entry) → is_scaled s r before ≡ false → is_scaled s q before ≡ true → (q == r) ≡ false
 scaled_other s q r before unscaled scaled = go (q == r) refl where
   go : (b : Bool) → (q == r) ≡ b → b ≡ false
@@ -53,9 +53,9 @@ scaled_other s q r before unscaled scaled = go (q == r) refl where
       let here : is_scaled s r before ≡ true = subst (λ (k : ℕ). is_scaled s k before ≡ true) (equal_numbers q r is) scaled in
       sym here ∙ unscaled
 
--- when a revision that isn't scaled is removed each stays
-pub stays-Removed : (s : Strategy) (q r : ℕ) (before : List Entry) → is_scaled s r before ≡ false → stands_scaled s q before ≡ true
-    → stands_scaled s q (Outcome (Removed r) ∷ before) ≡ true
+-- the removal of a revision that isn't scaled keeps each such revision
+pub stays-Removed : (s : Strategy) (q r : ℕ) (before : List Entry) → is_scaled s r before ≡ false → exists_scaled s q before ≡ true
+    → exists_scaled s q (Outcome (Removed r) ∷ before) ≡ true
 stays-Removed s q r before unscaled h =
     let both = and_parts (exists_in q before) (is_scaled s q before) h in
     and_both (exists_in q (Outcome (Removed r) ∷ before)) (is_scaled s q before)

@@ -27,7 +27,7 @@ switched-active s o (Outcome (Promoted r) ∷ before) a h = absurd (cc)
 switched-active s o (Outcome (Switched r) ∷ before) a h = switched-newest s r before (allowed_now s o (Outcome (Switched r)) before a)
 switched-active s o (e ∷ before) a h = switched-active s o before (allowed_before s o e before a) h
 
--- while no attempt runs, it is the stable one
+-- while no attempt runs, the active revision is the stable one
 steady-active : (s : Strategy) (o : Opening) (past : List Entry) → all_allowed s o past ≡ true → is_running past ≡ false → active_of past ≡ stable_of past
 steady-active s o [] a h = refl
 steady-active s o (Deploy r name ports ∷ before) a h = go (r == stable_of before) refl h where

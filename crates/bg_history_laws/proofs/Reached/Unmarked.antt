@@ -1,4 +1,4 @@
--- The active revision has no deadline, nor has the newest one while an attempt runs.
+-- The active revision has no deadline. The newest one has none while an attempt runs.
 use Rattle.std.proofs.Common.{◌≡◌, ◌≤◌, ◌+◌, ℕ, Bool, true, false, not, cond, ◌==◌, ◌&&◌, ◌||◌, List, [], ◌∷◌, length, Option, Some, None, refl, arith, ap, sym, subst, ◌∙◌, ◌⊎◌, inl, inr}
 use Rattle.std.specs.Option.{option_or, option_map}
 use Rattle.std.proofs.lemmas.Bool.Decides.{nat_tests, eqb_tells}
@@ -21,22 +21,22 @@ use Rattle.bg_history_laws.proofs.Reached.Allowing.{allowed_now, allowed_before,
 use Rattle.bg_history_laws.proofs.Reached.Numbers.{newest-given}
 use Rattle.bg_history_laws.proofs.Reached.Running.{halt-running, newest_not_stable}
 
--- the deadline that r has after the entry, by whether it left, was superseded, aborted or cleared
+-- the deadline of r after the entry, depending on whether it left, was superseded, aborted or cleared
 abbrev pub deadline_by : Strategy → ℕ → Entry → List Entry → Bool → Bool → Bool → Bool → Option ℕ
 deadline_by s r e before left superseded aborted cleared =
     deadline_of s
     (option_or
-    (option_map (λ kind. record { kind = kind; moment = moment (e ∷ before); stood = length before })
+    (option_map (λ kind. record { kind = kind; moment = moment (e ∷ before); position = length before })
     (cond left (Some Left) (cond superseded (Some Superseded) (cond aborted (Some Aborted) (cond cleared (Some Cleared) None)))))
     (mark s r before))
 
--- the entry gives r no deadline: it neither leaves by it, nor is superseded or aborted
+-- the entry gives r no deadline: r neither leaves nor is superseded or aborted
 pub record GivesNone (s : Strategy) (r : ℕ) (e : Entry) (before : List Entry) : Type 0 where
   pub left : leaves_active r e before ≡ false
   pub superseded : supersedes s r e before ≡ false
   pub aborted : aborts s r e before ≡ false
 
--- a revision without a deadline that is given none has none
+-- a revision without a deadline that gets none has none
 stays_unmarked : (s : Strategy) (r : ℕ) (e : Entry) (before : List Entry) → GivesNone s r e before → deadline s r before ≡ None → deadline s r (e ∷ before) ≡ None
 stays_unmarked s r e before given none = go (leaves_active r e before) (supersedes s r e before) (aborts s r e before) (clears s r e before) given.left given.superseded given.aborted where
   go : (l u a c : Bool) → l ≡ false → u ≡ false → a ≡ false → deadline_by s r e before l u a c ≡ None
@@ -46,7 +46,7 @@ stays_unmarked s r e before given none = go (leaves_active r e before) (supersed
   go false false false true left superseded aborted = refl
   go false false false false left superseded aborted = none
 
--- and one that is cleared has none
+-- a revision whose deadline is cleared has none
 pub cleared_unmarked : (s : Strategy) (r : ℕ) (e : Entry) (before : List Entry) → GivesNone s r e before → clears s r e before ≡ true → deadline s r (e ∷ before) ≡ None
 cleared_unmarked s r e before given cleared = go (leaves_active r e before) (supersedes s r e before) (aborts s r e before) (clears s r e before) given.left given.superseded given.aborted cleared where
   go : (l u a c : Bool) → l ≡ false → u ≡ false → a ≡ false → c ≡ true → deadline_by s r e before l u a c ≡ None
@@ -56,7 +56,7 @@ cleared_unmarked s r e before given cleared = go (leaves_active r e before) (sup
   go false false false true left superseded aborted cleared = refl
   go false false false false left superseded aborted cleared = absurd (cc)
 
--- what is active after an entry doesn't leave the active service at it
+-- a revision that is active after an entry doesn't leave the active service at this entry
 active_not_left : (e : Entry) (before : List Entry) → leaves_active (active_of (e ∷ before)) e before ≡ false
 active_not_left e before =
     go (active_of before == active_of (e ∷ before)) (active_of (e ∷ before) == active_of (e ∷ before)) (halts (active_of (e ∷ before)) e before) (equal_itself (active_of (e ∷ before))) where
@@ -65,7 +65,7 @@ active_not_left e before =
       go true false halted h = absurd (cc)
       go false is halted h = refl
 
--- nor is it superseded
+-- it isn't superseded at this entry
 active_not_superseded : (s : Strategy) (e : Entry) (before : List Entry) → supersedes s (active_of (e ∷ before)) e before ≡ false
 active_not_superseded s (Deploy r name ports) before = go (r == stable_of before) refl where
   go : (b : Bool) → (r == stable_of before) ≡ b
@@ -75,7 +75,7 @@ active_not_superseded s (Deploy r name ports) before = go (r == stable_of before
   go false is = grind (arith, nat_tests)
 active_not_superseded s _ before = refl
 
--- nor is it aborted: the stable revision is active after a stop, and it isn't the newest one
+-- it isn't aborted at this entry: after a halt the stable revision is active, which isn't the newest one
 stable_not_aborted : (s : Strategy) (o : Opening) (e : Entry) (before : List Entry) → all_allowed s o (e ∷ before) ≡ true → is_halt e ≡ true
     → (newest_of before == stable_of before) && has_abort_delay s ≡ false
 stable_not_aborted s o e before a halt =
@@ -88,7 +88,7 @@ active_not_aborted s o (Verdict analysis Failed) before a = stable_not_aborted s
 active_not_aborted s o (Verdict analysis Error) before a = stable_not_aborted s o (Verdict analysis Error) before a refl
 active_not_aborted s o e before a = refl
 
--- so it is given no deadline
+-- so it gets no deadline
 active_given_none : (s : Strategy) (o : Opening) (e : Entry) (before : List Entry) → all_allowed s o (e ∷ before) ≡ true → GivesNone s (active_of (e ∷ before)) e before
 active_given_none s o e before a = record {
   left = active_not_left e before;
@@ -96,7 +96,7 @@ active_given_none s o e before a = record {
   aborted = active_not_aborted s o e before a;
 }
 
--- what becomes active is cleared
+-- the deadline of a revision that becomes active is cleared
 active_cleared : (s : Strategy) (e : Entry) (before : List Entry) → (active_of before == active_of (e ∷ before)) ≡ false → clears s (active_of (e ∷ before)) e before ≡ true
 active_cleared s e before other =
     let a : ℕ = active_of (e ∷ before) in
@@ -116,7 +116,7 @@ active_unmarked s o (e ∷ before) a = elim (eqb_tells (active_of before) (activ
   | inr h ↦ cleared_unmarked s (active_of (e ∷ before)) e before (active_given_none s o e before a) (active_cleared s e before h.0)
 ]
 
--- no deploy is of the newest revision
+-- a deploy is of a revision other than the newest one
 deployed-older : (s : Strategy) (o : Opening) (r : ℕ) (name ports : List ℕ) (before : List Entry) → all_allowed s o (Deploy r name ports ∷ before) ≡ true
     → (newest_of before == r) ≡ false
 deployed-older s o r name ports before a =
@@ -132,21 +132,21 @@ deployed-older s o r name ports before a =
           let next : r ≡ last_number before + 1 = x.next in let le : newest_of before ≤ last_number before = newest-given before in
           grind (arith, nat_tests)
 
--- at an entry that keeps the active revision none leaves it
+-- at an entry that keeps the active revision, no revision leaves
 pub kept_active : (was other : Bool) → was && not was && other ≡ false
 kept_active true other = refl
 kept_active false other = refl
 
--- at a switch the revision that is switched to doesn't leave
+-- at a switch, the new active revision doesn't leave
 switched_not_left : (was other : Bool) (r n : ℕ) → r ≡ n → was && not (r == n) && other ≡ false
 switched_not_left true other r n is = rw (is, equal_itself n) refl
 switched_not_left false other r n is = refl
 
--- a deploy lets none leave but the active revision, where the stable one is deployed again
+-- at a deploy, only the active revision can leave, and only if the stable one is deployed
 deployed_not_left : (r stable active : ℕ) (other : Bool) → (active == r) && not (cond (r == stable) r active == r) && other ≡ false
 deployed_not_left r stable active other = grind (arith, nat_tests)
 
--- an attempt of the deployed one begins, which clears its deadline
+-- an attempt of the deployed revision begins, which clears its deadline
 newest_unmarked-Deploy : (s : Strategy) (r : ℕ) (name ports : List ℕ) (before : List Entry) → (newest_of before == r) ≡ false → (r == stable_of before) ≡ false
     → deadline s r (Deploy r name ports ∷ before) ≡ None
 newest_unmarked-Deploy s r name ports before older other =
@@ -158,7 +158,7 @@ newest_unmarked-Deploy s r name ports before older other =
     })
     (rw (equal_itself r, other) refl)
 
--- so does a retry
+-- a retry clears the deadline of the newest revision
 newest_unmarked-Retry : (s : Strategy) (before : List Entry) → deadline s (newest_of before) (Retry ∷ before) ≡ None
 newest_unmarked-Retry s before =
     cleared_unmarked s (newest_of before) Retry before (record { left = kept_active _ _; superseded = refl; aborted = refl })

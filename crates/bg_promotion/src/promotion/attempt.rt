@@ -21,7 +21,7 @@ pub struct Attempt {
 }
 
 impl Attempt {
-    ghost use Rattle.bg_promotion.specs.Standing.{begun};
+    ghost use Rattle.bg_promotion.specs.Core.{begun};
 
     /// An attempt in which nothing has happened.
     pub fn new() -> Attempt

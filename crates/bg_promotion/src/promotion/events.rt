@@ -1,11 +1,11 @@
-//! The events that a core takes or refuses.
+//! The events of a core.
 ghost use Rattle.std.specs.Prelude.{◌≡◌, true, false, ℕ, List, ◌∷◌, None, OnOk, OnErr};
 ghost use Rattle.bg_strategy.specs.declared.strategy.Strategy.{Strategy};
 ghost use Rattle.bg_history.specs.declared.entry.Entry.{Entry};
 ghost use Rattle.bg_history.specs.Turns.{moment};
 ghost use Rattle.bg_history.specs.Phases.{awaits_pre as awaits_pre_in, is_paused as is_paused_in, awaits_post as awaits_post_in, needs_pause as needs_pause_in};
-ghost use Rattle.bg_promotion.specs.Standing.{begun};
-ghost use Rattle.bg_promotion.specs.Stands.{StandsFor};
+ghost use Rattle.bg_promotion.specs.Core.{begun};
+ghost use Rattle.bg_promotion.specs.Represents.{CoreRepresents};
 ghost use Rattle.bg_promotion.specs.Answers.{abort_answer, retry_answer, promote_answer, promote_full_answer, verdict_answer};
 
 use super::Core;
@@ -14,11 +14,11 @@ use crate::faults::{AbortFault, PromoteFault, PromoteFullFault, RetryFault, Verd
 use bg_history::{Analysis, AnalysisResult};
 
 impl Core {
-    /// Takes in the deploy of a revision: an attempt of it begins, or, where it is the stable revision, the
-    /// rollout reverts to it and no attempt runs.
+    /// Records the deploy of a revision. If it is the stable revision, the rollout goes back to it and no attempt runs;
+    /// else an attempt of it begins.
     pub fn deploy(&mut self, revision: u64)
         ensures { (s : Strategy) (past : List Entry) (name ports : List ℕ)
-            → StandsFor s self.old past → StandsFor s self.new
+            → CoreRepresents s self.old past → CoreRepresents s self.new
             (Entry.Deploy revision name ports ∷ past) }
     {
         if revision == self.stable {
@@ -32,8 +32,8 @@ impl Core {
         self.attempt = Attempt::new();
     }
 
-    /// Takes in the verdict of an analysis at the moment `now`: success passes the analysis, and anything
-    /// else stops the attempt. Refused with `NoAnalysis` where that analysis isn't awaited.
+    /// Records the verdict of an analysis at the moment `now`. A success passes the analysis; each other verdict halts
+    /// the attempt. The error is `NoAnalysis` if the rollout doesn't wait for that analysis.
     #[tactic(auto, using(crate::proofs::Attempts::in_attempt_runs))]
     pub fn verdict(
         &mut self,
@@ -41,10 +41,10 @@ impl Core {
         analysis_result: AnalysisResult,
         now: u64,
     ) -> Result<(), VerdictFault>
-        ensures answer { (s : Strategy) (past : List Entry) → StandsFor s self.old past
+        ensures answer { (s : Strategy) (past : List Entry) → CoreRepresents s self.old past
             → result ≡ verdict_answer analysis s past }
-        ensures ok { (s : Strategy) (past : List Entry) → StandsFor s self.old past
-            → now ≡ moment past → OnOk result (StandsFor s self.new
+        ensures ok { (s : Strategy) (past : List Entry) → CoreRepresents s self.old past
+            → now ≡ moment past → OnOk result (CoreRepresents s self.new
             (Entry.Verdict analysis analysis_result ∷ past)) }
         ensures err { OnErr result (self.new ≡ self.old) }
     {
@@ -63,14 +63,14 @@ impl Core {
         Ok(())
     }
 
-    /// Ends the pause. Refused with `Aborted` where the last attempt is aborted, else with `NotPaused` where
-    /// the rollout isn't paused.
+    /// Ends the pause. If the rollout isn't paused, the error is `Aborted` if the last attempt was halted, else
+    /// `NotPaused`.
     #[tactic(auto, using(crate::proofs::Attempts::passed_runs))]
     pub fn promote(&mut self) -> Result<(), PromoteFault>
-        ensures answer { (s : Strategy) (past : List Entry) → StandsFor s self.old past
+        ensures answer { (s : Strategy) (past : List Entry) → CoreRepresents s self.old past
             → result ≡ promote_answer s past }
-        ensures ok { (s : Strategy) (past : List Entry) → StandsFor s self.old past
-            → OnOk result (StandsFor s self.new (Entry.Promote ∷ past)) }
+        ensures ok { (s : Strategy) (past : List Entry) → CoreRepresents s self.old past
+            → OnOk result (CoreRepresents s self.new (Entry.Promote ∷ past)) }
         ensures err { OnErr result (self.new ≡ self.old) }
     {
         if self.is_paused() {
@@ -83,14 +83,13 @@ impl Core {
         }
     }
 
-    /// Skips the analyses and pauses of the attempt. Refused with `Aborted` where the last attempt is
-    /// aborted, else with `NothingToPromote` where none runs, else with `AlreadyFull` where it was done in
-    /// this attempt.
+    /// Skips the analyses and pauses of the attempt. The error is `Aborted` if the last attempt was halted; else
+    /// `NothingToPromote` if no attempt runs; else `AlreadyFull` if this attempt already has a full promotion.
     pub fn promote_full(&mut self) -> Result<(), PromoteFullFault>
-        ensures answer { (s : Strategy) (past : List Entry) → StandsFor s self.old past
+        ensures answer { (s : Strategy) (past : List Entry) → CoreRepresents s self.old past
             → result ≡ promote_full_answer past }
-        ensures ok { (s : Strategy) (past : List Entry) → StandsFor s self.old past
-            → OnOk result (StandsFor s self.new (Entry.PromoteFull ∷ past)) }
+        ensures ok { (s : Strategy) (past : List Entry) → CoreRepresents s self.old past
+            → OnOk result (CoreRepresents s self.new (Entry.PromoteFull ∷ past)) }
         ensures err { OnErr result (self.new ≡ self.old) }
     {
         if self.halted {
@@ -106,13 +105,13 @@ impl Core {
         Ok(())
     }
 
-    /// Stops the attempt: active and preview go back to the stable revision. Refused with `AlreadyAborted`
-    /// where the last attempt is aborted, else with `NothingToAbort` where none runs.
+    /// Aborts the attempt: the active and the preview service go back to the stable revision. The error is
+    /// `AlreadyAborted` if the last attempt was halted; else `NothingToAbort` if no attempt runs.
     pub fn abort(&mut self) -> Result<(), AbortFault>
-        ensures answer { (s : Strategy) (past : List Entry) → StandsFor s self.old past
+        ensures answer { (s : Strategy) (past : List Entry) → CoreRepresents s self.old past
             → result ≡ abort_answer past }
-        ensures ok { (s : Strategy) (past : List Entry) → StandsFor s self.old past
-            → OnOk result (StandsFor s self.new (Entry.Abort ∷ past)) }
+        ensures ok { (s : Strategy) (past : List Entry) → CoreRepresents s self.old past
+            → OnOk result (CoreRepresents s self.new (Entry.Abort ∷ past)) }
         ensures err { OnErr result (self.new ≡ self.old) }
     {
         if self.halted {
@@ -125,13 +124,12 @@ impl Core {
         Ok(())
     }
 
-    /// Begins an attempt of the newest revision again. Refused with `NotAborted` where the last attempt
-    /// isn't aborted.
+    /// Begins a new attempt of the newest revision. The error is `NotAborted` if the last attempt wasn't halted.
     pub fn retry(&mut self) -> Result<(), RetryFault>
-        ensures answer { (s : Strategy) (past : List Entry) → StandsFor s self.old past
+        ensures answer { (s : Strategy) (past : List Entry) → CoreRepresents s self.old past
             → result ≡ retry_answer past }
-        ensures ok { (s : Strategy) (past : List Entry) → StandsFor s self.old past
-            → OnOk result (StandsFor s self.new (Entry.Retry ∷ past)) }
+        ensures ok { (s : Strategy) (past : List Entry) → CoreRepresents s self.old past
+            → OnOk result (CoreRepresents s self.new (Entry.Retry ∷ past)) }
         ensures err { OnErr result (self.new ≡ self.old) }
     {
         if !self.halted {
@@ -143,39 +141,39 @@ impl Core {
         Ok(())
     }
 
-    /// Whether the analysis before the switch is awaited.
+    /// Whether the rollout waits for the verdict of the analysis before the switch.
     pub(super) fn awaits_pre(&self) -> bool
-        ensures { (s : Strategy) (past : List Entry) → StandsFor s self.now past
+        ensures { (s : Strategy) (past : List Entry) → CoreRepresents s self.now past
             → result ≡ awaits_pre_in s past }
     {
         self.attempt.ready && !self.attempt.resumed && self.pre && self.attempt.passed_at.is_none()
     }
 
-    /// Whether a pause before the switch isn't over.
+    /// Whether the rollout is in the pause before the switch.
     pub(super) fn is_paused(&self) -> bool
-        ensures { (s : Strategy) (past : List Entry) → StandsFor s self.now past
+        ensures { (s : Strategy) (past : List Entry) → CoreRepresents s self.now past
             → result ≡ is_paused_in s past }
     {
         self.attempt.passed_at.is_some() && !self.attempt.resumed && self.needs_pause()
     }
 
-    /// Whether the analysis after the switch is awaited.
+    /// Whether the rollout waits for the verdict of the analysis after the switch.
     pub(super) fn awaits_post(&self) -> bool
-        ensures { (s : Strategy) (past : List Entry) → StandsFor s self.now past
+        ensures { (s : Strategy) (past : List Entry) → CoreRepresents s self.now past
             → result ≡ awaits_post_in s past }
     {
         self.attempt.switched && self.post
     }
 
-    /// Whether a new revision isn't promoted at once.
+    /// Whether the strategy has a pause before the switch.
     pub(super) fn needs_pause(&self) -> bool
-        ensures { (s : Strategy) (past : List Entry) → StandsFor s self.now past
+        ensures { (s : Strategy) (past : List Entry) → CoreRepresents s self.now past
             → result ≡ needs_pause_in s }
     {
         !self.auto_promotion || self.auto_seconds > 0
     }
 
-    /// Stops the attempt.
+    /// Halts the attempt.
     fn halt(&mut self)
         ensures { self.new ≡ record self.old {
           active = self.old.stable;

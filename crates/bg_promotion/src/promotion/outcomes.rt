@@ -1,4 +1,4 @@
-//! The steps of an attempt, which the switch takes itself.
+//! The steps of an attempt, which the switch itself takes.
 ghost use Rattle.std.specs.Prelude.{◌≡◌, ◌&&◌, ◌||◌, false, not, List, ◌∷◌, Some};
 ghost use Rattle.bg_strategy.specs.declared.strategy.Strategy.{Strategy};
 ghost use Rattle.bg_history.specs.declared.entry.Entry.{Entry};
@@ -7,7 +7,7 @@ ghost use Rattle.bg_history.specs.Attempts.{has_promote, has_promote_full, pass_
 ghost use Rattle.bg_history.specs.Sizes.{available as available_of};
 ghost use Rattle.bg_history.specs.Phases.{needs_pause as needs_pause_in};
 ghost use Rattle.bg_history.specs.Promotion.{first_promotion, may_be_ready as may_be_ready_in, may_resume as may_resume_in, may_switch as may_switch_in, may_promote as may_promote_in, waited};
-ghost use Rattle.bg_promotion.specs.Stands.{StandsFor};
+ghost use Rattle.bg_promotion.specs.Represents.{CoreRepresents};
 ghost use Rattle.bg_promotion.specs.Answers.{is_step};
 
 use super::Core;
@@ -15,10 +15,10 @@ use super::attempt::Attempt;
 use bg_history::Outcome;
 
 impl Core {
-    /// The next step of the attempt at the moment `now`, where the newest revision has `available`
-    /// endpoints; none where none is allowed.
+    /// The next step of the attempt at the moment `now`, if the newest revision has `available` endpoints available;
+    /// `None` if no step is allowed.
     pub fn next_outcome(&self, available: u32, now: u64) -> Option<Outcome>
-        ensures { (s : Strategy) (past : List Entry) → StandsFor s self.now past
+        ensures { (s : Strategy) (past : List Entry) → CoreRepresents s self.now past
             → available ≡ available_of (newest_of past) past → now ≡ moment past
             → result ≡ first_promotion s past }
     {
@@ -35,13 +35,13 @@ impl Core {
         }
     }
 
-    /// Takes in the next step of the attempt, at the moment `now`. An outcome that is no step of an attempt
-    /// changes nothing.
+    /// Records the next step of the attempt at the moment `now`. An outcome that is no step of an attempt changes
+    /// nothing.
     #[tactic(auto, using(crate::proofs::Attempts::unready_unpassed))]
     pub fn apply(&mut self, outcome: &Outcome, now: u64)
-        ensures next { (s : Strategy) (past : List Entry) → StandsFor s self.old past
+        ensures next { (s : Strategy) (past : List Entry) → CoreRepresents s self.old past
             → now ≡ moment past → first_promotion s past ≡ Some outcome.now
-            → StandsFor s self.new (Entry.Outcome outcome.now ∷ past) }
+            → CoreRepresents s self.new (Entry.Outcome outcome.now ∷ past) }
         ensures other { is_step outcome.now ≡ false → self.new ≡ self.old }
     {
         match outcome {
@@ -68,7 +68,7 @@ impl Core {
 
     /// Whether the new revision has the endpoints that its preview needs.
     fn may_be_ready(&self, available: u32) -> bool
-        ensures { (s : Strategy) (past : List Entry) → StandsFor s self.now past
+        ensures { (s : Strategy) (past : List Entry) → CoreRepresents s self.now past
             → available ≡ available_of (newest_of past) past
             → result ≡ may_be_ready_in s (newest_of past) past }
     {
@@ -77,7 +77,7 @@ impl Core {
 
     /// Whether the new revision may grow to full size.
     fn may_resume(&self, now: u64) -> bool
-        ensures { (s : Strategy) (past : List Entry) → StandsFor s self.now past
+        ensures { (s : Strategy) (past : List Entry) → CoreRepresents s self.now past
             → now ≡ moment past → result ≡ may_resume_in s (newest_of past) past }
     {
         self.running && self.attempt.ready && !self.attempt.resumed && self.ends_pause(now)
@@ -85,7 +85,7 @@ impl Core {
 
     /// Whether the active service may switch to the new revision.
     fn may_switch(&self, available: u32) -> bool
-        ensures { (s : Strategy) (past : List Entry) → StandsFor s self.now past
+        ensures { (s : Strategy) (past : List Entry) → CoreRepresents s self.now past
             → available ≡ available_of (newest_of past) past
             → result ≡ may_switch_in s (newest_of past) past }
     {
@@ -94,7 +94,7 @@ impl Core {
 
     /// Whether the new revision may become the stable one.
     fn may_promote(&self) -> bool
-        ensures { (s : Strategy) (past : List Entry) → StandsFor s self.now past
+        ensures { (s : Strategy) (past : List Entry) → CoreRepresents s self.now past
             → result ≡ may_promote_in s (newest_of past) past }
     {
         self.running
@@ -104,7 +104,7 @@ impl Core {
 
     /// Whether the analysis and the pause before the switch are over.
     fn ends_pause(&self, now: u64) -> bool
-        ensures { (s : Strategy) (past : List Entry) → StandsFor s self.now past
+        ensures { (s : Strategy) (past : List Entry) → CoreRepresents s self.now past
             → result ≡ (has_promote_full past
             || (is_passed s past && not (needs_pause_in s))
             || (is_passed s past && has_promote past)
@@ -121,9 +121,9 @@ impl Core {
         }
     }
 
-    /// Whether the seconds of a pause that began at `at` have gone by, and may end it.
+    /// Whether a pause that began at `at` ends by itself, and its seconds have passed.
     fn has_waited(&self, at: u64, now: u64) -> bool
-        ensures { (s : Strategy) (past : List Entry) → StandsFor s self.now past
+        ensures { (s : Strategy) (past : List Entry) → CoreRepresents s self.now past
             → result ≡ waited s.auto_promotion s.auto_seconds now (Some at) }
     {
         self.auto_promotion

@@ -1,4 +1,4 @@
-//! Which outcomes the past allows, and how they are recorded.
+//! Finding and recording the outcomes that the past allows.
 ghost use Rattle.std.specs.Prelude.{◌≡◌, ◌≤◌, ◌+◌, false, List, length, Some, IsTrue, find, filter, option_copied};
 ghost use Rattle.bg_history.specs.Deadlines.{may_remove, may_scale_down, is_empty};
 ghost use Rattle.bg_history.specs.Requests.{open_at};
@@ -12,17 +12,15 @@ ghost use Rattle.bg_history.specs.declared.entry.Outcome.{Outcome};
 
 use crate::rollout::Rollout;
 use bg_history::{Entry, Outcome};
-use bg_history_laws::facts::reachable;
-use bg_history_laws::listing::{finds, keeps, removes, resizes};
-use bg_history_laws::settling::{oldest_is_removed, work_falls, work_is_bounded};
+use bg_history_laws as laws;
 use bg_ledger::Names;
-use bg_promotion::laws::neutral;
+use bg_promotion::laws as promotion_laws;
 use bg_revisions::{Revision, Selectors};
-use bg_scaledown::laws::next_has_room;
+use bg_scaledown::laws as scaledown_laws;
 
 impl<N: Names> Rollout<N> {
-    /// Records each outcome that is allowed, again and again the first one, until none is, and
-    /// answers how many there were.
+    /// Records the first allowed outcome, and repeats this until none is allowed. Gives the number of recorded
+    /// outcomes.
     pub fn settle(&mut self) -> u64
         requires { (outcomes : List Outcome) → Follows self.old.routing.strategy outcomes
             self.old.routing.past → length outcomes ≤ self.old.spare }
@@ -30,10 +28,10 @@ impl<N: Names> Rollout<N> {
         ensures settled { IsTrue (is_settled self.new.routing.strategy self.new.routing.past) }
         ensures spare { self.new.spare + result ≡ self.old.spare }
     {
-        reachable();
-        work_falls();
-        work_is_bounded();
-        self.stands();
+        laws::reachable();
+        laws::work_falls();
+        laws::work_is_bounded();
+        self.holds_invariant();
         let mut count = 0;
         while let Some(outcome) = self.next_outcome() {
             self.record_outcome(outcome);
@@ -42,13 +40,13 @@ impl<N: Names> Rollout<N> {
         count
     }
 
-    /// The first outcome that is allowed: a step of the attempt, else the least revision to scale
-    /// down, else the least to remove.
+    /// The first allowed outcome: a step of the attempt; else the scale-down of the least revision that may be scaled
+    /// down; else the removal of the least revision that may be removed.
     fn next_outcome(&self) -> Option<Outcome>
         ensures { result ≡ first_allowed self.now.routing.strategy self.now.routing.past }
     {
-        finds();
-        reachable();
+        laws::finds();
+        laws::reachable();
         let selectors = self.core.selectors();
         let newest = self.roster.find_number(selectors.newest).unwrap();
         if let Some(step) = self.core.next_outcome(newest.available, self.moment) {
@@ -68,8 +66,7 @@ impl<N: Names> Rollout<N> {
         }
     }
 
-    /// Settles where nothing is allowed unless this revision may be scaled down, which a look at the
-    /// revision alone tells.
+    /// Settles, if nothing is allowed unless this revision may be scaled down. So a check of this revision is enough.
     pub fn settle_at(&mut self, revision: u64) -> u64
         requires room { (outcomes : List Outcome) → Follows self.old.routing.strategy outcomes
             self.old.routing.past → length outcomes ≤ self.old.spare }
@@ -80,7 +77,7 @@ impl<N: Names> Rollout<N> {
         ensures settled { IsTrue (is_settled self.new.routing.strategy self.new.routing.past) }
         ensures spare { self.new.spare + result ≡ self.old.spare }
     {
-        self.stands();
+        self.holds_invariant();
         if self.may_scale_down(revision) {
             self.settle()
         } else {
@@ -88,31 +85,31 @@ impl<N: Names> Rollout<N> {
         }
     }
 
-    /// Whether a revision may be scaled down now: it is due, and holds no open request.
+    /// Whether a revision may be scaled down now: it is due, and no request is open at it.
     fn may_scale_down(&self, revision: u64) -> bool
         ensures { result ≡ may_scale_down self.now.routing.strategy revision self.now.routing.past }
     {
-        reachable();
+        laws::reachable();
         self.deadlines
             .is_due(revision, self.moment, self.core.selectors())
             && self.is_empty_at(revision)
     }
 
-    /// Whether a revision holds no open request.
+    /// Whether no request is open at a revision.
     pub(super) fn is_empty_at(&self, revision: u64) -> bool
         ensures { result ≡ is_empty (open_at revision self.now.routing.past) }
     {
-        reachable();
+        laws::reachable();
         self.lists.count(revision) == 0
     }
 
-    /// The least old revision, where more are old than the strategy keeps.
+    /// The least old revision, if more are old than the strategy keeps.
     fn next_removed(&self, selectors: Selectors) -> Option<u64>
         requires { selectors ≡ selectors_of self.now.routing.past }
         ensures { let past = self.now.routing.past in
             result ≡ find (λ r. may_remove self.now.routing.strategy r past) (existing past) }
     {
-        oldest_is_removed();
+        laws::oldest_is_removed();
         let revisions = self.roster.as_slice();
         if count_old(revisions, selectors) <= self.strategy.history_limit as usize {
             return None;
@@ -123,20 +120,20 @@ impl<N: Names> Rollout<N> {
         }
     }
 
-    /// Records an outcome that is the first allowed.
+    /// Records the first allowed outcome.
     fn record_outcome(&mut self, outcome: Outcome)
         requires first { let b = self.old.routing in
             first_allowed b.strategy b.past ≡ Some outcome }
         requires spare { 1 ≤ self.old.spare }
         ensures { Recorded (entry.Outcome outcome) self.old self.new }
     {
-        reachable();
-        finds();
-        keeps();
-        next_has_room();
-        removes();
-        resizes();
-        neutral(&self.core);
+        laws::reachable();
+        laws::finds();
+        laws::keeps();
+        scaledown_laws::next_has_room();
+        laws::removes();
+        laws::resizes();
+        promotion_laws::neutral(&self.core);
         let newest_is_scaled = self.newest_is_scaled();
         let entry = Entry::Outcome(outcome);
         self.deadlines.record(&entry, self.core.selectors(), newest_is_scaled, self.moment);
@@ -180,7 +177,7 @@ fn first_old(revisions: &[Revision], selectors: Selectors) -> Option<&Revision>
         .find(|revision| is_old(revision, selectors))
 }
 
-/// Whether a revision has no endpoint to keep, and is neither selected nor the newest.
+/// Whether a revision is old: it wants no endpoint, and it is neither selected nor the newest.
 fn is_old(revision: &Revision, selectors: Selectors) -> bool
     ensures { result ≡ old_among selectors revision.now }
 {

@@ -1,4 +1,4 @@
-//! What the entries of a history do to the deadlines.
+//! The effect of a history's entries on the deadlines.
 ghost use Rattle.std.specs.Prelude.{◌≡◌, ◌≤◌, ◌^◌, true, List, [], ◌∷◌};
 ghost use Rattle.bg_strategy.specs.declared.strategy.Strategy.{Strategy};
 ghost use Rattle.bg_history.specs.declared.entry.Entry.{Entry};
@@ -15,15 +15,15 @@ use bg_history::{AnalysisResult, Entry, Outcome};
 use bg_revisions::Selectors;
 
 impl Deadlines {
-    /// Takes in an entry of the history, `selectors` being what was selected before it, and
-    /// `newest_is_scaled` whether the newest revision was scaled, and `now` the moment, in seconds:
-    /// after each entry of a history the marks are those that it makes (Argo Rollouts, "BlueGreen
-    /// Deployment Strategy": `scaleDownDelaySeconds` and `abortScaleDownDelaySeconds`).
+    /// Records an entry of the history (Argo Rollouts, "BlueGreen Deployment Strategy": `scaleDownDelaySeconds` and
+    /// `abortScaleDownDelaySeconds`). `selectors` are the selectors before the entry, `newest_is_scaled` says whether
+    /// the newest revision was scaled before it, and `now` is the moment, in seconds from the start. If every entry of
+    /// a history is recorded, the marks are those that the history makes.
     ///
-    /// Each revision that the entry may mark has a mark already, or there is a place for one: 64
-    /// revisions can be marked. An entry marks one revision at most, but for a deploy that goes back
-    /// to the stable revision from another one and supersedes a third, and for a stop of an attempt
-    /// while an older revision than its own is active and not stable: these mark two.
+    /// There must be room for each revision that the entry may mark: it has a mark already, or fewer than 64 revisions
+    /// have one. An entry marks at most one revision, with two exceptions, which mark two: a deploy of the stable
+    /// revision that supersedes the newest one while a third is active, and the halt of an attempt while an older
+    /// revision than its own is active and not stable.
     pub fn record(&mut self, entry: &Entry, selectors: Selectors, newest_is_scaled: bool, now: u64)
         requires room { has_room_for (may_mark entry.now selectors) self.old.marks ≡ true }
         requires moment { now ≤ 2 ^ 53 }
@@ -52,9 +52,8 @@ impl Deadlines {
         }
     }
 
-    /// A revision was deployed: it has no deadline. A newest one that was scaled and neither active
-    /// nor stable is superseded, and the active one left where the deploy goes back to the stable
-    /// revision.
+    /// Records the deploy of a revision, which then has no deadline. If the newest revision was scaled and neither
+    /// active nor stable, it is superseded. If the deploy goes back to the stable revision, the active one left.
     fn record_deploy(
         &mut self,
         revision: u64,
@@ -82,8 +81,8 @@ impl Deadlines {
         }
     }
 
-    /// The attempt was stopped: its revision was aborted, and the stable one has no deadline where it
-    /// is active again. An older active one left.
+    /// Records that the attempt was halted: its revision was aborted. If the stable revision is active again, it has no
+    /// deadline. An active revision older than the attempt's own left.
     fn record_halt(&mut self, selectors: Selectors, now: u64)
         requires room { has_room_for (marked_by_halt selectors) self.old.marks ≡ true }
         requires moment { now ≤ 2 ^ 53 }
@@ -100,7 +99,8 @@ impl Deadlines {
         }
     }
 
-    /// The active service was switched to the revision, which has no deadline. The one before left.
+    /// Records that the active service switched to the revision, which then has no deadline. The revision that was
+    /// active before left.
     fn record_switch(&mut self, revision: u64, selectors: Selectors, now: u64)
         requires room { has_room_for (selectors.active ∷ []) self.old.marks ≡ true }
         requires moment { now ≤ 2 ^ 53 }

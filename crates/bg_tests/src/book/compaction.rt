@@ -1,18 +1,17 @@
-//! A book whose history is full, and has room again once it is compacted.
+//! A book whose history is full, and has room again after it is compacted.
 ghost use Rattle.std.specs.Prelude.{◌≡◌};
 ghost use Rattle.bg_ledger.specs.Blanks.{AreAllFor};
 
 use super::samples::strategy;
-use crate::history::audited::audited;
-use bg_book::laws::lent;
-use bg_book::{Book, Call, Control, ControlFault, Left, Limits, Reply, Ticket};
+use crate::history::gathered::expect_audited;
+use bg_book::{Book, Call, Control, ControlFault, Left, Limits, Reply, Ticket, laws as book_laws};
 use bg_ledger::{Blanks, Names};
 use bg_revisions::Service;
 use std::alloc::Global;
 use std::marker::Brand;
 use std::test::Fail;
 
-/// What a book answered before and after its compaction.
+/// The replies of a book before and after its compaction.
 #[derive(Drop)]
 struct BeforeAndAfter {
     before: Vec<Reply>,
@@ -47,7 +46,7 @@ fn tick(moment: u64) -> Call {
     Call::Control(Control::Tick(moment))
 }
 
-/// Makes calls of a book of one seat and 150 entries, compacts it, and makes more.
+/// Makes calls to a book of one seat and 150 entries, compacts it, and makes more calls.
 fn answers(alloc: Global, before: &[Call], after: &[Call]) -> Result<BeforeAndAfter, Fail> {
     run_calls::<Brand>(alloc, before, after, Blanks::new())
 }
@@ -61,7 +60,7 @@ fn run_calls<N: Names>(
     requires blanks { AreAllFor N.Names blanks }
     requires seats { N.seats ≡ 1 }
 {
-    lent();
+    book_laws::lent();
     let strategy = strategy(alloc)?;
     let limits = Limits {
         entries: 150,
@@ -82,7 +81,7 @@ fn run_calls<N: Names>(
     let entries = book.history().len();
     let second = book.run(seats.as_mut_slice(), after);
     let history = book.close(seats);
-    audited(alloc, &history, &strategy)?;
+    expect_audited(alloc, &history, &strategy)?;
     Ok(BeforeAndAfter {
         before: first?,
         dropped,

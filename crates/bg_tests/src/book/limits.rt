@@ -1,11 +1,12 @@
-//! Limits of a book, and how many seats it may have.
+//! The limits of a book, and its number of seats.
 ghost use Rattle.std.specs.Prelude.{◌≡◌, ◌≤◌};
 ghost use Rattle.bg_ledger.specs.Blanks.{AreAllFor};
 
 use super::samples::strategy;
-use crate::history::audited::audited;
-use bg_book::laws::lent;
-use bg_book::{Book, Call, Control, ControlFault, EnterFault, Limits, OpenFault, Reply};
+use crate::history::gathered::expect_audited;
+use bg_book::{
+    Book, Call, Control, ControlFault, EnterFault, Limits, OpenFault, Reply, laws as book_laws,
+};
 use bg_ledger::{Blanks, Names};
 use bg_revisions::Service;
 use bg_strategy::Strategy;
@@ -13,7 +14,7 @@ use std::alloc::Global;
 use std::marker::Brand;
 use std::test::Fail;
 
-/// A book, and the calls that are made of it.
+/// A book, and the calls that are made to it.
 #[derive(Drop)]
 struct Plan<'a> {
     alloc: Global,
@@ -23,12 +24,12 @@ struct Plan<'a> {
     calls: &'a [Call],
 }
 
-/// What an opening and the calls after it are answered.
+/// The answers to an opening and to the calls after it.
 fn answers<N: Names>(plan: &Plan, blanks: Blanks) -> Result<Result<Vec<Reply>, OpenFault>, Fail>
     requires blanks { AreAllFor N.Names blanks }
     requires seats { 1 ≤ plan.now.seats → plan.now.seats ≤ 8 → N.seats ≡ plan.now.seats }
 {
-    lent();
+    book_laws::lent();
     let opened = Book::<N>::open(
         plan.alloc,
         plan.strategy,
@@ -42,7 +43,7 @@ fn answers<N: Names>(plan: &Plan, blanks: Blanks) -> Result<Result<Vec<Reply>, O
         Ok((mut book, mut seats)) => {
             let replies = book.run(seats.as_mut_slice(), plan.calls);
             let history = book.close(seats);
-            audited(plan.alloc, &history, plan.strategy)?;
+            expect_audited(plan.alloc, &history, plan.strategy)?;
             Ok(Ok(replies?))
         }
         Err(fault) => Ok(Err(fault)),

@@ -4,9 +4,8 @@ ghost use Rattle.bg_history.specs.Requests.{open_requests};
 ghost use Rattle.bg_ledger.specs.Blanks.{AreAllFor};
 
 use super::samples::strategy;
-use crate::history::audited::audited;
-use bg_book::laws::lent;
-use bg_book::{Book, Call, Control, Left, Limits, Reply, Ticket};
+use crate::history::gathered::expect_audited;
+use bg_book::{Book, Call, Control, Left, Limits, Reply, Ticket, laws as book_laws};
 use bg_history::History;
 use bg_ledger::{Blanks, Names};
 use bg_revisions::Service;
@@ -14,7 +13,8 @@ use std::alloc::Global;
 use std::marker::Brand;
 use std::test::Fail;
 
-/// Opens a book of four seats, makes the calls, and gathers. Answers the replies and the history.
+/// Opens a book of four seats, makes the calls, and gathers the seats. Returns the replies and the
+/// history.
 fn answer_all(alloc: Global, calls: &[Call]) -> Result<(Vec<Reply>, History), Fail>
     ensures { IfOk result (λ r. open_requests r.1.past ≡ []) }
 {
@@ -41,10 +41,10 @@ fn run_calls<N: Names>(
         usual,
         blanks,
     )?;
-    lent();
+    book_laws::lent();
     let answered = book.run(seats.as_mut_slice(), calls);
     let history = book.close(seats);
-    audited(alloc, &history, &strategy)?;
+    expect_audited(alloc, &history, &strategy)?;
     Ok((answered?, history))
 }
 

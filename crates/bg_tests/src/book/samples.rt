@@ -12,7 +12,7 @@ pub(crate) fn strategy(alloc: Global) -> Result<Strategy, StrategyFault> {
     )
 }
 
-/// Two replicas, and these settings beside the active service.
+/// Two replicas, and these settings in addition to the active service.
 pub(crate) fn strategy_with(alloc: Global, settings: &str) -> Result<Strategy, Fail> {
     let mut text = Vec::new(alloc);
     write!(

@@ -2,13 +2,12 @@
 ghost use Rattle.std.specs.Prelude.{◌≡◌};
 ghost use Rattle.bg_rollout.specs.Gathering.{indices};
 
-use bg_book::laws::same_order;
-use bg_book::{Call, Desk, Reply};
+use bg_book::{Call, Desk, Reply, laws as book_laws};
 use bg_ledger::{Names, Seat};
 use bg_revisions::Service;
 use std::sync::Wait;
 
-/// Makes a call at a desk, and answers as a book does.
+/// Makes a call at a desk, and gives the reply in the form of a book's.
 pub(super) fn make<N: Names, R: Wait>(
     rt: &R,
     desk: &Desk<N>,
@@ -36,7 +35,7 @@ fn enter_at<N: Names, R: Wait>(
 ) -> Reply
     ensures { indices seats.new ≡ indices seats.old }
 {
-    same_order();
+    book_laws::same_order();
     if place >= seats.len() {
         return Reply::NoSuchSeat;
     }
@@ -53,7 +52,7 @@ fn enter_at<N: Names, R: Wait>(
 fn leave_at<N: Names, R: Wait>(rt: &R, desk: &Desk<N>, seats: &mut [Seat<N>], place: usize) -> Reply
     ensures { indices seats.new ≡ indices seats.old }
 {
-    same_order();
+    book_laws::same_order();
     if place >= seats.len() {
         return Reply::NoSuchSeat;
     }

@@ -5,9 +5,8 @@ ghost use Rattle.bg_ledger.specs.Blanks.{AreAllFor};
 
 use super::calls::make;
 use crate::book::samples::strategy_with;
-use crate::history::audited::audited;
-use bg_book::laws::{lent, same_order};
-use bg_book::{Call, Desk, GoOn, Limits, OpenBook};
+use crate::history::gathered::expect_audited;
+use bg_book::{Call, Desk, GoOn, Limits, OpenBook, laws as book_laws};
 use bg_ledger::{Blanks, Names, Seat};
 use bg_operator::{Command, LineFault, parse_line};
 use bg_strategy::Strategy;
@@ -16,10 +15,10 @@ use std::marker::Brand;
 use std::sync::Wait;
 use std::test::Fail;
 
-/// The settings of a book, and what the seat of a request is told after each line.
+/// The settings of a book, and whether the seat's request goes on after each line.
 type Story = (&'static str, [(&'static str, GoOn); 10]);
 
-/// The request that drains is that of seat 0, and seat 2 has one at the revision that took over.
+/// The draining request is at seat 0. Seat 2 has a request at the revision that took over.
 const STORIES: [Story; 3] = [
     (
         r#", "drainLimitSeconds": 10"#,
@@ -68,7 +67,7 @@ const STORIES: [Story; 3] = [
     ),
 ];
 
-/// Whether the seat at a place is told so.
+/// Whether the desk gives this answer to the seat at a place.
 fn is_told<N: Names, R: Wait>(
     rt: &R,
     desk: &Desk<N>,
@@ -78,14 +77,14 @@ fn is_told<N: Names, R: Wait>(
 ) -> bool
     ensures { indices seats.new ≡ indices seats.old }
 {
-    same_order();
+    book_laws::same_order();
     if place >= seats.len() {
         return false;
     }
     desk.may_go_on(rt, &mut seats[place]) == wanted
 }
 
-/// What is asked of a book by a line.
+/// The call that a line makes.
 fn call_of(alloc: Global, line: &str) -> Result<Call, Fail> {
     match parse_line(alloc, line.as_bytes())? {
         Command::Control(event) => Ok(Call::Control(event)),
@@ -95,7 +94,7 @@ fn call_of(alloc: Global, line: &str) -> Result<Call, Fail> {
     }
 }
 
-/// After how many lines each seat was told what it should be.
+/// The number of lines after which each seat got the expected answer.
 fn tell<N: Names, R: Wait>(
     rt: &R,
     alloc: Global,
@@ -129,7 +128,7 @@ fn tell_at<N: Names, R: Wait>(
     requires blanks { AreAllFor N.Names blanks }
     requires seats { N.seats ≡ 4 }
 {
-    lent();
+    book_laws::lent();
     let limits = Limits::usual();
     let opened = OpenBook::<N>::open(alloc, strategy, "v1", &[9001, 9002], 4, limits, blanks)?;
     let (book, mut seats) = opened.into_parts();
@@ -137,7 +136,7 @@ fn tell_at<N: Names, R: Wait>(
     let told = tell(rt, alloc, &desk, seats.as_mut_slice(), story);
     let history = desk.into_book().close(seats);
     let told = told?;
-    audited(alloc, &history, strategy)?;
+    expect_audited(alloc, &history, strategy)?;
     Ok(told)
 }
 

@@ -1,9 +1,9 @@
-//! What seats a book is gathered with.
+//! The seats with which a book is gathered.
 ghost use Rattle.std.specs.Prelude.{◌≡◌};
 ghost use Rattle.bg_ledger.specs.Blanks.{AreAllFor};
 
 use crate::book::samples::strategy;
-use crate::history::audited::audited;
+use crate::history::gathered::expect_audited;
 use bg_book::{Book, Control, GatherFault, Limits};
 use bg_ledger::{Blanks, Names, Seat};
 use bg_revisions::Service;
@@ -12,7 +12,8 @@ use std::marker::Brand;
 use std::process::Abort;
 use std::test::Fail;
 
-/// What a book of two seats was answered: without its last seat, while seat 0 is in, and once it has left.
+/// The results of gathering a book of two seats: without its last seat, while seat 0 is in, and after it
+/// has left.
 #[derive(Clone, Copy, PartialEq, Eq, Debug, Drop)]
 struct Told {
     short: GatherFault,
@@ -20,7 +21,7 @@ struct Told {
     entries: u64,
 }
 
-/// Gathers what can't be gathered.
+/// Gathers seats that cannot be gathered.
 fn refused<N: Names>(
     rt: &impl Abort,
     book: Book<N>,
@@ -74,7 +75,7 @@ fn leave_first<N: Names>(rt: &impl Abort, book: &mut Book<N>, seats: &mut [Seat<
     let _left = book.leave(seat);
 }
 
-/// Opens a book of two seats, and gathers it when it can be and when it can't.
+/// Opens a book of two seats, and tries to gather it when this is possible and when it is not.
 fn gather_often<N: Names, R: Abort>(rt: &R, alloc: Global, blanks: Blanks) -> Result<Told, Fail>
     requires blanks { AreAllFor N.Names blanks }
     requires seats { N.seats ≡ 2 }
@@ -102,7 +103,7 @@ fn gather_often<N: Names, R: Abort>(rt: &R, alloc: Global, blanks: Blanks) -> Re
     leave_first(rt, &mut book, &mut seats);
     match book.gather(seats) {
         Ok(history) => {
-            audited(alloc, &history, &strategy)?;
+            expect_audited(alloc, &history, &strategy)?;
             Ok(Told {
                 short,
                 busy,

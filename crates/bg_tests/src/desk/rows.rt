@@ -1,4 +1,5 @@
-//! Scripts through a desk, on one thread: it answers and records what the book answers and records.
+//! Scripts through a desk, on one thread. The desk answers and records what the book answers and records, also if the
+//! book has carried out the first lines itself.
 ghost use Rattle.std.specs.Prelude.{◌≡◌, true, ⊤};
 ghost use Rattle.bg_rollout.specs.Gathering.{are_all, indices};
 ghost use Rattle.bg_ledger.specs.Blanks.{AreAllFor};
@@ -6,9 +7,9 @@ ghost use Rattle.bg_ledger.specs.Blanks.{AreAllFor};
 use super::calls::make;
 use super::scripts::ROWS;
 use crate::book::samples::strategy_with;
-use crate::history::audited::audited;
-use bg_book::laws::lent;
-use bg_book::{Book, Call, Desk, Limits, OpenBook, Question, Reply};
+use crate::history::gathered::expect_audited;
+use crate::history::texts::lines_of;
+use bg_book::{Book, Call, Desk, Limits, OpenBook, Question, Reply, laws as book_laws};
 use bg_history::History;
 use bg_ledger::{Blanks, Names, Seat};
 use bg_operator::{Command, LineFault, parse_line};
@@ -26,17 +27,19 @@ use std::test::Fail;
 struct Script<'a> {
     alloc: Global,
     strategy: &'a Strategy,
-    lines: &'a str,
+    /// The lines that the book carries out itself before it gets a desk.
+    before: &'a [&'a str],
+    lines: &'a [&'a str],
 }
 
-/// What was answered, and the entries of the history once all seats have left.
+/// The answers, and the entries of the history after all seats have left.
 #[derive(Drop)]
 pub(crate) struct Played {
     answers: Vec<u8>,
     pub(crate) entries: Vec<u8>,
 }
 
-/// Where the lines of a script are carried out.
+/// A book or a desk that carries out the lines of a script.
 trait Player {
     fn call(&mut self, call: &Call) -> Reply;
 
@@ -83,7 +86,7 @@ impl Question<io::Result<()>> for Report<'_> {
 
 impl<N: Names, R: Wait> Player for AtDesk<'_, N, R> {
     fn call(&mut self, call: &Call) -> Reply {
-        lent();
+        book_laws::lent();
         make(self.rt, &self.desk, self.seats.as_mut_slice(), call)
     }
 
@@ -96,10 +99,15 @@ impl<N: Names, R: Wait> Player for AtDesk<'_, N, R> {
     }
 }
 
-/// Carries out the lines of a script, and writes what each is answered.
-fn play<P: Player>(script: &Script, player: &mut P, answers: &mut Vec<u8>) -> Result<(), Fail> {
-    for line in script.lines.lines() {
-        match parse_line(script.alloc, line.as_bytes())? {
+/// Carries out lines, and writes the answer to each.
+fn play<P: Player>(
+    alloc: Global,
+    lines: &[&str],
+    player: &mut P,
+    answers: &mut Vec<u8>,
+) -> Result<(), Fail> {
+    for line in lines {
+        match parse_line(alloc, line.as_bytes())? {
             Command::Control(event) => reply(&player.call(&Call::Control(event)), answers)?,
             Command::Enter { seat, service } => {
                 reply(&player.call(&Call::Enter { seat, service }), answers)?;
@@ -111,6 +119,17 @@ fn play<P: Player>(script: &Script, player: &mut P, answers: &mut Vec<u8>) -> Re
         }
     }
     Ok(())
+}
+
+/// Carries out the lines that come after those before, unless one of those failed.
+fn go_on<P: Player>(
+    before: Result<(), Fail>,
+    script: &Script,
+    player: &mut P,
+    answers: &mut Vec<u8>,
+) -> Result<(), Fail> {
+    before?;
+    play(script.alloc, script.lines, player, answers)
 }
 
 /// Writes the entries of a history, oldest first.
@@ -147,10 +166,11 @@ fn play_at_book<N: Names>(script: &Script, blanks: Blanks) -> Result<Played, Fai
     let mut player = open::<N>(script, blanks)?;
     let mut answers = Vec::new(script.alloc);
     let mut entries = Vec::new(script.alloc);
-    let played = play(script, &mut player, &mut answers);
+    let before = play(script.alloc, script.before, &mut player, &mut answers);
+    let played = go_on(before, script, &mut player, &mut answers);
     let history = player.close();
     played?;
-    audited(script.alloc, &history, script.strategy)?;
+    expect_audited(script.alloc, &history, script.strategy)?;
     write_entries(&history, &mut entries)?;
     Ok(Played { answers, entries })
 }
@@ -159,31 +179,37 @@ fn play_at_desk<N: Names, R: Wait>(rt: &R, script: &Script, blanks: Blanks) -> R
     requires blanks { AreAllFor N.Names blanks }
     requires seats { N.seats ≡ 4 }
 {
-    let (book, seats) = open::<N>(script, blanks)?.into_parts();
+    let mut opened = open::<N>(script, blanks)?;
     let mut answers = Vec::new(script.alloc);
     let mut entries = Vec::new(script.alloc);
+    let before = play(script.alloc, script.before, &mut opened, &mut answers);
+    let (book, seats) = opened.into_parts();
     let desk = Desk::new(book);
     let mut player = AtDesk { rt, desk, seats };
-    let played = play(script, &mut player, &mut answers);
+    let played = go_on(before, script, &mut player, &mut answers);
     let AtDesk { rt: _, desk, seats } = player;
     let history = desk.into_book().close(seats);
     played?;
-    audited(script.alloc, &history, script.strategy)?;
+    expect_audited(script.alloc, &history, script.strategy)?;
     write_entries(&history, &mut entries)?;
     Ok(Played { answers, entries })
 }
 
-/// What the script is answered by a book, and by a desk.
+/// The answers to the script of a book, and of a desk over a book that has carried out this many lines of it.
 pub(crate) fn play_both<R: Wait>(
     rt: &R,
     alloc: Global,
     settings: &str,
-    lines: &str,
+    script: &str,
+    used: usize,
 ) -> Result<(Played, Played), Fail> {
     let strategy = strategy_with(alloc, settings)?;
+    let lines = lines_of(alloc, script)?;
+    let (before, lines) = lines.split_at(used.min(lines.len()));
     let script = Script {
         alloc,
         strategy: &strategy,
+        before,
         lines,
     };
     let at_book = play_at_book::<Brand>(&script, Blanks::new())?;
@@ -191,21 +217,32 @@ pub(crate) fn play_both<R: Wait>(
     Ok((at_book, at_desk))
 }
 
+/// The place of the first script with other answers or records at a desk over a book that has carried out this
+/// many lines.
+fn first_other<R: Wait>(rt: &R, alloc: Global, used: usize) -> Result<Option<usize>, Fail> {
+    for (place, (settings, script)) in ROWS.iter().enumerate() {
+        let (at_book, at_desk) = play_both(rt, alloc, settings, script, used)?;
+        if at_book.answers.is_empty()
+            || at_desk.answers.as_slice() != at_book.answers.as_slice()
+            || at_desk.entries.as_slice() != at_book.entries.as_slice()
+        {
+            return Ok(Some(place));
+        }
+    }
+    Ok(None)
+}
+
 #[test]
 fn desk_rows(rt: HostRuntime) -> Result<(), Fail> {
-    for (settings, script) in &ROWS {
-        let (at_book, at_desk) = play_both(&rt, rt.alloc(), settings, script)?;
-        assert!(rt; !at_book.answers.is_empty(), "{script}");
-        assert_eq!(rt;
-            at_desk.answers.as_slice(),
-            at_book.answers.as_slice(),
-            "{script}"
-        );
-        assert_eq!(rt;
-            at_desk.entries.as_slice(),
-            at_book.entries.as_slice(),
-            "{script}"
-        );
+    assert_eq!(rt; first_other(&rt, rt.alloc(), 0)?, None);
+    Ok(())
+}
+
+/// A desk continues after the calls of its book.
+#[test]
+fn used_books(rt: HostRuntime) -> Result<(), Fail> {
+    for used in 1..5usize {
+        assert_eq!(rt; first_other(&rt, rt.alloc(), used)?, None, "{used}");
     }
     Ok(())
 }

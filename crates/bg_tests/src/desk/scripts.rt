@@ -1,6 +1,7 @@
 //! The scripts that are played at a book and at a desk.
 
-/// What `blueGreen` has beside the active service, and the lines after `open v1 9001 9002`.
+/// The settings of `blueGreen` in addition to the active service, and the lines after
+/// `open v1 9001 9002`.
 pub(crate) const ROWS: [(&str, &str); 24] = [
     // drops the entries of closed requests, and of neighbouring ticks all but the last
     (

@@ -5,9 +5,8 @@ ghost use Rattle.bg_book.specs.Runs.{AreOut};
 ghost use Rattle.bg_ledger.specs.Blanks.{AreAllFor};
 
 use crate::book::samples::strategy;
-use crate::history::audited::audited;
-use bg_book::laws::{lent, same_order};
-use bg_book::{Book, Control, Desk, Limits};
+use crate::history::gathered::expect_audited;
+use bg_book::{Book, Control, Desk, Limits, laws as book_laws};
 use bg_history::History;
 use bg_ledger::{Blanks, Names, Seat};
 use bg_revisions::Service;
@@ -18,13 +17,13 @@ use std::sync::Wait;
 use std::test::Fail;
 use std::thread::{Threads, for_each_mut, join_mut};
 
-/// How often each worker enters and leaves.
+/// The number of times that each worker enters and leaves.
 const ROUNDS: u32 = 1000;
 
 /// The last of the ticks.
 const LAST_MOMENT: u64 = 100;
 
-/// A worker: each round enters and leaves. Rounds that are refused are not made up for.
+/// A worker: each round enters and leaves. A refused round is not repeated.
 fn work<N: Names, R: Wait>(rt: &R, desk: &Desk<N>, seat: &mut Seat<N>)
     requires { seat.old.number ≡ 0 }
     ensures out { seat.new.number ≡ 0 }
@@ -46,7 +45,7 @@ fn work_all<N: Names + Send + Sync, R: Threads + Wait + Sync>(
     requires { AreOut seats.old }
     ensures { indices seats.new ≡ indices seats.old }
 {
-    same_order();
+    book_laws::same_order();
     let threads = seats.len();
     if threads == 0 {
         return;
@@ -62,14 +61,14 @@ fn work_all<N: Names + Send + Sync, R: Threads + Wait + Sync>(
     );
 }
 
-/// Makes the ticks. Those that are refused are not made up for.
+/// Makes the ticks. A refused tick is not repeated.
 fn tick<N: Names, R: Wait>(rt: &R, desk: &Desk<N>) {
     for moment in 1..=LAST_MOMENT {
         let _told = desk.control(rt, &Control::Tick(moment));
     }
 }
 
-/// Works the seats, and makes the ticks beside them.
+/// Serves the seats, and makes the ticks in parallel.
 fn work_and_tick<N: Names + Send + Sync, R: Threads + Wait + Sync>(
     rt: &R,
     desk: &Desk<N>,
@@ -88,14 +87,14 @@ fn work_and_tick<N: Names + Send + Sync, R: Threads + Wait + Sync>(
     );
 }
 
-/// What the test looks at.
+/// The results that the test checks.
 #[derive(Drop)]
 struct Worked {
     calls: [u64; 2],
     history: History,
 }
 
-/// How many calls both seats were answered.
+/// The number of calls of each of both seats.
 fn calls_of_both<N: Names>(seats: &[Seat<N>]) -> [u64; 2] {
     match seats {
         [first, second] => [first.calls(), second.calls()],
@@ -103,7 +102,7 @@ fn calls_of_both<N: Names>(seats: &[Seat<N>]) -> [u64; 2] {
     }
 }
 
-/// Opens a book of two seats with both endpoints, works it, and gathers.
+/// Opens a book of two seats with both endpoints, serves its seats, and gathers them.
 fn open_and_work<N: Names + Send + Sync, R: Threads + Wait + Sync + Abort>(
     rt: &R,
     alloc: Global,
@@ -113,7 +112,7 @@ fn open_and_work<N: Names + Send + Sync, R: Threads + Wait + Sync + Abort>(
     requires seats { N.seats ≡ 2 }
     ensures { IfOk result (λ worked. worked.history.opening.seats ≡ 2) }
 {
-    lent();
+    book_laws::lent();
     let strategy = strategy(alloc)?;
     let available = Control::Available {
         revision: 1,
@@ -137,7 +136,7 @@ fn open_and_work<N: Names + Send + Sync, R: Threads + Wait + Sync + Abort>(
         Err(_handed_back) => rt.abort(),
     };
     let _outcomes = told?;
-    audited(alloc, &history, &strategy)?;
+    expect_audited(alloc, &history, &strategy)?;
     Ok(Worked { calls, history })
 }
 

@@ -1,4 +1,4 @@
-//! A history is audited by its definitions.
+//! The audit of a history by its definitions.
 use crate::history::texts::{history_of, lines_of};
 use bg_audit::audit;
 use bg_strategy::read;
@@ -14,7 +14,7 @@ const ROWS: [(&[u16], &str, bool); 8] = [
     (&[9001, 9002], "available 1 2", true),
     // no attempt runs, so the active service can't be switched
     (&[9001, 9002], "switched 1", false),
-    // revision 2 is ready: that it is stands undone
+    // revision 2 is ready, and the outcome of that is not recorded
     (&[9001, 9002], "deploy 2 v2 9101 9102\navailable 2 2", false),
     (
         &[9001, 9002],

@@ -1,8 +1,9 @@
-//! Histories that scripts gather, each with one entry changed: the audit tells the good ones from the bad ones.
+//! Histories that scripts gather, each with one entry changed. The audit accepts the good ones and rejects the
+//! bad ones.
 use crate::book::samples::strategy_with;
 use crate::desk::rows::{play_both, write_entries};
 use crate::desk::scripts::ROWS;
-use crate::history::changed::{CHANGED, Changed};
+use crate::history::changed_histories::{CHANGED, Changed};
 use crate::history::texts::{history_of, lines_of};
 use bg_audit::audit;
 use bg_history::History;
@@ -43,7 +44,7 @@ fn make<'a>(lines: &mut Vec<&'a str>, change: &'a str) -> Result<(), Fail> {
     Ok(())
 }
 
-/// The first word, and what follows it.
+/// The first word, and the text after it.
 fn first_word(text: &str) -> (&str, &str) {
     match text.split_once(' ') {
         Some(parts) => parts,
@@ -77,7 +78,7 @@ fn changes_what_scripts_gather(rt: HostRuntime) -> Result<(), Fail> {
         let Some((settings, script)) = ROWS.get(changed.row) else {
             panic!(rt; "there is no row {}", changed.row);
         };
-        let (at_book, _at_desk) = play_both(&rt, rt.alloc(), settings, script)?;
+        let (at_book, _at_desk) = play_both(&rt, rt.alloc(), settings, script, 0)?;
         let lines = lines_of(rt.alloc(), changed.entries)?;
         let history = history_of(rt.alloc(), 4, &[9001, 9002], &lines)?;
         let mut entries = Vec::new(rt.alloc());

@@ -1,4 +1,5 @@
-//! An entry is small: a request's two take 80 bytes at most, and the name and the ports of a deploy one pointer each.
+//! An entry is small: the two entries of a request take at most 80 bytes, and the name and the ports of a deploy take
+//! one pointer each.
 use bg_history::Entry;
 use bg_revisions::{Name, Ports};
 use std::mem::size_of;

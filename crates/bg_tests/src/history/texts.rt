@@ -1,7 +1,8 @@
 //! Histories from texts: an entry a line.
 //!
-//! The lines are those of operators, with what an entry has beside: `deploy REVISION NAME PORT..`,
-//! `enter SEAT SERVICE NUMBER REVISION PORT`, `leave SEAT NUMBER REVISION`, and for each outcome its word and its revision.
+//! The lines are those of operators, with the further parts of an entry: `deploy REVISION NAME PORT..`,
+//! `enter SEAT SERVICE NUMBER REVISION PORT`, `leave SEAT NUMBER REVISION`,
+//! and for each outcome its word and its revision.
 use bg_history::{Analysis, AnalysisResult, Entry, History, Outcome};
 use bg_revisions::{Name, Ports, Service};
 use std::alloc::Global;
@@ -17,7 +18,7 @@ pub(crate) fn lines_of(alloc: Global, text: &str) -> Result<Vec<&str>, Fail> {
     Ok(lines)
 }
 
-/// A history for so many seats, whose revision 1 is v1 with these ports.
+/// A history for this many seats, whose revision 1 is v1 with these ports.
 pub(crate) fn history_of(
     alloc: Global,
     seats: u32,

@@ -1,15 +1,15 @@
-//! How the crate is meant to be used: new ledgers, a function over `Names` that pairs four seats, works them from two
+//! The intended use of the crate: new ledgers, a function over `Names` that pairs four seats, uses them from two
 //! threads and reunites them, and a caller that names the ledgers.
 ghost use Rattle.std.specs.Prelude.{◌≡◌, ◌<◌, ◌+◌, ◌*◌, ◌^◌, [], ◌∷◌};
 ghost use Rattle.bg_ledger.specs.Blanks.{AreAllFor};
-ghost use Rattle.bg_ledger.specs.Holdings.{fresh, occupied, vacated};
+ghost use Rattle.bg_ledger.specs.Holdings.{fresh, after_enter, after_leave};
 
 use bg_ledger::{Blanks, Names, Seat, SeatRecord, pair};
 use std::marker::Brand;
 use std::sync::{Mutex, Wait};
 use std::thread::{Threads, join_mut};
 
-/// What stands under the lock: the record of each seat.
+/// The data under the lock: the record of each seat.
 #[derive(Drop)]
 struct Records<N: Names> {
     first: SeatRecord<N>,
@@ -19,7 +19,7 @@ struct Records<N: Names> {
     ghost in_order: { (first.index ≡ 0) × (second.index ≡ 1) × (third.index ≡ 2) × (fourth.index ≡ 3) },
 }
 
-/// Four seats. They are lent to the threads that work them.
+/// Four seats. The threads that use them borrow them.
 struct Seats<N: Names> {
     first: Seat<N>,
     second: Seat<N>,
@@ -33,7 +33,7 @@ impl<N: Names> Records<N> {
         requires out { seat.old.number ≡ 0 }
         requires number { 0 < number }
         requires calls { seat.old.calls < 2 ^ 60 }
-        ensures { seat.new ≡ occupied seat.old number 1 8080 }
+        ensures { seat.new ≡ after_enter seat.old number 1 8080 }
     {
         match seat.index() {
             0 => self.first.enter(seat, number, 1, 8080),
@@ -46,7 +46,7 @@ impl<N: Names> Records<N> {
     fn leave(&mut self, seat: &mut Seat<N>)
         requires index { seat.old.index < 4 }
         requires is_in { 0 < seat.old.number }
-        ensures { seat.new ≡ vacated seat.old }
+        ensures { seat.new ≡ after_leave seat.old }
     {
         let _request = match seat.index() {
             0 => self.first.leave(seat),
@@ -69,7 +69,7 @@ fn work<N: Names, R: Wait>(rt: &R, records: &Mutex<Records<N>>, seat: &mut Seat<
     }
 }
 
-/// Works two seats in each of two threads.
+/// Uses two seats in each of two threads.
 fn work_in_two_threads<N: Names + Send + Sync, R: Threads + Wait + Sync>(
     rt: &R,
     records: &Mutex<Records<N>>,
@@ -108,7 +108,7 @@ fn work_in_two_threads<N: Names + Send + Sync, R: Threads + Wait + Sync>(
     );
 }
 
-/// Pairs four seats, works them and reunites them. Answers the calls of each.
+/// Pairs four seats, uses them and reunites them. Returns the number of calls of each.
 fn work_four_seats<N: Names + Send + Sync, R: Threads + Wait + Sync>(
     rt: &R,
     blanks: Blanks,

@@ -1,4 +1,5 @@
-//! The ledgers take no bytes: each side is as large as its index and four numbers, and blanks are nothing.
+//! The ledgers take no bytes: each side is as large as its index and four numbers, and blanks have no
+//! size.
 use bg_ledger::{Blanks, Seat, SeatRecord};
 use std::marker::Brand;
 use std::mem::size_of;

@@ -1,4 +1,4 @@
-//! A worked example of the lists; that each value is dropped once, and that the lists may cross threads.
+//! A worked example of the lists. Each value is dropped once, and another thread may have the lists.
 ghost use Rattle.std.specs.Prelude.{◌≡◌, ◌<◌};
 
 use bg_openlist::OpenLists;

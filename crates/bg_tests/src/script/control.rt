@@ -3,7 +3,7 @@ ghost use Rattle.std.specs.Prelude.{◌≡◌};
 ghost use Rattle.bg_ledger.specs.Blanks.{AreAllFor};
 
 use crate::book::samples::strategy;
-use crate::history::audited::audited;
+use crate::history::gathered::expect_audited;
 use crate::script::streams::Unflushed;
 use bg_book::{Book, Desk, Limits};
 use bg_ledger::{Blanks, Names};
@@ -12,6 +12,7 @@ use bg_script::{BeforeOpen, ControlEnd, RunEnd, answer_at_desk, answer_before_op
 use std::alloc::Global;
 use std::marker::Brand;
 use std::sync::Wait;
+use std::sync::atomic::{AtomicU64, Ordering};
 use std::test::Fail;
 
 const BEFORE: &str =
@@ -36,8 +37,8 @@ end
 fault WrongCount
 ";
 
-/// The third tick finds no room in a history of 143 places, and the first is dropped for it. The last report finds
-/// none, and nothing can be dropped.
+/// The third tick finds no room in a history of 143 places, so the entry of the first is dropped. The last report
+/// of availability finds no room, and nothing can be dropped.
 const AT_FULL_DESK: &str =
     "available 1 2\ntick 1\ntick 2\ntick 3\ncompact\navailable 1 1\navailable 1 2\n";
 
@@ -61,11 +62,12 @@ fn leaves_an_open_to_the_caller(rt: HostRuntime) -> Result<(), Fail> {
     Ok(())
 }
 
-/// How the lines ended, and what they were answered.
+/// How the lines ended, the answers to them, and how many were refused because the history is full.
 #[derive(Drop)]
 struct Answered {
     end: Result<ControlEnd, RunEnd>,
     answers: Vec<u8>,
+    refused_for_room: u64,
 }
 
 fn answer<N: Names, R: Wait>(
@@ -83,10 +85,15 @@ fn answer<N: Names, R: Wait>(
     let mut taken = OperatorLines::new(alloc);
     let (book, seats) = Book::<N>::open(alloc, &strategy, "v1", &[9001, 9002], 1, limits, blanks)?;
     let desk = Desk::new(book);
-    let end = answer_at_desk(rt, alloc, &desk, &mut taken, lines, &mut answers);
+    let refused = AtomicU64::new(0);
+    let end = answer_at_desk(rt, alloc, &desk, &refused, &mut taken, lines, &mut answers);
     let history = desk.into_book().close(seats);
-    audited(alloc, &history, &strategy)?;
-    Ok(Answered { end, answers })
+    expect_audited(alloc, &history, &strategy)?;
+    Ok(Answered {
+        end,
+        answers,
+        refused_for_room: refused.load(Ordering::SeqCst),
+    })
 }
 
 fn answer_lines<R: Wait>(rt: &R, alloc: Global, lines: &mut &[u8]) -> Result<Answered, Fail> {
@@ -108,6 +115,7 @@ fn answers_at_a_desk_up_to_quit(rt: HostRuntime) -> Result<(), Fail> {
     let answered = answer_lines(&rt, rt.alloc(), &mut lines)?;
     assert_eq!(rt; answered.end, Ok(ControlEnd::Quit));
     assert_eq!(rt; answered.answers.as_slice(), AT_DESK_ANSWERS.as_bytes());
+    assert_eq!(rt; answered.refused_for_room, 0);
     assert_eq!(rt; lines, b"report\n".as_slice());
     Ok(())
 }
@@ -137,6 +145,7 @@ fn compacts_a_full_history_and_asks_again(rt: HostRuntime) -> Result<(), Fail> {
         answered.answers.as_slice(),
         AT_FULL_DESK_ANSWERS.as_bytes()
     );
+    assert_eq!(rt; answered.refused_for_room, 1);
     Ok(())
 }
 

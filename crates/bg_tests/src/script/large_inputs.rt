@@ -1,12 +1,12 @@
-//! How much is read of an input that has no end.
+//! The number of bytes that are read of an input without end.
 use crate::script::streams::{Endless, Page};
 use bg_script::{check, replay};
 use std::test::Fail;
 
-/// How many bytes a strategy has at most.
+/// The maximum length of a strategy in bytes.
 const LARGEST: usize = 1_048_576;
 
-/// How many bytes are read at once, at most.
+/// The maximum number of bytes of one read.
 const PIECE: usize = 8192;
 
 #[test]

@@ -1,4 +1,4 @@
-//! `check` and `replay` over readers and writers that are slow or fail. What they answer stands in rows/.
+//! `check` and `replay` over readers and writers that are slow or fail. Their answers are in rows/.
 use crate::script::streams::{Failing, Page, Slow};
 use bg_script::{RunEnd, check, replay};
 use std::alloc::Global;
@@ -6,7 +6,7 @@ use std::io::{Read, Write};
 use std::process::Abort;
 use std::test::Fail;
 
-/// What is run.
+/// The command that is run.
 #[derive(Clone, Copy, Drop)]
 enum Command {
     Check,
@@ -76,7 +76,8 @@ fn fails_with_each_read(rt: HostRuntime) {
     }
 }
 
-/// How many reads a run takes, a byte each; with fewer it fails. 0 where it fails with 1,000 too.
+/// The number of reads of one byte that a run needs; with fewer it fails. 0 if it fails even with
+/// 1,000.
 fn reads_taken(rt: &impl Abort, alloc: Global, command: Command, input: &str) -> usize {
     for reads_left in 0..1000usize {
         let mut reader = Slow::new(input.as_bytes(), reads_left);
@@ -98,7 +99,7 @@ fn fails_with_each_write(rt: HostRuntime) {
     }
 }
 
-/// How many writes a run takes; with fewer it fails. 0 where it fails with 200 too.
+/// The number of writes that a run needs; with fewer it fails. 0 if it fails even with 200.
 fn writes_taken(rt: &impl Abort, alloc: Global, command: Command, input: &str) -> usize {
     for writes_left in 0..200usize {
         let mut reader = input.as_bytes();

@@ -1,4 +1,4 @@
-//! How much is read of a strategy before a script that has no end.
+//! The number of bytes that are read of a strategy before a script without end.
 use crate::script::streams::Endless;
 use bg_operator::{StrategyPart, part_before_script};
 use std::io::BufReader;

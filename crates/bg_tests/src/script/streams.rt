@@ -2,7 +2,7 @@
 use std::io;
 use std::io::{ErrorKind, Read, Write};
 
-/// Gives a byte at a time, and is interrupted before each. Fails where so many reads were answered.
+/// Gives one byte at a time, and is interrupted before each. Fails after this many reads.
 #[derive(Drop)]
 pub struct Slow<'a> {
     bytes: &'a [u8],
@@ -19,7 +19,7 @@ impl<'a> Slow<'a> {
         }
     }
 
-    /// The bytes that it didn't give yet.
+    /// The bytes that it has not given yet.
     pub fn unread(&self) -> &'a [u8] {
         self.bytes
     }
@@ -59,7 +59,7 @@ impl Read for Interrupted {
     }
 }
 
-/// Gives one and the same byte forever, and counts the bytes that it gave.
+/// Gives the same byte forever, and counts the bytes that it gave.
 #[derive(Drop)]
 pub struct Endless {
     pub byte: u8,
@@ -77,7 +77,7 @@ impl Read for Endless {
     }
 }
 
-/// Holds what was written, a byte at a time, up to its room; takes no memory.
+/// Holds the bytes that were written, one at a time, up to its room. It allocates nothing.
 #[derive(Drop)]
 pub struct Page {
     bytes: [u8; 1024],
@@ -115,7 +115,7 @@ impl Write for Page {
     }
 }
 
-/// Takes so many writes, and then fails.
+/// Accepts this many writes, and then fails.
 #[derive(Drop)]
 pub struct Failing {
     pub writes_left: usize,
@@ -135,7 +135,7 @@ impl Write for Failing {
     }
 }
 
-/// Takes each write, and fails to flush.
+/// Accepts each write, and fails to flush.
 #[derive(Drop)]
 pub struct Unflushed;
 

@@ -1,4 +1,4 @@
-//! Requests whose bodies come in chunks, rightly or wrongly (RFC 9112 section 7.1).
+//! Requests with correct and wrong chunked bodies (RFC 9112 section 7.1).
 use super::HI;
 use crate::passing::Outcome::GoesOn;
 use crate::passing::{BAD, CLOSED, Row, TOO_LARGE};

@@ -1,4 +1,5 @@
-//! Requests that name codings, rightly, wrongly or beside a length (RFC 9112 sections 6.1 and 6.3).
+//! Requests with correct and wrong codings, and with codings and a length (RFC 9112 sections 6.1
+//! and 6.3).
 use super::HI;
 use crate::passing::Outcome::GoesOn;
 use crate::passing::{BAD, CLOSED, NOT_DONE, Row};

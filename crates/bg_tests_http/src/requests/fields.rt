@@ -1,4 +1,4 @@
-//! Requests whose fields speak of one connection, and go no further (RFC 9110 section 7.6.1).
+//! Requests with fields that concern one connection and are not forwarded (RFC 9110 section 7.6.1).
 use super::GOT;
 use crate::passing::Outcome::GoesOn;
 use crate::passing::Row;

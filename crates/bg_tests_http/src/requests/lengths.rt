@@ -1,4 +1,4 @@
-//! Requests that tell the length of their body, rightly, wrongly or twice (RFC 9110 section 8.6,
+//! Requests that give the length of their body correctly, wrongly or twice (RFC 9110 section 8.6,
 //! RFC 9112 section 6.3).
 use super::HI;
 use crate::passing::Outcome::GoesOn;

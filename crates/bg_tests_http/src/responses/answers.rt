@@ -1,4 +1,4 @@
-//! Responses that go back to the client (RFC 9112 section 6.3).
+//! Responses that are forwarded to the client (RFC 9112 section 6.3).
 use super::HI;
 use crate::passing::Outcome::GoesOn;
 use crate::passing::Row;

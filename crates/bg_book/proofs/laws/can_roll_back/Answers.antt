@@ -8,11 +8,11 @@ use Rattle.bg_book.proofs.laws.can_roll_back.Goals as goal
 pub returns-clause-past : goal.returns-clause-past
 returns-clause-past g c =
     let b = c.book.inside.rollout.routing in
-    subst (λ (b : Routing). CanRollBack b.strategy b.opening b.past) c.book.view_is (c.can_roll_back.ensures b.strategy b.opening b.closed b.past c.stands.ensures.legal)
+    subst (λ (b : Routing). CanRollBack b.strategy b.opening b.past) c.book.view_is (c.can_roll_back.ensures b.strategy b.opening b.closed b.past c.holds_invariant.ensures.legal)
 
 pub returns-clause-calls : goal.returns-clause-calls
 returns-clause-calls g c =
     let b = c.book.inside.rollout.routing in
-    let legal = c.stands.ensures.legal in
+    let legal = c.holds_invariant.ensures.legal in
     subst CallsRollBack c.book.view_is
     (calls-roll_back b (c.can_roll_back.ensures b.strategy b.opening b.closed b.past legal) (c.reachable.ensures b.strategy b.opening b.past legal.allowed))

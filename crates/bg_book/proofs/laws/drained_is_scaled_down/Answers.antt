@@ -7,4 +7,4 @@ returns g c =
     let b = c.book.inside.rollout.routing in
     subst LastLeaveScalesDown c.book.view_is
     (λ seats place seat left new new_seats step waits.
-    c.drained_is_scaled_down.ensures b.strategy b.opening b.closed b.past seat.index seat.number seat.revision step.2.1.outcomes new.past c.stands.ensures.legal c.book.invariant.settled waits step.2.1.step)
+    c.drained_is_scaled_down.ensures b.strategy b.opening b.closed b.past seat.index seat.number seat.revision step.2.1.outcomes new.past c.holds_invariant.ensures.legal c.book.invariant.settled waits step.2.1.step)

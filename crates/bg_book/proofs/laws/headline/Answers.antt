@@ -6,7 +6,7 @@ use Rattle.bg_book.proofs.laws.headline.Goals as goal
 pub returns : goal.returns
 returns g c =
     let b = c.book.inside.rollout.routing in
-    let stand = c.stands.ensures in
+    let represents = c.holds_invariant.ensures in
     subst Headline c.book.view_is
-    (headline_of b stand (c.reachable.ensures b.strategy b.opening b.past stand.legal.allowed) c.book.invariant.settled (c.state_tells.ensures.deadlines b stand)
-    (c.lists_requests.ensures.nodes b stand) (c.lists_requests.ensures.numbers b stand) (c.lists_requests.ensures.shares b stand))
+    (headline_of b represents (c.reachable.ensures b.strategy b.opening b.past represents.legal.allowed) c.book.invariant.settled (c.state_tells.ensures.deadlines b represents)
+    (c.lists_requests.ensures.nodes b represents) (c.lists_requests.ensures.numbers b represents) (c.lists_requests.ensures.shares b represents))

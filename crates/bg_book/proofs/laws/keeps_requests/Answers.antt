@@ -6,7 +6,7 @@ use Rattle.bg_book.proofs.laws.keeps_requests.Goals as goal
 pub returns : goal.returns
 returns g c =
     let b = c.book.inside.rollout.routing in
-    let legal = c.stands.ensures.legal in
+    let legal = c.holds_invariant.ensures.legal in
     let kept = c.keeps_requests.ensures in
     subst KeepsRequests c.book.view_is (record {
       every = λ q is. kept.every b.strategy b.opening b.closed b.past q legal is;

@@ -9,4 +9,4 @@ returns-in-Ok-clause-client g c =
 pub returns-in-Err-clause-client : goal.returns-in-Err-clause-client
 returns-in-Err-clause-client g c =
     turned_away _ _ (g.S.Write.contents c.read_request.new.stream) _ c.in-Err.fault _ c.in-Err.ensures.fault
-    c.in-Err.ensures.written c.turn_away.ensures.may_end c.turn_away.ensures.wrote
+    c.in-Err.ensures.written c.turn_away-outcome.ensures.may_end c.turn_away-outcome.ensures.wrote

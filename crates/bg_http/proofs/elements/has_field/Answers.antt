@@ -8,4 +8,4 @@ use Rattle.bg_http.proofs.elements.has_field.Goals as goal
 pub returns : goal.returns
 returns c =
     any_from_yields_List (is_named (spelled c.args.name)) c.any.new.self _ _ c.any.ensures.ran
-    (YieldsList-from_first (λ x. x) (λ left. left) c.args.fields.now c.iter.ensures) (λ x b q k. search (rules, tests))
+    (YieldsList-from_first (λ x. x) (λ left. left) c.args.fields.now c.get.ensures) (λ x b q k. search (rules, tests))

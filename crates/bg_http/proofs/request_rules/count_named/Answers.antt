@@ -9,5 +9,5 @@ pub returns : goal.returns
 returns c =
     count_from_yields_List {v = λ x. x} {all = _} c.filter.result c.count.result c.count.ensures.ran
     (YieldsList-from_filter _ (is_named (spelled c.args.name))
-    (YieldsList-from_first (λ x. x) (λ left. left) c.args.fields.now (c.filter.ensures.source ∙ c.iter.ensures)) c.filter.ensures.closure (λ x b q k. search (rules, tests)))
+    (YieldsList-from_first (λ x. x) (λ left. left) c.args.fields.now (c.filter.ensures.source ∙ c.get.ensures)) c.filter.ensures.closure (λ x b q k. search (rules, tests)))
     ∙ length-filter (is_named (spelled c.args.name)) c.args.fields.now

@@ -7,4 +7,4 @@ use Rattle.bg_http.proofs.request_rules.has_expectation.Goals as goal
 pub returns : goal.returns
 returns c =
     any_from_yields_List expects_continue c.any.new.self _ _ c.any.ensures.ran
-    (YieldsList-from_first (λ x. x) (λ left. left) c.args.fields.now c.iter.ensures) (λ x b q k. search (rules, tests))
+    (YieldsList-from_first (λ x. x) (λ left. left) c.args.fields.now c.get.ensures) (λ x b q k. search (rules, tests))

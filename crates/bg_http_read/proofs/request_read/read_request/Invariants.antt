@@ -11,5 +11,5 @@ invariant-loop g l = record {
   goes_on : IsTrue l.parser.is_open;
   wrote : WritesContinue l.parser.asked (g.S.Write.contents l.initial.stream) (g.S.Write.contents l.stream);
   owed : OwesIf l.parser.asked l.parser.seen;
-  size : length l.piece ≡ 8192;
+  size : length l.piece ≡ 4096;
 }

@@ -1,5 +1,5 @@
 use Rattle.std.proofs.Common.{arith}
-use Rattle.bg_rollout.proofs.Reaching.{follow_few}
+use Rattle.bg_rollout.proofs.Settlements.Reaching.{follow_few}
 use Rattle.bg_rollout.proofs.laws.few_follow.Goals as goal
 
 pub returns : goal.returns

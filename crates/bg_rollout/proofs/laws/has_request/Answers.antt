@@ -1,4 +1,4 @@
-use Rattle.bg_rollout.proofs.Leaving.{alone, one_left}
+use Rattle.bg_rollout.proofs.OpenRequests.Leaving.{alone, one_left}
 use Rattle.bg_rollout.proofs.laws.has_request.Goals as goal
 
 pub returns-clause-one_less : goal.returns-clause-one_less

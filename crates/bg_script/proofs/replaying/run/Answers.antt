@@ -3,7 +3,7 @@ use Rattle.bg_operator.specs.Reading.{Known}
 use Rattle.bg_operator.specs.OperatorLines.{NextIs, last_speaks_http}
 use Rattle.bg_script.specs.declared.answer.Answer.TheVariants.{Opened}
 use Rattle.bg_script.specs.Scripts.{Stage, Ran, Closed, Said}
-use Rattle.bg_script.specs.Serving.{RanOpened, StepRead, Wrote}
+use Rattle.bg_script.specs.LineAnswers.{RanOpened, StepRead, Wrote}
 use Rattle.bg_script.proofs.Quitting.{none_of}
 use Rattle.bg_script.proofs.ScriptSteps.{Goes, ends, goes_on, goes_opened, quits, Known-both, Known-some, Known-then}
 use Rattle.bg_script.proofs.replaying.run.Goals as goal

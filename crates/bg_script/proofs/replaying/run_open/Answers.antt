@@ -2,7 +2,7 @@ use Rattle.std.proofs.Common.{IfSome}
 use Rattle.std.proofs.lemmas.Result.{IfOk-weaker}
 use Rattle.bg_script.specs.declared.answer.Answer.TheVariants.{Opened}
 use Rattle.bg_script.specs.Scripts.{Stage, Said, Closed, Running}
-use Rattle.bg_script.specs.Serving.{RanOpened, StepRead}
+use Rattle.bg_script.specs.LineAnswers.{RanOpened, StepRead}
 use Rattle.bg_script.proofs.replaying.run_open.Goals as goal
 
 pub returns-clause-ok : goal.returns-clause-ok

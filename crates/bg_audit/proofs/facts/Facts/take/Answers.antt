@@ -12,7 +12,7 @@ returns c = λ o past known reach allowed place. record {
         after_is = c.take.ensures past known.course;
         scaled_is = c.newest_is_scaled-newest_is_scaled.ensures c.args.strategy.now o past known reach;
         delay_is = refl;
-        stood_is = place;
+        position_is = place;
       }) reach known.marks;
   requests = c.in_ok-take-3.ensures past known.requests;
   greatest = c.greatest_number-self.ensures past known.greatest;

@@ -42,7 +42,7 @@ returns-clause-left g c =
       λ i seat there. c.in-Ok.ensures.calls i seat (ap (λ xs. slice_get xs i) same ∙ there),
     )
 
--- the strategy that the history is legal and settled by is that of the book before
+-- the history is legal and settled by the strategy of the book before
 strategy_is : (b new : Routing) (items value out : List Holding) → value ≡ items → LeavesAll b value (length value) new out → new.strategy ≡ b.strategy
 strategy_is b new items value out same left = strategy-left b new value out (length value) left
 

@@ -14,28 +14,28 @@ use Rattle.bg_rollout.specs.Judging.{IsAccepted, entry_of}
 use Rattle.bg_rollout.specs.Routing.{Routing}
 use Rattle.bg_rollout.specs.Settling.{Reached}
 use Rattle.bg_rollout.specs.Recording.{Recorded}
-use Rattle.bg_rollout.specs.Invariant.{Midway}
+use Rattle.bg_rollout.specs.Invariant.{RolloutModel}
 use Rattle.bg_book.specs.Invariant.{AtRest}
 use Rattle.bg_book.proofs.Stepping.{stepped_by, reached_few, open_after, length_after, limits_after, control_opens_none}
 use Rattle.bg_book.proofs.book.Book.control.Goals as goal
 
 pub judge-requires : goal.judge-requires
-judge-requires g c = omega (arith, c.self.invariant.room, c.stands.ensures.entries)
+judge-requires g c = omega (arith, c.self.invariant.room, c.holds_invariant.ensures.entries)
 
 pub places_kept-reserved-requires : goal.places_kept-reserved-requires
-places_kept-reserved-requires g c = omega (arith, c.self.invariant.room, c.stands.ensures.entries)
+places_kept-reserved-requires g c = omega (arith, c.self.invariant.room, c.holds_invariant.ensures.entries)
 
 pub reserve-requires : goal.reserve-requires
-reserve-requires g c = omega (arith, c.self.invariant.room, c.stands.ensures.entries, c.places_kept-reserved.ensures)
+reserve-requires g c = omega (arith, c.self.invariant.room, c.holds_invariant.ensures.entries, c.places_kept-reserved.ensures)
 
 pub settle-requires : goal.settle-requires
 settle-requires g c = λ outcomes follow.
     let b = c.take_in.new.self.routing in
-    let reach : Reachable b.strategy b.opening b.past = c.reachable.ensures b.strategy b.opening b.past c.stands-2.ensures.legal.allowed in
+    let reach : Reachable b.strategy b.opening b.past = c.reachable.ensures b.strategy b.opening b.past c.holds_invariant-2.ensures.legal.allowed in
     let few = c.few_follow.ensures b.strategy b.past outcomes follow in
     omega (arith, few, c.work_is_bounded.ensures b.strategy b.past reach.few, c.in_ok-take_in.ensures.ok.spare, c.in_ok-reserve.ensures.ok, c.places_kept-reserved.ensures)
 
--- what was found of the book's fields holds of the book
+-- the fault found in the book's fields is the fault of the book
 found : (b now : Routing) (control : Control) (answer : Option ControlFault) → b ≡ now → control_refusal b control ≡ answer → control_refusal now control ≡ answer
 found b now control answer is judged = subst (λ (v : Routing). control_refusal v control ≡ answer) is judged
 
@@ -51,12 +51,12 @@ returns-in_err-accepted-clause-refusal g c = told _ control_fault.OutOfMemory _ 
 pub returns-clause-few : goal.returns-clause-few
 returns-clause-few g c =
     let b = c.take_in.new.self.routing in
-    let reach : Reachable b.strategy b.opening b.past = c.reachable.ensures b.strategy b.opening b.past c.stands-2.ensures.legal.allowed in
+    let reach : Reachable b.strategy b.opening b.past = c.reachable.ensures b.strategy b.opening b.past c.holds_invariant-2.ensures.legal.allowed in
     let few = reached_few c.few_follow.ensures b _ c.settle.result 136 c.settle.ensures.reached (c.work_is_bounded.ensures b.strategy b.past reach.few) in
     omega (arith, few)
 
--- what holds after the outcomes of an event that had room
-at_rest : {count : ℕ} (rollout reserved event settled : Midway) (control : Control) (n : ℕ) → AtRest count rollout → reserved.routing ≡ rollout.routing → Recorded (event_of reserved.routing control) reserved event
+-- the invariant after the outcomes of an event that had room
+at_rest : {count : ℕ} (rollout reserved event settled : RolloutModel) (control : Control) (n : ℕ) → AtRest count rollout → reserved.routing ≡ rollout.routing → Recorded (event_of reserved.routing control) reserved event
     → Reached event.routing settled.routing n → n ≤ 136 → settled.spare + n ≡ event.spare → 141 + 3 * all_open rollout.routing.past ≤ reserved.spare
     → length rollout.routing.past + 141 + 3 * all_open rollout.routing.past ≤ rollout.routing.limits.entries → is_settled settled.routing.strategy settled.routing.past ≡ true → AtRest count settled
 at_rest rollout reserved event settled control n rest same recorded reached few spare places room quiet =
@@ -75,8 +75,8 @@ at_rest rollout reserved event settled control n rest same recorded reached few 
       room = omega (arith, kept, entries, one, room, limit, few);
     }
 
--- the entry that was recorded is the event's
-event_recorded : (found : Routing) (reserved event : Midway) (accepted : Accepted) (control : Control) → reserved.routing ≡ found → entry_of found accepted ≡ event_of found control
+-- the recorded entry is the entry of the event
+event_recorded : (found : Routing) (reserved event : RolloutModel) (accepted : Accepted) (control : Control) → reserved.routing ≡ found → entry_of found accepted ≡ event_of found control
     → Recorded (entry_of reserved.routing accepted) reserved event → Recorded (event_of reserved.routing control) reserved event
 event_recorded found reserved event accepted control same is made =
     subst (λ (e : Entry). Recorded e reserved event) (subst (λ (v : Routing). entry_of v accepted ≡ event_of v control) (sym same) is) made
@@ -84,7 +84,7 @@ event_recorded found reserved event accepted control same is made =
 pub invariant_of-self-2 : goal.invariant_of-self-2
 invariant_of-self-2 g c =
     let b = c.take_in.new.self.routing in
-    let reach : Reachable b.strategy b.opening b.past = c.reachable.ensures b.strategy b.opening b.past c.stands-2.ensures.legal.allowed in
+    let reach : Reachable b.strategy b.opening b.past = c.reachable.ensures b.strategy b.opening b.past c.holds_invariant-2.ensures.legal.allowed in
     let few = reached_few c.few_follow.ensures b _ c.settle.result 136 c.settle.ensures.reached (c.work_is_bounded.ensures b.strategy b.past reach.few) in
     at_rest c.self.inside.rollout c.reserve.new.self c.take_in.new.self c.settle.new.self c.args.control.now c.settle.result c.self.invariant c.reserve.ensures.routing (event_recorded _ c.reserve.new.self c.take_in.new.self c.in_ok-accepted.accepted c.args.control.now c.reserve.ensures.routing c.in_ok-accepted.ensures.entry c.in_ok-take_in.ensures.ok)
     c.settle.ensures.reached few c.settle.ensures.spare (omega (arith, c.in_ok-reserve.ensures.ok, c.places_kept-reserved.ensures))

@@ -9,12 +9,12 @@ use Rattle.bg_ledger.specs.declared.holding.Holding.{Holding}
 use Rattle.bg_rollout.specs.Changes.{Stepped, enter_entry, seat_in, with_past}
 use Rattle.bg_rollout.specs.Refusals.{all_open, IsTicket}
 use Rattle.bg_rollout.specs.Routing.{Routing}
-use Rattle.bg_rollout.specs.Invariant.{Midway}
+use Rattle.bg_rollout.specs.Invariant.{RolloutModel}
 use Rattle.bg_book.specs.Invariant.{AtRest}
 use Rattle.bg_book.proofs.book.Book.enter_met.Goals as goal
 
--- what holds after a request that had room
-at_rest : {n : ℕ} (rollout new : Midway) (service : Service) (t : Ticket) (seat : Holding) → AtRest n rollout
+-- the invariant after a request that had room
+at_rest : {n : ℕ} (rollout new : RolloutModel) (service : Service) (t : Ticket) (seat : Holding) → AtRest n rollout
     → length rollout.routing.past + 1 + 3 * (all_open rollout.routing.past + 1) ≤ rollout.routing.limits.entries → all_open new.routing.past ≡ all_open rollout.routing.past + 1
     → new.routing ≡ with_past rollout.routing (enter_entry seat.index service t ∷ rollout.routing.past) (slice_set rollout.routing.seats seat.index (seat_in seat t))
     → 3 * all_open rollout.routing.past + 3 ≤ new.spare
@@ -30,27 +30,27 @@ at_rest rollout new service t seat rest room one made places settles =
       room = omega (arith, one, entries, limit, room);
     }
 
--- the routing after it, from the one before room was taken
-entered_from : (rollout reserved new : Midway) (service : Service) (t : Ticket) (seat : Holding) → reserved.routing ≡ rollout.routing
+-- the routing after the request, from the routing before the reservation
+entered_from : (rollout reserved new : RolloutModel) (service : Service) (t : Ticket) (seat : Holding) → reserved.routing ≡ rollout.routing
     → new.routing ≡ with_past reserved.routing (enter_entry seat.index service t ∷ reserved.routing.past) (slice_set reserved.routing.seats seat.index (seat_in seat t))
     → new.routing ≡ with_past rollout.routing (enter_entry seat.index service t ∷ rollout.routing.past) (slice_set rollout.routing.seats seat.index (seat_in seat t))
 entered_from rollout reserved new service t seat same made =
     made ∙ ap (λ (v : Routing). with_past v (enter_entry seat.index service t ∷ v.past) (slice_set v.seats seat.index (seat_in seat t))) same
 
 pub invariant_of-self : goal.invariant_of-self
-invariant_of-self g c = subst (λ (m : Midway). AtRest g.N.Names.seats m) (sym c.in_err-reserve.ensures.err) c.self.invariant
+invariant_of-self g c = subst (λ (m : RolloutModel). AtRest g.N.Names.seats m) (sym c.in_err-reserve.ensures.err) c.self.invariant
 
-pub admit-requires-clause-ticket : goal.admit-requires-clause-ticket
-admit-requires-clause-ticket g c = subst (λ (v : Routing). IsTicket v c.args.service c.in_ok-ticket.ticket) (sym c.reserve.ensures.routing) c.in_ok-ticket.ensures.judged.1
+pub record_enter-requires-clause-ticket : goal.record_enter-requires-clause-ticket
+record_enter-requires-clause-ticket g c = subst (λ (v : Routing). IsTicket v c.args.service c.in_ok-ticket.ticket) (sym c.reserve.ensures.routing) c.in_ok-ticket.ensures.judged.1
 
 pub invariant_of-self-2 : goal.invariant_of-self-2
 invariant_of-self-2 g c =
-    at_rest c.self.inside.rollout c.admit.new.self c.args.service c.in_ok-ticket.ticket c.args.seat.now c.self.invariant c.in_ok-ticket.ensures.room
-    (c.admit.ensures.one_more ∙ ap (λ (v : Routing). all_open v.past + 1) c.reserve.ensures.routing)
-    (entered_from c.self.inside.rollout c.reserve.new.self c.admit.new.self c.args.service c.in_ok-ticket.ticket c.args.seat.now c.reserve.ensures.routing c.admit.ensures.routing)
-    (omega (arith, c.in_ok-reserve.ensures.ok, c.admit.ensures.spare, c.places_kept.ensures)) c.entering_settles.ensures
+    at_rest c.self.inside.rollout c.record_enter.new.self c.args.service c.in_ok-ticket.ticket c.args.seat.now c.self.invariant c.in_ok-ticket.ensures.room
+    (c.record_enter.ensures.one_more ∙ ap (λ (v : Routing). all_open v.past + 1) c.reserve.ensures.routing)
+    (entered_from c.self.inside.rollout c.reserve.new.self c.record_enter.new.self c.args.service c.in_ok-ticket.ticket c.args.seat.now c.reserve.ensures.routing c.record_enter.ensures.routing)
+    (omega (arith, c.in_ok-reserve.ensures.ok, c.record_enter.ensures.spare, c.places_kept.ensures)) c.entering_settles.ensures
 
--- the entering, which allows no outcome
+-- the Enter, which allows no outcome
 stepped : (b now new : Routing) (seat : Holding) (service : Service) (t : Ticket) → b ≡ now
     → new ≡ with_past b (enter_entry seat.index service t ∷ b.past) (slice_set b.seats seat.index (seat_in seat t)) → is_settled new.strategy new.past ≡ true
     → Stepped now.strategy (enter_entry seat.index service t) now.past new.past 0
@@ -64,14 +64,14 @@ stepped b now new seat service t is made settled =
 
 pub returns-clause-step : goal.returns-clause-step
 returns-clause-step g c =
-    let rest = at_rest c.self.inside.rollout c.admit.new.self c.args.service c.in_ok-ticket.ticket c.args.seat.now c.self.invariant c.in_ok-ticket.ensures.room
-    (c.admit.ensures.one_more ∙ ap (λ (v : Routing). all_open v.past + 1) c.reserve.ensures.routing)
-    (entered_from c.self.inside.rollout c.reserve.new.self c.admit.new.self c.args.service c.in_ok-ticket.ticket c.args.seat.now c.reserve.ensures.routing c.admit.ensures.routing)
-    (omega (arith, c.in_ok-reserve.ensures.ok, c.admit.ensures.spare, c.places_kept.ensures)) c.entering_settles.ensures in
+    let rest = at_rest c.self.inside.rollout c.record_enter.new.self c.args.service c.in_ok-ticket.ticket c.args.seat.now c.self.invariant c.in_ok-ticket.ensures.room
+    (c.record_enter.ensures.one_more ∙ ap (λ (v : Routing). all_open v.past + 1) c.reserve.ensures.routing)
+    (entered_from c.self.inside.rollout c.reserve.new.self c.record_enter.new.self c.args.service c.in_ok-ticket.ticket c.args.seat.now c.reserve.ensures.routing c.record_enter.ensures.routing)
+    (omega (arith, c.in_ok-reserve.ensures.ok, c.record_enter.ensures.spare, c.places_kept.ensures)) c.entering_settles.ensures in
     stepped _ _ _ c.args.seat.now c.args.service c.in_ok-ticket.ticket c.self.view_is
-    (entered_from c.self.inside.rollout c.reserve.new.self c.admit.new.self c.args.service c.in_ok-ticket.ticket c.args.seat.now c.reserve.ensures.routing c.admit.ensures.routing) rest.settled
+    (entered_from c.self.inside.rollout c.reserve.new.self c.record_enter.new.self c.args.service c.in_ok-ticket.ticket c.args.seat.now c.reserve.ensures.routing c.record_enter.ensures.routing) rest.settled
 
--- the book after it, with the seat as it is then
+-- the book after the request, with the new seat
 book_after : (b now new : Routing) (seat v : Holding) (service : Service) (t : Ticket) → b ≡ now
     → new ≡ with_past b (enter_entry seat.index service t ∷ b.past) (slice_set b.seats seat.index (seat_in seat t)) → v ≡ seat_in seat t
     → new ≡ with_past now new.past (slice_set now.seats seat.index v)
@@ -84,4 +84,4 @@ book_after b now new seat v service t is made seated =
 pub returns-clause-book : goal.returns-clause-book
 returns-clause-book g c =
     book_after _ _ _ c.args.seat.now _ c.args.service c.in_ok-ticket.ticket c.self.view_is
-    (entered_from c.self.inside.rollout c.reserve.new.self c.admit.new.self c.args.service c.in_ok-ticket.ticket c.args.seat.now c.reserve.ensures.routing c.admit.ensures.routing) c.admit.ensures.seat
+    (entered_from c.self.inside.rollout c.reserve.new.self c.record_enter.new.self c.args.service c.in_ok-ticket.ticket c.args.seat.now c.reserve.ensures.routing c.record_enter.ensures.routing) c.record_enter.ensures.seat

@@ -3,7 +3,7 @@ use Rattle.std.proofs.lemmas.List.{set-get_or}
 use Rattle.std.proofs.lemmas.Option.{slice_get-get_or}
 use Rattle.bg_book.specs.declared.calls.Reply.{Reply}
 use Rattle.bg_ledger.specs.declared.holding.Holding.{Holding}
-use Rattle.bg_ledger.specs.Holdings.{vacated}
+use Rattle.bg_ledger.specs.Holdings.{after_leave}
 use Rattle.bg_rollout.specs.Changes.{with_past}
 use Rattle.bg_rollout.specs.Gathering.{indices}
 use Rattle.bg_rollout.specs.Routing.{Routing}
@@ -25,7 +25,7 @@ returns-clause-reply g c =
     let b = c.args.self.now in
     let seats = c.args.seats.now in
     let seat = get_or seats c.args.place c.index-seats-place.result in
-    let out_seat : c.leave.new.seat ≡ vacated seat = c.leave.ensures.seat in
+    let out_seat : c.leave.new.seat ≡ after_leave seat = c.leave.ensures.seat in
     at_seat b seats c.args.place c.index-seats-place.result _ _ _ c.if-place-seats.false
     (inr (
       holds_one _ _ c.is_in.ensures c.if-not-is_in.false,

@@ -6,4 +6,4 @@ use Rattle.bg_book.proofs.book.Book.moment.Goals as goal
 pub returns-clause-running : goal.returns-clause-running
 returns-clause-running g c =
     subst (λ (v : Routing). c.moment.result ≡ v.running.moment) c.self.view_is
-    (c.moment.ensures ∙ sym (ap (λ (x : State). x.moment) c.stands.ensures.running))
+    (c.moment.ensures ∙ sym (ap (λ (x : State). x.moment) c.holds_invariant.ensures.running))

@@ -10,4 +10,4 @@ returns-clause-past g c = subst (λ (v : Routing). phase_of v.strategy v.past �
 pub returns-clause-running : goal.returns-clause-running
 returns-clause-running g c =
     subst (λ (v : Routing). v.running.phase ≡ Some c.phase.result) c.self.view_is
-    (ap (λ (x : State). x.phase) c.stands.ensures.running ∙ c.phase.ensures c.self.invariant.settled)
+    (ap (λ (x : State). x.phase) c.holds_invariant.ensures.running ∙ c.phase.ensures c.self.invariant.settled)

@@ -9,7 +9,7 @@ use Rattle.bg_book.specs.Desks.{StepsTo}
 use Rattle.bg_book.specs.Headline.{Headline}
 use Rattle.bg_book.proofs.desk.Desk.control.Goals as goal
 
--- the book that it became
+-- the book after the call
 steps : (b new : Routing) (control : Control) (answer : Result ℕ ControlFault) → Headline new
     → IfOk answer (λ n. Stepped b.strategy (event_of b control) b.past new.past n) → IfOk answer (λ n. new ≡ with_past b new.past b.seats)
     → IfOk answer (λ n. (now : Routing) × StepsTo b (event_of b control) b.seats now n)

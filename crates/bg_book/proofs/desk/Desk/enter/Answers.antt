@@ -10,7 +10,7 @@ use Rattle.bg_book.specs.Desks.{StepsTo}
 use Rattle.bg_book.specs.Headline.{Headline}
 use Rattle.bg_book.proofs.desk.Desk.enter.Goals as goal
 
--- the book that it became
+-- the book after the call
 steps : (b new : Routing) (seat : ℕ) (service : Service) (seats : List Holding) (answer : Result Ticket EnterFault) → Headline new
     → IfOk answer (λ t. Stepped b.strategy (enter_entry seat service t) b.past new.past 0) → IfOk answer (λ t. new ≡ with_past b new.past seats)
     → IfOk answer (λ t. (now : Routing) × StepsTo b (enter_entry seat service t) seats now 0)

@@ -7,7 +7,7 @@ use Rattle.bg_book.specs.Desks.{StepsTo}
 use Rattle.bg_book.specs.Headline.{Headline}
 use Rattle.bg_book.proofs.desk.Desk.leave.Goals as goal
 
--- the book that it became
+-- the book after the call
 steps : (b new : Routing) (e : Entry) (seats : List Holding) (n : ℕ) → Headline new → Stepped b.strategy e b.past new.past n → new ≡ with_past b new.past seats
     → StepsTo b e seats new n
 steps b new e seats n headline step book = record { headline = headline; step = step; book = book }

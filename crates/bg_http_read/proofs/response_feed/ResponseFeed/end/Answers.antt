@@ -1,7 +1,7 @@
 use Rattle.std.proofs.Common.{subst, sym}
 use Rattle.bg_http_read.specs.Responses.{ResponseFails}
 use Rattle.bg_http_read.specs.ResponsesFed.{IsFedStage}
-use Rattle.bg_http_read.proofs.FedResponses.{read_here, refused_here}
+use Rattle.bg_http_read.proofs.ResponseSteps.{read_here, refused_here}
 use Rattle.bg_http_read.proofs.StreamFaults.{if_err_is}
 use Rattle.bg_http_read.proofs.response_feed.ResponseFeed.end.Goals as goal
 

@@ -2,7 +2,8 @@ use Rattle.std.proofs.Common.{drop, ap, subst, sym, ◌∙◌}
 use Rattle.bg_http_read.specs.ResponsesFed.{AwaitsHead, IsFedStage, IsOpenStage, IsSeen, stage_seen}
 use Rattle.bg_http_read.specs.ResponseStates.{IsRefused}
 use Rattle.bg_http_read.specs.Streams.{waiting}
-use Rattle.bg_http_read.proofs.FedResponses.{advanced_none_at, advanced_open, advanced_response, awaits_more, fed_seen, open_seen, seen_behind}
+use Rattle.bg_http_read.proofs.FedResponses.{awaits_more, fed_seen, open_seen, seen_behind}
+use Rattle.bg_http_read.proofs.ResponseSteps.{advanced_none_at, advanced_open, advanced_response}
 use Rattle.bg_http_read.proofs.StreamFaults.{if_err_is}
 use Rattle.bg_http_read.proofs.response_feed.ResponseFeed.look.Goals as goal
 

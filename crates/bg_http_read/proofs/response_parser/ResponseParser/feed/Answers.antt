@@ -1,7 +1,7 @@
 use Rattle.std.proofs.Common.{◌≡◌, ◌++◌, IfNone, IfOk, IsTrue, ap, subst, ◌∙◌}
 use Rattle.bg_http_read.specs.ResponseStates.{NeedsMore}
 use Rattle.bg_http_read.specs.ResponsesFed.{IsFed}
-use Rattle.bg_http_read.proofs.FedResponses.{fed_more}
+use Rattle.bg_http_read.proofs.ResponseSteps.{fed_more}
 use Rattle.bg_http_read.proofs.response_parser.ResponseParser.feed.Goals as goal
 
 pub returns-clause-none_yet : goal.returns-clause-none_yet

@@ -2,7 +2,8 @@ use Rattle.std.proofs.Common.{drop, subst, sym, ◌∙◌}
 use Rattle.std.proofs.lemmas.List.{drop-drop}
 use Rattle.bg_http_read.specs.MessageFaults.{as_response}
 use Rattle.bg_http_read.specs.ResponsesFed.{IsFedBody}
-use Rattle.bg_http_read.proofs.FedResponses.{advances_err, fed_cut_off, fed_refused, fed_taken, fed_whole}
+use Rattle.bg_http_read.proofs.FedResponses.{fed_cut_off, fed_refused, fed_taken, fed_whole}
+use Rattle.bg_http_read.proofs.ResponseSteps.{advances_err}
 use Rattle.bg_http_read.proofs.InterimTaken.{memory_refuses}
 use Rattle.bg_http_read.proofs.response_progress.ResponseProgress.advance_body.Goals as goal
 

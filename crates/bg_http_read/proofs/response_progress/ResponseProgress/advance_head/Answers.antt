@@ -1,7 +1,8 @@
 use Rattle.std.proofs.Common.{drop, subst, sym}
 use Rattle.bg_http_read.specs.Responses.{SkipsInterim}
 use Rattle.bg_http_read.specs.ResponseStates.{IsRefused}
-use Rattle.bg_http_read.proofs.FedResponses.{advances_err, fed_head}
+use Rattle.bg_http_read.proofs.FedResponses.{fed_head}
+use Rattle.bg_http_read.proofs.ResponseSteps.{advances_err}
 use Rattle.bg_http_read.proofs.response_progress.ResponseProgress.advance_head.Goals as goal
 
 pub returns-in_err-head-clause-answer : goal.returns-in_err-head-clause-answer

@@ -1,4 +1,4 @@
--- The bytes that were seen exist in proofs alone, so they may go to another thread.
+-- The bytes that were seen exist only in proofs, so they may go to another thread.
 use denote.Param.Send.{IsSend, owning_send}
 use Rattle.bg_http_read.specs.contracts.seen.Seen.{the_row, the_type}
 

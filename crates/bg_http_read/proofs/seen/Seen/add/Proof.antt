@@ -1,4 +1,4 @@
--- An empty body: the borrow is opened, and closed at the bytes of both. Assumes `Logic`.
+-- The body is empty: the borrow is opened, and closed with the bytes of both. Assumes `Logic`.
 use Rattle.std.proofs.Common.{ℕ, List, [], ◌∷◌, ◌++◌, ◌<◌, ◌^◌, length, refl, MutBor}
 use seplogic.Ra.Ura.{Ura}
 use mir.Syntax.{named}

@@ -11,7 +11,7 @@ use Rattle.bg_openlist.proofs.open_lists.OpenLists.link.Given.{Over}
 use Rattle.bg_openlist.proofs.open_lists.OpenLists.link.Goals.{After-attach-held}
 use Rattle.bg_openlist.proofs.open_lists.OpenLists.link.Goals as goal
 
--- what the calls did to the block
+-- the effect of the calls on the block
 joined : (g : Over) (c : After-attach-held g) → Joined c.self.invariant c.args.list c.args.node c.args.value c.attach-held.new.nodes
 joined g c =
     let d = c.attach-held.ensures in

@@ -10,7 +10,7 @@ use Rattle.bg_openlist.proofs.open_lists.OpenLists.unlink.Given.{Over}
 use Rattle.bg_openlist.proofs.open_lists.OpenLists.unlink.Goals.{After-detach-list}
 use Rattle.bg_openlist.proofs.open_lists.OpenLists.unlink.Goals as goal
 
--- what the calls did to the block
+-- the effect of the calls on the block
 parted : (g : Over) (c : After-detach-list g) → Parted c.self.invariant c.args.node c.detach-list.result.0 c.detach-list.new.nodes
 parted g c =
     let w = linked_seen c.self.invariant c.self.view_is c.args.node c.requires in

@@ -1,6 +1,6 @@
 use Rattle.std.proofs.Common.{◌==◌, find, length, sym, ap, ◌∙◌}
 use Rattle.bg_requestlists.specs.declared.request_lists.OwnList.{OwnList}
-use Rattle.bg_requestlists.specs.RequestLists.{list_of, requests_in}
+use Rattle.bg_requestlists.specs.RequestLists.{requests_of, requests_in}
 use Rattle.bg_requestlists.proofs.Linked.{count_shown, find_shown, none_shown, owner_now}
 use Rattle.bg_requestlists.proofs.request_lists.RequestLists.count.Goals as goal
 
@@ -11,7 +11,7 @@ returns-in-Some c =
     c.len.ensures.len
     ∙ sym (count_shown f c.args.revision (find (λ (o : OwnList). o.revision == c.args.revision) owned) c.in-Some.list (owner_now c.args.revision _ _ _ c.deref.ensures.value (sym c.in-Some.ensures)))
     ∙ ap (λ o. length (requests_in o)) (sym (find_shown f c.args.revision owned))
-    ∙ ap (λ ls. length (list_of c.args.revision ls)) c.self.view_is
+    ∙ ap (λ ls. length (requests_of c.args.revision ls)) c.self.view_is
 
 pub returns-in-None : goal.returns-in-None
 returns-in-None c =
@@ -19,4 +19,4 @@ returns-in-None c =
     let owned = c.self.inside.owned.items in
     ap length (sym (none_shown f (find (λ (o : OwnList). o.revision == c.args.revision) owned) (owner_now c.args.revision _ _ _ c.deref.ensures.value (sym c.in-None.ensures))))
     ∙ ap (λ o. length (requests_in o)) (sym (find_shown f c.args.revision owned))
-    ∙ ap (λ ls. length (list_of c.args.revision ls)) c.self.view_is
+    ∙ ap (λ ls. length (requests_of c.args.revision ls)) c.self.view_is

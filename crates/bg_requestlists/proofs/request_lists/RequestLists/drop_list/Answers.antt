@@ -2,7 +2,7 @@ use Rattle.std.proofs.Common.{◌≡◌, ◌==◌, not, filter, map, List, rules
 use Rattle.std.specs.Vec.{vec_capacity}
 use Rattle.std.proofs.lemmas.Fn.{filter_same}
 use Rattle.bg_requestlists.specs.declared.request_lists.OwnList.{OwnList}
-use Rattle.bg_requestlists.specs.RequestLists.{OpenAt, HoldsLists, is_empty_at, shown_at}
+use Rattle.bg_requestlists.specs.RequestLists.{OpenAt, OwnsLists, is_empty_at, shown_at}
 use Rattle.bg_requestlists.proofs.Linked.{holds_dropped, shown_kept}
 use Rattle.bg_requestlists.proofs.request_lists.RequestLists.drop_list.Goals as goal
 use Rattle.bg_requestlists.proofs.request_lists.RequestLists.drop_list.Goals.{After-retain}
@@ -12,7 +12,7 @@ kept c = filter_same _ (λ (o : OwnList). not (o.revision == c.args.revision)) _
 
 pub invariant_of-self : goal.invariant_of-self
 invariant_of-self c =
-    subst (λ (owned : List OwnList). HoldsLists owned (vec_capacity c.retain.new.self) c.self.inside.linked) (sym (kept c))
+    subst (λ (owned : List OwnList). OwnsLists owned (vec_capacity c.retain.new.self) c.self.inside.linked) (sym (kept c))
     (holds_dropped c.self.inside.owned.items (vec_capacity c.self.inside.owned) (vec_capacity c.retain.new.self) c.self.inside.linked c.args.revision c.self.invariant (omega (arith, c.retain.ensures.capacity)) (ap (is_empty_at c.args.revision) c.self.view_is ∙ c.requires))
 
 pub returns : goal.returns

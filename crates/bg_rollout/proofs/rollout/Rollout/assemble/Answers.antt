@@ -1,7 +1,7 @@
 use Rattle.std.proofs.Common.{ap}
 use Rattle.bg_rollout.specs.Routing.{Routing}
-use Rattle.bg_rollout.proofs.Openings.{fits, shown-opened, stands-shown}
-use Rattle.bg_rollout.proofs.Requests.{and_both}
+use Rattle.bg_rollout.proofs.WholeStates.Openings.{fits, shown-opened, holds_invariant-shown}
+use Rattle.bg_rollout.proofs.OpenRequests.Requests.{and_both}
 use Rattle.bg_rollout.proofs.rollout.Rollout.assemble.Goals as goal
 
 pub first_parts-requires : goal.first_parts-requires
@@ -13,7 +13,7 @@ pub invariant_of-rollout : goal.invariant_of-rollout
 invariant_of-rollout g c =
     let parts = c.in_ok-history.ensures in
     rw (parts.roster, parts.history, parts.lists, c.new-deadlines.ensures, c.in_ok-records.ensures.records)
-    (stands-shown _ _ _ _ _ _ _ (fits _ _ _ _ _ c.requires.fits) c.new-core.ensures c.in_ok-records.ensures.seats)
+    (holds_invariant-shown _ _ _ _ _ _ _ (fits _ _ _ _ _ c.requires.fits) c.new-core.ensures c.in_ok-records.ensures.seats)
 
 pub returns-clause-rollout : goal.returns-clause-rollout
 returns-clause-rollout g c =

@@ -1,7 +1,7 @@
 use Rattle.std.proofs.Common.{◌≡◌, None}
 use Rattle.bg_history.specs.Templates.{owner}
 use Rattle.bg_rollout.specs.Refusals.{deploy_fault}
-use Rattle.bg_rollout.proofs.Allowing.{allowed_deploy}
+use Rattle.bg_rollout.proofs.ControlEvents.Allowing.{allowed_deploy}
 use Rattle.bg_rollout.proofs.rollout.Rollout.judge_event.Goals as goal
 
 pub returns-in_ok-owner-in-Deploy-clause-accepted : goal.returns-in_ok-owner-in-Deploy-clause-accepted

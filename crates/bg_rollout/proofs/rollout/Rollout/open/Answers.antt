@@ -1,5 +1,5 @@
 use Rattle.std.proofs.Common.{sym, ◌∙◌}
-use Rattle.bg_rollout.proofs.Openings.{answers_by_memory}
+use Rattle.bg_rollout.proofs.WholeStates.Openings.{answers_by_memory}
 use Rattle.bg_rollout.proofs.rollout.Rollout.open.Goals as goal
 
 pub returns-clause-refusal : goal.returns-clause-refusal

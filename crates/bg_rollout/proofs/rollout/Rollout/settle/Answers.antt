@@ -1,10 +1,10 @@
 use Rattle.std.proofs.Common.{sym, arith}
 use Rattle.bg_history_laws.specs.Reachable.{Reachable}
-use Rattle.bg_rollout.proofs.Reaching.{reached_none, reached_more, place_left, work_left, follow_few}
+use Rattle.bg_rollout.proofs.Settlements.Reaching.{reached_none, reached_more, place_left, work_left, follow_few}
 use Rattle.bg_rollout.proofs.rollout.Rollout.settle.Goals as goal
 
 pub loop-outcome-init : goal.loop-outcome-init
-loop-outcome-init g c = (reached_none c.args.self.now.routing c.stands.ensures.lists c.stands.ensures.running, omega arith)
+loop-outcome-init g c = (reached_none c.args.self.now.routing c.holds_invariant.ensures.lists c.holds_invariant.ensures.running, omega arith)
 
 pub record_outcome-requires-clause-spare : goal.record_outcome-requires-clause-spare
 record_outcome-requires-clause-spare g c =
@@ -14,7 +14,7 @@ record_outcome-requires-clause-spare g c =
 pub overflow_add-count : goal.overflow_add-count
 overflow_add-count g c =
     let b = c.args.self.now.routing in
-    let reach : Reachable b.strategy b.opening b.past = c.reachable.ensures b.strategy b.opening b.past c.stands.ensures.legal.allowed in
+    let reach : Reachable b.strategy b.opening b.past = c.reachable.ensures b.strategy b.opening b.past c.holds_invariant.ensures.legal.allowed in
     let few = follow_few c.work_falls.ensures b.strategy b.past c.loop-outcome.invariant.0.outcomes c.loop-outcome.invariant.0.follow in
     let most = c.work_is_bounded.ensures b.strategy b.past reach.few in
     omega (arith, few, most, c.loop-outcome.invariant.0.count_is)

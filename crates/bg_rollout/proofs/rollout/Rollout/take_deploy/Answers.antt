@@ -5,7 +5,7 @@ use Rattle.bg_history.specs.declared.entry.Entry.TheVariants as event
 use Rattle.bg_rollout.specs.Routing.{Routing}
 use Rattle.bg_rollout.proofs.rollout.Rollout.take_deploy.Goals as goal
 
--- the copies of the name and the ports are the same, and the number is the one that was found
+-- the copies of the name and the ports are equal to them, and the number is the one that was found
 copied : (b : Routing) (owner found : Option ℕ) (name ports kept_name kept_ports : List ℕ) → kept_name ≡ name → kept_ports ≡ ports → owner ≡ found
     → is_allowed b.strategy b.opening (event.Deploy (unwrap_or owner (last_number b.past + 1)) name ports) b.past ≡ true
     → is_allowed b.strategy b.opening (event.Deploy (unwrap_or found (last_number b.past + 1)) kept_name kept_ports) b.past ≡ true

@@ -14,7 +14,7 @@ use Rattle.bg_scaledown.proofs.Passed.{leaves, limited, limited-is, member-candi
 use Rattle.bg_scaledown.proofs.Sorting.{has_passed}
 use Rattle.bg_scaledown.proofs.deadlines.Deadlines.next_due.Goals as goal
 
--- the chain gives the numbers of the marks that are due and pass, and `min` the least of them
+-- the chain gives the revisions whose marks are due and pass, and `min` the least of them
 pub returns-clause-table : goal.returns-clause-table
 returns-clause-table g c p agrees =
     let t : Table = c.args.self.now in
@@ -43,7 +43,7 @@ returns-clause-table g c p agrees =
     rw (← option_map_id c.min.result, least)
     (least-due t c.args.now c.args.exempt p _ (λ q. member-candidates t c.args.now c.args.exempt p q once))
 
--- by a past it is the first that is due and passes
+-- by a past, the result is the first revision that is due and passes
 pub returns-clause-past : goal.returns-clause-past
-returns-clause-past g c s past p kept stands selected at agrees =
-    first-due s past p c.min.result stands (c.existing_ascends.ensures past) (rw (← kept, ← selected, ← at) (returns-clause-table g c p agrees))
+returns-clause-past g c s past p kept invariant selected at agrees =
+    first-due s past p c.min.result invariant (c.existing_ascends.ensures past) (rw (← kept, ← selected, ← at) (returns-clause-table g c p agrees))

@@ -1,0 +1,70 @@
+//! What is logged of a connection.
+
+use crate::line::Line;
+use crate::time_text::TimeText;
+use serde_json::Error;
+use std::alloc::Global;
+use std::borrow::CowStr;
+
+/// What is logged of a connection. Its keys stand in the line in this order; what isn't known is null.
+#[derive(Drop)]
+pub struct Entry<'a> {
+    /// When the connection ended, as `AccessLog::time` gives it.
+    pub time: Option<TimeText>,
+    /// `active` or `preview`.
+    pub service: &'static str,
+    /// The number of the revision that the request was given.
+    pub revision: Option<u64>,
+    /// The number that the request was given.
+    pub request: Option<u64>,
+    /// The port of the endpoint.
+    pub port: Option<u16>,
+    pub method: Option<CowStr<'a>>,
+    /// The request target, of which 1,024 bytes are kept.
+    pub target: Option<CowStr<'a>>,
+    /// What the client was answered.
+    pub status: Option<u16>,
+    /// How the connection ended: `answered`, `refused`, `closed`, `read_failed` or `write_failed`.
+    pub end: &'static str,
+    /// Why the request was refused, or failed.
+    pub reason: Option<&'static str>,
+    /// How many bytes of the client were read.
+    pub request_bytes: u64,
+    /// How many bytes were written to the client.
+    pub response_bytes: u64,
+    /// How many milliseconds passed from the accept to the end.
+    pub duration_ms: u64,
+    /// How many milliseconds passed from the whole request to the first byte of the response.
+    pub upstream_ms: Option<u64>,
+}
+
+impl Entry<'_> {
+    /// The line, with its end.
+    pub(crate) fn to_line(&self, alloc: Global) -> Result<Vec<u8>, Error> {
+        let mut line = Line::new(alloc)?;
+        let time = self.time.as_ref().map(|time| time.as_str());
+        line.add_string("{\"time\":", time)?;
+        line.add_string(",\"service\":", Some(self.service))?;
+        line.add_number(",\"revision\":", self.revision)?;
+        line.add_number(",\"request\":", self.request)?;
+        line.add_number(",\"port\":", self.port.map(u64::from))?;
+        line.add_string(",\"method\":", as_text(&self.method))?;
+        line.add_string(",\"target\":", as_text(&self.target))?;
+        line.add_number(",\"status\":", self.status.map(u64::from))?;
+        line.add_string(",\"end\":", Some(self.end))?;
+        line.add_string(",\"reason\":", self.reason)?;
+        line.add_number(",\"request_bytes\":", Some(self.request_bytes))?;
+        line.add_number(",\"response_bytes\":", Some(self.response_bytes))?;
+        line.add_number(",\"duration_ms\":", Some(self.duration_ms))?;
+        line.add_number(",\"upstream_ms\":", self.upstream_ms)?;
+        line.add("}\n")?;
+        Ok(line.into_bytes())
+    }
+}
+
+fn as_text<'t>(text: &'t Option<CowStr>) -> Option<&'t str> {
+    match text {
+        Some(text) => Some(text.as_str()),
+        None => None,
+    }
+}

@@ -1,0 +1,16 @@
+//! An access log: a JSON object a line for each connection of a client that has ended.
+//!
+//! [`AccessLog::add`] puts a line into memory, and waits for nothing but the log's own lock, which no
+//! write holds. [`AccessLog::run_writer`] runs in a thread of its own and writes what was added. So
+//! neither a slow disk nor a full one stops a request.
+#![tactic(auto)]
+
+mod access_log;
+mod entry;
+mod line;
+mod log_file;
+mod time_text;
+
+pub use access_log::AccessLog;
+pub use entry::Entry;
+pub use time_text::TimeText;

@@ -1,0 +1,79 @@
+//! A line of the log: an object of JSON.
+ghost use Rattle.std.specs.Prelude.{◌≡◌, ◌++◌, OnOk};
+ghost use Rattle.bg_access_log.specs.Lines.{number_text};
+
+use itoa::Buffer;
+use serde_json::Error;
+use std::alloc::{AllocError, Global};
+
+/// Most lines need no more room.
+const USUAL_LENGTH: usize = 512;
+
+/// A line that is being written. Its members are written by hand, since a derived writer looks at each
+/// byte of each key once more for each line.
+#[derive(Drop)]
+pub(crate) struct Line {
+    alloc: Global,
+    bytes: Vec<u8>,
+}
+
+impl Line {
+    /// An empty line.
+    pub(crate) fn new(alloc: Global) -> Result<Line, AllocError> {
+        Ok(Line {
+            alloc,
+            bytes: Vec::with_capacity(alloc, USUAL_LENGTH)?,
+        })
+    }
+
+    /// Adds text as it is.
+    pub(crate) fn add(&mut self, text: &str) -> Result<(), AllocError>
+        ensures { OnOk result (self.new.bytes.items ≡ self.old.bytes.items ++ text.now) }
+    {
+        self.bytes.extend_from_slice(text.as_bytes())
+    }
+
+    /// Adds text, and then a number, or null.
+    pub(crate) fn add_number(&mut self, before: &str, number: Option<u64>) -> Result<(), AllocError>
+        ensures { OnOk result (self.new.bytes.items
+            ≡ self.old.bytes.items ++ before.now ++ number_text number) }
+    {
+        self.add(before)?;
+        match number {
+            Some(number) => self.add(Buffer::new().format(number)),
+            None => self.add("null"),
+        }
+    }
+
+    /// Adds text, and then a string of JSON, or null.
+    pub(crate) fn add_string(&mut self, before: &str, text: Option<&str>) -> Result<(), Error> {
+        self.add(before)?;
+        match text {
+            Some(text) if is_plain(text) => {
+                self.add("\"")?;
+                self.add(text)?;
+                self.add("\"")?;
+            }
+            Some(text) => {
+                let escaped = serde_json::to_vec(self.alloc, &text)?;
+                self.bytes.extend_from_slice(&escaped)?;
+            }
+            None => self.add("null")?,
+        }
+        Ok(())
+    }
+
+    /// The bytes of the line.
+    pub(crate) fn into_bytes(self) -> Vec<u8>
+        ensures { result ≡ self.bytes }
+    {
+        self.bytes
+    }
+}
+
+/// Whether text stands in a string of JSON as it is.
+fn is_plain(text: &str) -> bool {
+    text.as_bytes().iter().all(|byte| matches!(*byte, b' '..=b'~')
+        && *byte != b'"'
+        && *byte != b'\\')
+}

@@ -1,0 +1,93 @@
+//! The file that the log is written to.
+
+use libc::{O_APPEND, O_CLOEXEC, O_CREAT, O_NOCTTY, O_WRONLY, STDERR_FILENO};
+use os::FromRawFd;
+use std::alloc::Global;
+use std::io;
+use std::os::fd::{AsRawFd, OwnedFd, RawFd};
+
+/// Who may read and write a new file; the process's umask narrows it.
+const MODE: u32 = 0o640;
+
+/// A file that is appended to, and what it hasn't taken yet.
+#[derive(Drop)]
+pub(crate) struct LogFile {
+    /// None for standard error.
+    path: Option<String>,
+    file: Option<OwnedFd>,
+    rest: Vec<u8>,
+    /// How many bytes of the rest were written.
+    written: usize,
+}
+
+impl LogFile {
+    /// Opens the file of this path; `-` is standard error.
+    pub(crate) fn open(alloc: Global, path: &str) -> io::Result<LogFile> {
+        let mut log = LogFile {
+            path: None,
+            file: None,
+            rest: Vec::new(alloc),
+            written: 0,
+        };
+        if path != "-" {
+            let file = open_to_append(path)?;
+            log.file = Some(file);
+            log.path = Some(String::from_str(alloc, path)?);
+        }
+        Ok(log)
+    }
+
+    /// Opens the path once more, so that a file that was renamed isn't written to any longer. Where that
+    /// fails, the file stays as it is.
+    pub(crate) fn open_anew(&mut self) {
+        if let Some(path) = &self.path
+            && let Ok(file) = open_to_append(path.as_str())
+        {
+            self.file = Some(file);
+        }
+    }
+
+    /// Writes bytes. Whether the file took all; else the rest is kept. All of the bytes before have to be
+    /// written.
+    pub(crate) fn write(&mut self, bytes: Vec<u8>) -> bool {
+        self.rest = bytes;
+        self.written = 0;
+        self.write_rest()
+    }
+
+    /// Writes what the file hasn't taken yet. Whether it took all.
+    pub(crate) fn write_rest(&mut self) -> bool {
+        let file = self.descriptor();
+        for _ in 0..self.rest.len() {
+            let Some(rest) = self.rest.as_slice().get(self.written..) else {
+                return true;
+            };
+            if rest.is_empty() {
+                return true;
+            }
+            let count = libc::write(file, rest);
+            if count <= 0 {
+                return false;
+            }
+            self.written = self.written.saturating_add(count as usize);
+        }
+        self.written >= self.rest.len()
+    }
+
+    fn descriptor(&self) -> RawFd {
+        match &self.file {
+            Some(file) => file.as_raw_fd(),
+            None => STDERR_FILENO,
+        }
+    }
+}
+
+/// Opens a file to append to, which is made where it is missing.
+fn open_to_append(path: &str) -> io::Result<OwnedFd> {
+    let flags = O_WRONLY | O_APPEND | O_CREAT | O_NOCTTY | O_CLOEXEC;
+    let file = os::open_with(path.as_bytes(), flags, MODE);
+    if file < 0 {
+        return Err(io::Error::from_raw_os_error(os::errno()));
+    }
+    Ok(unsafe { OwnedFd::from_raw_fd(file) })
+}

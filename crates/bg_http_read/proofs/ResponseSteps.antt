@@ -1,0 +1,78 @@
+-- The steps of a response's parser.
+use Rattle.std.proofs.Common.{◌≡◌, Bool, true, ℕ, List, [], sym, ◌∙◌, subst, Option, Some, None, Result, Ok, Err, IfNone, IfOk, IfSome, IsErrAnd}
+use Rattle.std.proofs.lemmas.List.{append-nil}
+use Rattle.bg_http.specs.declared.request.Request.{Request}
+use Rattle.bg_http.specs.declared.response.Response.{Response}
+use Rattle.bg_http.specs.declared.response_fault.ResponseFault.{ResponseFault}
+use Rattle.bg_http_read.specs.Responses.{ReadsResponse, ResponseFails}
+use Rattle.bg_http_read.specs.ResponsesFed.{Advances, AdvancesTo, IsSeen, IsFed, IsFedStage, IsOpen, IsOpenStage}
+use Rattle.bg_http_read.specs.ResponseStates.{IsRead, IsRefused, NeedsMore, ResponseState, asks_more}
+use Rattle.bg_http_read.specs.Streams.{waiting}
+use Rattle.bg_http_read.specs.declared.response_feed.ResponseFeed.{ResponseFeed}
+use Rattle.bg_http_read.specs.declared.response_progress.Advance.{Advance}
+use Rattle.bg_http_read.proofs.States.{response_state, same_response}
+use Rattle.bg_http_read.specs.declared.response_progress.ResponseStage.{ResponseStage}
+use Rattle.bg_http_read.proofs.FedResponses.{fed_needs_more}
+
+-- the answer is the fault that is known
+pub advances_err : (request : Request) (seen bytes : List ℕ) (s : ResponseStage)
+    (r : Result Advance ResponseFault) (e : ResponseFault) → IsErrAnd r (λ f. f ≡ e)
+    → IsRefused request e seen → Advances request seen bytes r s
+advances_err request seen bytes s (Ok advance) e is refused = absurd is
+advances_err request seen bytes s (Err f) e is refused =
+    subst (λ f. IsRefused request f seen) (sym is) refused
+
+-- what each part of an answer says
+pub advanced_response : (request : Request) (seen left : List ℕ) (s : ResponseStage)
+    (found : Option Response) → AdvancesTo request seen left found s
+    → IfSome found (λ response. IsRead request response seen)
+advanced_response request seen left s (Some response) h = h
+advanced_response request seen left s None h = tt
+
+pub advanced_none_at : (request : Request) (seen left : List ℕ) (parser : ResponseFeed)
+    (found : Option Response) → parser.progress.request.now ≡ request
+    → AdvancesTo request seen left found parser.progress.stage
+    → IfNone found (IsOpenStage parser.progress.stage) → waiting parser.intake ≡ left
+    → IfNone found (IsFed parser request seen × NeedsMore request seen)
+advanced_none_at request seen left parser (Some response) asked h goes_on waits = tt
+advanced_none_at request seen left parser None asked h goes_on waits = (
+  record {
+    request_is = asked;
+    stage_is = subst (λ w. IsFedStage request parser.progress.stage w seen) (sym waits) h.0;
+  },
+  fed_needs_more request parser.progress.stage left seen h.0 goes_on h.1,
+)
+
+pub advanced_open : (left : List ℕ) (parser : ResponseFeed) (found : Option Response)
+    → IfNone found (IsOpenStage parser.progress.stage)
+    → IfNone found (IsSeen parser.progress.stage left) → waiting parser.intake ≡ left
+    → IfNone found (IsOpen parser)
+advanced_open left parser (Some response) goes_on sees waits = tt
+advanced_open left parser None goes_on sees waits =
+    (goes_on, subst (IsSeen parser.progress.stage) (sym waits) sees)
+
+-- a fault of every continuation is a fault of the bytes alone
+pub refused_here : (request : Request) (e : ResponseFault) (seen : List ℕ)
+    → IsRefused request e seen → ResponseFails request seen e
+refused_here request e seen h =
+    subst (λ l. ResponseFails request l e) (append-nil seen) (h [])
+
+pub read_here : (request : Request) (response : Response) (seen : List ℕ)
+    → IsRead request response seen → ReadsResponse request response seen
+read_here request response seen h =
+    subst (ReadsResponse request response) (append-nil seen) (h [])
+
+-- if more bytes are needed, only the bytes that came have changed
+pub fed_more : (state : ResponseState) (seen came : List ℕ)
+    (r : Result (Option Response) ResponseFault) (feed : ResponseFeed) (is_open : Bool)
+    → came ≡ seen → is_open ≡ asks_more r → state.is_open ≡ true
+    → IfOk r (λ found. IfNone found (IsFed feed state.request seen × NeedsMore state.request seen))
+    → IfOk r (λ found. IfNone found
+    ((response_state feed.progress.request.now came is_open ≡ record state { seen = seen })
+    × NeedsMore state.request seen))
+fed_more state seen came (Ok None) feed is_open same goes was h = (
+  same_response feed.progress.request.now state.request came seen is_open state.is_open h.0.request_is same (goes ∙ sym was),
+  h.1,
+)
+fed_more state seen came (Ok (Some response)) feed is_open same goes was h = tt
+fed_more state seen came (Err e) feed is_open same goes was h = tt

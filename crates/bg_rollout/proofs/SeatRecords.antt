@@ -1,0 +1,7 @@
+-- Lemmas about seats and their records.
+pub mod Seats
+pub mod Seating
+pub mod Seated
+pub mod MetSeats
+pub mod Order
+pub mod Gathered

@@ -1,0 +1,139 @@
+-- The invariant of a book that was just opened.
+use Rattle.std.proofs.Common.{◌≡◌, ℕ, ◌+◌, ◌*◌, ◌<◌, ◌≤◌, Bool, true, false, not, ◌&&◌, ◌||◌, nat_lt, nat_le, List, [], ◌∷◌, replicate, sum, Option, Some, None, Result, Ok, Err, refl, sym, ap, ◌∙◌, subst, arith}
+use Rattle.std.specs.Prelude.{IfErr}
+use Rattle.std.proofs.Common.{inr}
+use Rattle.std.proofs.lemmas.Bool.Decides.{nat_tests}
+use Rattle.std.proofs.lemmas.List.{get_or-replicate, length-replicate}
+use Rattle.std.proofs.lemmas.List.Folds.{sum_by-replicate}
+use Rattle.bg_strategy.specs.declared.strategy.Strategy.{Strategy}
+use Rattle.bg_strategy.specs.Label.{is_label}
+use Rattle.bg_revisions.specs.PortLists.{are_ports}
+use Rattle.bg_promotion.specs.Core.{Core}
+use Rattle.bg_promotion.specs.Represents.{CoreRepresents}
+use Rattle.bg_rollout.specs.declared.limits.Limits.{Limits}
+use Rattle.bg_ledger.specs.declared.holding.Holding.{Holding}
+use Rattle.bg_rollout.specs.declared.fault.OpenFault as opening
+use Rattle.bg_rollout.specs.declared.fault.OpenFault.TheVariants as fault
+use Rattle.bg_rollout.specs.Refusals.{is_above_usual, open_refusal, usual_limits, AnswersBy}
+use Rattle.bg_rollout.specs.Changes.{NewSeats, opened}
+use Rattle.bg_rollout.specs.PastState.{lists_of, seat_of}
+use Rattle.bg_rollout.specs.Invariant.{RunningParts, PartsRepresent, state_shown}
+use Rattle.bg_rollout.specs.Routing.{Routing}
+use Rattle.bg_rollout.specs.State.{State}
+use Rattle.bg_rollout.proofs.ControlEvents.Events.{passed, within}
+use Rattle.bg_rollout.proofs.WholeStates.Folding.{fold_of}
+use Rattle.bg_rollout.proofs.OpenRequests.Requests.{and_both}
+
+it_is : (t : Bool) → not t ≡ false → t ≡ true
+it_is true h = refl
+it_is false h = absurd (cc)
+
+neither : (s t : Bool) → (s || t) ≡ false → (s ≡ false) × (t ≡ false)
+neither false t h = (refl, h)
+neither true t h = absurd (cc)
+
+-- what holds of an opening without a fault
+pub record Fits (s : Strategy) (name ports : List ℕ) (seats : ℕ) (limits : Limits) : Type 0 where
+  pub name_fits : is_label name ≡ true
+  pub ports_fit : are_ports s.replicas ports ≡ true
+  pub seats_fit : (nat_le 1 seats && nat_le seats 8) ≡ true
+  pub entries_fit : limits.entries ≤ usual_limits.entries
+  pub numbers_fit : limits.numbers ≤ usual_limits.numbers
+
+-- the opening has 1 to 8 seats
+pub in_range : (n : ℕ) → (nat_le 1 n && nat_le n 8) ≡ true → (1 ≤ n) × (n ≤ 8)
+in_range n h = (grind (arith, nat_tests), grind (arith, nat_tests))
+
+pub fits : (s : Strategy) (name ports : List ℕ) (seats : ℕ) (limits : Limits) → open_refusal s name ports seats limits ≡ None → Fits s name ports seats limits
+fits s name ports seats limits h =
+    let one = passed (not (is_label name)) fault.BadName _ h in
+    let two = passed (not (are_ports s.replicas ports)) fault.BadPorts _ one.1 in
+    let three = passed (not (nat_le 1 seats && nat_le seats 8)) fault.BadSeats _ two.1 in
+    let four = passed (is_above_usual limits) fault.BadLimits None three.1 in
+    let usual = neither (nat_lt usual_limits.entries limits.entries) (nat_lt usual_limits.numbers limits.numbers) four.0 in
+    record {
+      name_fits = it_is (is_label name) one.0;
+      ports_fit = it_is (are_ports s.replicas ports) two.0;
+      seats_fit = it_is (nat_le 1 seats && nat_le seats 8) three.0;
+      entries_fit = within usual_limits.entries limits.entries usual.0;
+      numbers_fit = within usual_limits.numbers limits.numbers usual.1;
+    }
+
+and_three : (a b c : Bool) → a ≡ true → (b && c) ≡ true → (a && b && c) ≡ true
+and_three true b c h k = k
+and_three false b c h k = absurd (cc)
+
+none_closed : (n : ℕ) → sum (replicate n 0) ≡ 0
+none_closed n = omega (arith, sum_by-replicate (λ (x : ℕ). x) n 0)
+
+new_seat : (n i : ℕ) → i < n → seat_of (replicate n 0) i [] ≡ record { index = i; calls = 0; number = 0; revision = 0; port = 0 }
+new_seat n i h = ap (λ (c : ℕ). record { index = i; calls = 0 + 2 * c; number = 0; revision = 0; port = 0 }) (get_or-replicate n i 0 0 h)
+
+-- the fields of a rollout that was just opened
+pub holds_invariant-opened : (s : Strategy) (name ports : List ℕ) (count : ℕ) (limits : Limits) (seats : List Holding) (core : Core) → Fits s name ports count limits
+    → CoreRepresents s core [] → NewSeats count seats
+    → PartsRepresent (opened s name ports count limits seats) (record {
+      core = core;
+      roster = record { replicas = s.replicas; revisions = record { number = 1; name = name; ports = ports; desired = s.replicas; available = 0 } ∷ []; last = 1 };
+      deadlines = record { delay = s.delay; abort_delay = s.abort_delay; limit = s.revision_limit; marks = [] };
+      moment = 0;
+      given = 0;
+      open_requests = 0;
+    })
+holds_invariant-opened s name ports count limits seats core fit represents new = record {
+  routing = record {
+    legal = record {
+      opening = and_three (is_label name && are_ports s.replicas ports) (nat_le 1 count) (nat_le count 8) (and_both (is_label name) (are_ports s.replicas ports) fit.name_fits fit.ports_fit) fit.seats_fit;
+      seats = length-replicate count 0;
+      allowed = refl;
+      numbers = refl;
+    };
+    running = refl;
+    lists = refl;
+    seats = record { count = new.count_is; each = λ i h. new.each i h ∙ ap Some (sym (new_seat count i h)) };
+    requests = record { differ = tt; given = refl };
+    entries = fit.entries_fit;
+    numbers = fit.numbers_fit;
+    spent = omega (arith, none_closed count);
+  };
+  core = represents;
+  revisions = refl;
+  replicas = refl;
+  last = refl;
+  deadlines = refl;
+  moment = refl;
+  given = omega (arith, none_closed count);
+  open_is = refl;
+}
+
+-- the running state of a rollout that was just opened
+abbrev pub running-opened : Strategy → List ℕ → List ℕ → Core → RunningParts
+running-opened s name ports core = record {
+  core = core;
+  roster = record { replicas = s.replicas; revisions = record { number = 1; name = name; ports = ports; desired = s.replicas; available = 0 } ∷ []; last = 1 };
+  deadlines = record { delay = s.delay; abort_delay = s.abort_delay; limit = s.revision_limit; marks = [] };
+  moment = 0;
+  given = 0;
+  open_requests = 0;
+}
+
+-- that running state as a state
+pub shown-opened : (s : Strategy) (name ports : List ℕ) (count : ℕ) (limits : Limits) (seats : List Holding) (core : Core) → Fits s name ports count limits
+    → CoreRepresents s core [] → NewSeats count seats
+    → record (opened s name ports count limits seats) { running = state_shown (running-opened s name ports core) (lists_of []) seats } ≡ opened s name ports count limits seats
+shown-opened s name ports count limits seats core fit represents new =
+    ap (λ (x : State). record (opened s name ports count limits seats) { running = x })
+    (fold_of (opened s name ports count limits seats) (running-opened s name ports core) (holds_invariant-opened s name ports count limits seats core fit represents new))
+
+pub holds_invariant-shown : (s : Strategy) (name ports : List ℕ) (count : ℕ) (limits : Limits) (seats : List Holding) (core : Core) → Fits s name ports count limits
+    → CoreRepresents s core [] → NewSeats count seats
+    → PartsRepresent (record (opened s name ports count limits seats) { running = state_shown (running-opened s name ports core) (lists_of []) seats }) (running-opened s name ports core)
+holds_invariant-shown s name ports count limits seats core fit represents new =
+    subst (λ (v : Routing). PartsRepresent v (running-opened s name ports core)) (sym (shown-opened s name ports count limits seats core fit represents new))
+    (holds_invariant-opened s name ports count limits seats core fit represents new)
+
+-- an answer whose only fault is an allocation failure
+pub answers_by_memory : {A : Type 0} (refusal : Option opening.OpenFault) (r : Result A opening.OpenFault) → refusal ≡ None → IfErr r (λ e. e ≡ fault.OutOfMemory)
+    → AnswersBy refusal fault.OutOfMemory r
+answers_by_memory refusal (Ok a) h e = h
+answers_by_memory refusal (Err x) h e = inr (h, e)

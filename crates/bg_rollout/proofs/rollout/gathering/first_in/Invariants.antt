@@ -1,7 +1,0 @@
-use Rattle.std.proofs.Common.{◌≡◌, ◌<◌, ℕ, Some, slice_get}
-use Rattle.bg_ledger.specs.declared.holding.Holding.{Holding}
-use Rattle.bg_rollout.proofs.rollout.gathering.first_in.Given as goal
-
--- each seat before the place is out
-abbrev pub invariant-loop-place : goal.invariant-loop-place
-invariant-loop-place g l = (k : ℕ) (seat : Holding) → k < l.place → slice_get l.seats k ≡ Some seat → seat.number ≡ 0

@@ -1,0 +1,179 @@
+//! The clients of the active and of the preview port.
+
+use crate::ports::{Ports, service_name};
+use crate::request_line::request_line;
+use crate::telling::Telling;
+use bg_access_log::{AccessLog, Entry};
+use bg_client_port::Connection;
+use bg_forward::{Accept, ClientStream, End, Reason, Served};
+use bg_http::Duplex;
+use bg_revisions::Service;
+use std::alloc::Global;
+use std::io;
+use std::io::{ErrorKind, Read, Write};
+use std::sync::Wait;
+use std::time::Clock;
+
+/// The connection of a client.
+#[derive(Drop)]
+pub struct Client<'a, R: Clock> {
+    connection: Connection<'a, R>,
+    service: Service,
+}
+
+impl<R: Clock> Read for Client<'_, R> {
+    fn read(&mut self, buf: &mut [u8]) -> io::Result<usize> {
+        self.connection.read(buf)
+    }
+}
+
+impl<R: Clock> Write for Client<'_, R> {
+    fn write(&mut self, buf: &[u8]) -> io::Result<usize> {
+        self.connection.write(buf)
+    }
+
+    fn flush(&mut self) -> io::Result<()> {
+        self.connection.flush()
+    }
+}
+
+impl<R: Clock> Duplex for Client<'_, R> {
+    fn receive(&mut self, buf: &mut [u8]) -> io::Result<usize> {
+        self.connection.receive(buf)
+    }
+
+    fn send(&mut self, bytes: &[u8]) -> io::Result<()> {
+        self.connection.send(bytes)
+    }
+}
+
+impl<R: Clock> ClientStream for Client<'_, R> {
+    fn has_gone(&mut self) -> bool {
+        self.connection.has_gone()
+    }
+}
+
+/// The clients of the active and of the preview port.
+#[derive(Drop)]
+pub struct Clients<'a, R: Clock + Wait> {
+    rt: &'a R,
+    alloc: Global,
+    ports: &'a Ports,
+    log: Option<&'a AccessLog>,
+    telling: &'a Telling<'a>,
+}
+
+impl<'a, R: Clock + Wait> Clients<'a, R> {
+    /// The clients that come to the ports. If there is a log, each ended connection is logged. Requests that are
+    /// refused because the history is full are counted for `telling`.
+    pub fn new(
+        rt: &'a R,
+        alloc: Global,
+        ports: &'a Ports,
+        log: Option<&'a AccessLog>,
+        telling: &'a Telling<'a>,
+    ) -> Clients<'a, R> {
+        Clients {
+            rt,
+            alloc,
+            ports,
+            log,
+            telling,
+        }
+    }
+}
+
+impl<'a, R: Clock + Wait> Accept for Clients<'a, R> {
+    type Stream = Client<'a, R>;
+
+    fn accept(&self, service: Service) -> io::Result<Option<Client<'a, R>>> {
+        let Some(port) = self.ports.of(service) else {
+            return Err(io::Error::from(ErrorKind::NotFound));
+        };
+        match port.next(self.rt)? {
+            Some(connection) => Ok(Some(Client {
+                connection,
+                service,
+            })),
+            None => Ok(None),
+        }
+    }
+
+    fn close(&self, client: Client<'a, R>, served: &Served) {
+        if served.reason == Some(Reason::HistoryFull) {
+            self.telling.note_refused_request();
+        }
+        if let Some(log) = self.log {
+            add_to_log(self.rt, self.alloc, log, &client, served);
+        }
+        // a request that entered was read to its end
+        client.connection.end(served.entered.is_some());
+    }
+}
+
+/// Adds the outcome of a connection to the log.
+fn add_to_log<R: Clock + Wait>(
+    rt: &R,
+    alloc: Global,
+    log: &AccessLog,
+    client: &Client<R>,
+    served: &Served,
+) {
+    let connection = &client.connection;
+    let (method, target) = match request_line(alloc, connection.first_bytes()) {
+        Some(line) => (Some(line.method), Some(line.target)),
+        None => (None, None),
+    };
+    let entered = served.entered;
+    log.add(
+        rt,
+        &Entry {
+            time: log.time(rt),
+            service: service_name(client.service),
+            revision: entered.map(|ticket| ticket.revision),
+            request: entered.map(|ticket| ticket.number),
+            port: entered.map(|ticket| ticket.port),
+            method,
+            target,
+            status: status_of(served.end),
+            end: name_of(served.end),
+            reason: reason_name(served.reason, connection),
+            request_bytes: connection.request_bytes(),
+            response_bytes: connection.response_bytes(),
+            duration_ms: connection.duration_millis(),
+            upstream_ms: match entered {
+                Some(_) => connection.millis_to_response(),
+                None => None,
+            },
+        },
+    );
+}
+
+/// The name of a reason. A fault that is told of a request whose head has none is one of its body, or of
+/// the trailers behind that.
+fn reason_name<R: Clock>(
+    reason: Option<Reason>,
+    connection: &Connection<R>,
+) -> Option<&'static str> {
+    match reason? {
+        Reason::Malformed | Reason::HeadTooLarge if connection.has_sound_head() => Some("body"),
+        reason => Some(reason.name()),
+    }
+}
+
+fn status_of(end: End) -> Option<u16> {
+    match end {
+        End::Refused(status) | End::Answered(status) => Some(status),
+        End::Closed | End::ReadFailed | End::WriteFailed => None,
+    }
+}
+
+fn name_of(end: End) -> &'static str {
+    match end {
+        End::Closed => "closed",
+        End::ReadFailed => "read_failed",
+        End::Refused(_) => "refused",
+        End::Answered(_) => "answered",
+        End::WriteFailed => "write_failed",
+    }
+}

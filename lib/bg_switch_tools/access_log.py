@@ -1,0 +1,243 @@
+"""The access log of a switch: its lines, read into values, and a reader that follows its file.
+
+A line is an object of JSON for each connection that ended (docs/DASHBOARD.md has its members), or `{"time": .., "lost": N}`
+where N lines could not be written before it.
+"""
+import datetime
+import json
+import math
+import os
+import stat
+import time
+from collections.abc import Mapping
+from typing import BinaryIO, NamedTuple
+
+ENDS = ("answered", "refused", "closed", "read_failed", "write_failed")
+CLIENT_SERVICES = ("active", "preview")
+LONGEST_LINE = 65536  # bytes; a target is cut at 1,024 before it is escaped
+PIECE = 1 << 22  # bytes that are read at a time
+READ_ON_SECONDS = 10.0  # seconds for which a file is read on after another one has taken its place
+SERVER_ERROR = 500
+
+TEXT, COUNT, NUMBER, NOTHING = (str,), (int,), (int, float), type(None)
+# The members of a line, each with the types that it can have. `bool` is none of them, though it is an `int`.
+MEMBERS: Mapping[str, tuple[type, ...]] = {
+    "service": TEXT, "revision": (*COUNT, NOTHING), "request": (*COUNT, NOTHING), "port": (*COUNT, NOTHING),
+    "method": (*TEXT, NOTHING), "target": (*TEXT, NOTHING), "status": (*COUNT, NOTHING), "end": TEXT,
+    "reason": (*TEXT, NOTHING), "request_bytes": (*COUNT, NOTHING), "response_bytes": (*COUNT, NOTHING), "duration_ms": NUMBER,
+    "upstream_ms": (*NUMBER, NOTHING)}
+
+
+class NoEntry(ValueError):
+    """A line that is none of an access log."""
+
+
+class Entry(NamedTuple):
+    """A connection that ended. `time` counts seconds from 1970; `revision` and `request` are numbers of the switch."""
+    time: float
+    service: str
+    revision: int | None
+    request: int | None
+    port: int | None
+    method: str | None
+    target: str | None
+    status: int | None
+    end: str
+    reason: str | None
+    request_bytes: int | None
+    response_bytes: int | None
+    duration_ms: float
+    upstream_ms: float | None
+
+    @property
+    def is_error(self) -> bool:
+        """Whether the client got a status from 500 on, or no answer."""
+        return self.status is None or self.status >= SERVER_ERROR
+
+
+class Lost(NamedTuple):
+    """So many lines could not be written."""
+    time: float
+    lost: int
+
+
+def seconds_of(told: object) -> float:
+    """The seconds from 1970 of a time as RFC 3339 has it."""
+    if not isinstance(told, str):
+        raise NoEntry("its time is no text")
+    try:
+        read = datetime.datetime.fromisoformat(told)
+    except ValueError:
+        raise NoEntry("its time is none of RFC 3339") from None
+    if read.tzinfo is None:
+        raise NoEntry("its time has no zone")
+    return read.timestamp()
+
+
+def time_text(seconds: float) -> str:
+    """A time as the log has it: 2026-11-25T18:03:12.042Z."""
+    read = datetime.datetime.fromtimestamp(seconds, datetime.timezone.utc)
+    return read.isoformat(timespec="milliseconds").removesuffix("+00:00") + "Z"
+
+
+def _refuse(name: str) -> object:
+    raise ValueError(f"{name} is no value of JSON")
+
+
+def _judged(told: Mapping[str, object], name: str) -> object:
+    """The value of a member. `NoEntry` where it is missing, or of a wrong type."""
+    value = told.get(name)
+    if type(value) not in MEMBERS[name] or name not in told:
+        raise NoEntry(f"its {name} is none that a line can have")
+    if isinstance(value, (int, float)) and value < 0:
+        raise NoEntry(f"its {name} is below 0")
+    return value
+
+
+def read_line(line: bytes) -> Entry | Lost:
+    """The values of a line, without its end. `NoEntry` where it is none of an access log; further members are passed over."""
+    try:
+        told = json.loads(line, parse_constant=_refuse)
+    except (ValueError, RecursionError):
+        raise NoEntry("it is no JSON") from None
+    if not isinstance(told, dict):
+        raise NoEntry("it is no object")
+    ended = seconds_of(told.get("time"))
+    if type(told.get("lost")) is int and told["lost"] >= 0:
+        return Lost(ended, told["lost"])
+    entry = Entry(ended, *(_judged(told, name) for name in MEMBERS))  # type: ignore[arg-type]
+    if entry.service not in CLIENT_SERVICES or entry.end not in ENDS or not math.isfinite(entry.duration_ms):
+        raise NoEntry("its service, end or duration is none that a line can have")
+    return entry
+
+
+def written(entry: Entry) -> bytes:
+    """The line of an entry, with its end, as the switch writes it."""
+    return (json.dumps({**entry._asdict(), "time": time_text(entry.time)}) + "\n").encode("ascii")
+
+
+class Batch(NamedTuple):
+    """What was read: entries, how many lines the switch could not write, and how many could not be read."""
+    entries: list[Entry]
+    lost: int
+    unreadable: int
+
+
+def read_lines(lines: list[bytes], unreadable: int = 0) -> Batch:
+    """The values of lines."""
+    entries, lost = [], 0
+    for line in lines:
+        try:
+            read = read_line(line)
+        except NoEntry:
+            unreadable += 1
+            continue
+        if isinstance(read, Entry):
+            entries.append(read)
+        else:
+            lost += read.lost
+    return Batch(entries, lost, unreadable)
+
+
+class OpenLog:
+    """A file of the log, read from a place on."""
+
+    def __init__(self, file: BinaryIO, place: int) -> None:
+        self.file = file
+        self.identity = identity(os.fstat(file.fileno()))
+        self.place = place
+        self.part = b""  # of a line whose end has not come
+        self.unreadable = 0
+        self.replaced_at: float | None = None
+
+    def begin_before(self) -> None:
+        """Goes back to the begin of the line that the place stands in."""
+        start = max(self.place - LONGEST_LINE, 0)
+        before = os.pread(self.file.fileno(), self.place - start, start)
+        self.place = start + before.rfind(b"\n") + 1
+
+    def lines(self) -> list[bytes]:
+        """The whole lines that have come, of one piece at most; empty where no more are there now."""
+        if os.fstat(self.file.fileno()).st_size < self.place:
+            self.place, self.part = 0, b""  # the file was cut
+        piece = os.pread(self.file.fileno(), PIECE, self.place)
+        self.place += len(piece)
+        *lines, self.part = (self.part + piece).split(b"\n")
+        if len(self.part) > LONGEST_LINE:
+            self.part, self.unreadable = b"", self.unreadable + 1
+        return lines
+
+    def take_unreadable(self) -> int:
+        """How many lines were too long since this was asked last."""
+        count, self.unreadable = self.unreadable, 0
+        return count
+
+
+def identity(status: os.stat_result) -> tuple[int, int]:
+    return status.st_dev, status.st_ino
+
+
+class Follower:
+    """Follows the log at a path: a file that was renamed is read on for a while beside the one that has taken its place."""
+
+    def __init__(self, path: str, backlog: int = 0) -> None:
+        """Reads from the end of the file on, or from so many bytes before it. `fault` says why nothing is read, where it is."""
+        self.path = path
+        self.files: list[OpenLog] = []
+        self.fault = ""
+        self.begun_at = 0  # the size of the file when it was opened first
+        self._open(backlog)
+
+    def _open(self, backlog: int | None) -> None:
+        """Opens the file that is at the path now; from its begin on where no backlog is told."""
+        try:
+            found = os.stat(self.path)
+            if not stat.S_ISREG(found.st_mode):
+                self.fault = "it is no regular file"
+                return
+            if self.files and self.files[-1].identity == identity(found):
+                self.files[-1].replaced_at = None
+                return
+            opened = OpenLog(open(self.path, "rb", buffering=0), 0)
+        except OSError as error:
+            self.fault = error.strerror or "it can't be read"
+            return
+        self.fault = ""
+        if backlog is not None:
+            self.begun_at = os.fstat(opened.file.fileno()).st_size
+            opened.place = max(self.begun_at - backlog, 0)
+            opened.begin_before()
+        for earlier in self.files:
+            earlier.replaced_at = earlier.replaced_at or time.monotonic()
+        self.files.append(opened)
+
+    @property
+    def is_behind(self) -> bool:
+        """Whether what comes next stood in the file before it was followed."""
+        return len(self.files) == 1 and self.files[0].place < self.begun_at
+
+    def _close_earlier(self) -> int:
+        """Closes files that were replaced a while ago. Gives how many of them end within a line."""
+        now, cut = time.monotonic(), 0
+        for earlier in self.files[:-1]:
+            if earlier.replaced_at is not None and now >= earlier.replaced_at + READ_ON_SECONDS:
+                cut += bool(earlier.part)
+                earlier.file.close()
+                self.files.remove(earlier)
+        return cut
+
+    def read(self) -> Batch:
+        """What has come since the last time, up to a piece of each file."""
+        self._open(None)
+        lines, unreadable = [], 0
+        for file in self.files:
+            try:
+                lines += file.lines()
+            except OSError as error:
+                self.fault = error.strerror or "it can't be read"
+            unreadable += file.take_unreadable()
+        return read_lines(lines, unreadable + self._close_earlier())
+
+    def close(self) -> None:
+        while self.files:
+            self.files.pop().file.close()

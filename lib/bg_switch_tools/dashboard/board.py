@@ -1,0 +1,148 @@
+"""What the dashboard knows of a switch: its reports, its requests, and what has happened."""
+import secrets
+import time
+from collections.abc import Sequence
+from typing import TypedDict
+
+from bg_switch_tools.access_log import Batch, Entry
+from bg_switch_tools.changes import changes
+from bg_switch_tools.dashboard.steps import Attempt, orders, steps
+from bg_switch_tools.dashboard.totals import Totals
+from bg_switch_tools.dashboard.traffic import KEPT, SLOT, Traffic
+from bg_switch_tools.meanings import with_meaning
+from bg_switch_tools.reports import Report, as_json
+from bg_switch_tools.tables import AWAITED, NO_BOOK, in_one_line
+
+MOST_HAPPENED, MOST_FAILED = 200, 50
+MOST_OF_A_BATCH = 20  # failed requests that one look adds
+
+
+class Happening(TypedDict):
+    """Something that happened. `kind` is `switch`, `abort`, `change`, `order`, `silence`, `answer` or `log`; `mark` is the
+    text of its mark in the charts, where it has one."""
+    id: int
+    time: float
+    moment: int | None
+    kind: str
+    text: str
+    mark: str
+
+
+class Board:
+    """Takes in what is read, and tells all of it, or what has changed since the time before."""
+
+    def __init__(self, control: int, log_path: str, is_read_only: bool) -> None:
+        self.control = control
+        self.log_path = log_path
+        self.is_read_only = is_read_only
+        self.session = secrets.token_hex(8)  # by which a page notices that another dashboard has taken the place
+        self.report: Report | None = None
+        self.has_asked = False  # whether the switch has answered before
+        self.fault = "the switch has not been asked yet"
+        self.since = time.time()  # when it began to answer, or not to
+        self.log_fault = ""
+        self.attempt = Attempt()
+        self.names: dict[int, str] = {}  # of revisions, by their numbers in the book that is open
+        self.traffic = Traffic()
+        self.totals = Totals()
+        self.happened: list[Happening] = []
+        self.failed: list[dict[str, object]] = []  # requests
+        self.next_id = 1
+        self.told_up_to = 0
+
+    def say(self, kind: str, text: str, mark: str = "") -> None:
+        moment = self.report.moment if self.report else None
+        self.happened.append({"id": self.next_id, "time": round(time.time(), 3), "moment": moment, "kind": kind, "text": text,
+                              "mark": mark})
+        del self.happened[:-MOST_HAPPENED]
+        self.next_id += 1
+
+    def take_report(self, report: Report | None) -> None:
+        """Takes in what the switch has answered: None where no book is open."""
+        if self.fault:
+            self.say("answer", f"the switch answers: {in_one_line(report)}")
+            self.fault, self.since = "", time.time()
+        before, self.report = self.report, report
+        if report is None or (before and report.moment < before.moment):
+            self.names = {}
+        if report is not None:
+            self.names.update({number: revision.name for number, revision in report.revisions.items()})
+            self.totals.take_changes(before, report)
+            self.attempt.take(report)
+        is_first, self.has_asked = not self.has_asked, True
+        for change in changes(before, report) if not is_first else []:
+            kind = "switch" if change.startswith("active: ") else "abort" if change.endswith(" -> aborted") else "change"
+            self.say(kind, change, self._mark(kind, report))
+
+    @staticmethod
+    def _mark(kind: str, report: Report | None) -> str:
+        if report is None or kind not in ("switch", "abort"):
+            return ""
+        return "abort" if kind == "abort" else f"to {report.service('active').name}"
+
+    def take_silence(self, reason: str) -> None:
+        """Takes in that the switch gives no answer."""
+        if not self.fault:
+            self.say("silence", f"the switch gives no answer: {reason}")
+            self.since = time.time()
+        self.fault = reason
+
+    def take_batch(self, batch: Batch, fault: str, is_counted: bool = True) -> None:
+        """Takes in what has come into the log. What stood there before the dashboard began is shown, and not counted."""
+        for entry in batch.entries:
+            revision = self.name(entry.revision)
+            self.traffic.add(entry, revision)
+            if is_counted:
+                self.totals.add(entry, revision)
+        self._take_failed([entry for entry in batch.entries if entry.is_error])
+        if batch.lost:
+            self.say("log", f"the switch could not write {batch.lost} lines of its log")
+        self.totals.lost += batch.lost
+        self.totals.unreadable += batch.unreadable
+        if fault != self.log_fault:
+            self.say("log", f"the log {self.log_path} can't be read: {fault}" if fault else f"the log {self.log_path} is read")
+        self.log_fault = fault
+
+    def _take_failed(self, entries: Sequence[Entry]) -> None:
+        for entry in entries[-MOST_OF_A_BATCH:]:
+            self.failed.append({
+                "id": self.next_id, "time": entry.time, "service": entry.service, "revision": self.name(entry.revision),
+                "method": entry.method, "target": entry.target, "status": entry.status, "end": entry.end, "reason": entry.reason,
+                "duration_ms": entry.duration_ms})
+            self.next_id += 1
+        del self.failed[:-MOST_FAILED]
+
+    def name(self, number: int | None) -> str:
+        """The name of a revision; empty where there is none."""
+        return "" if number is None else self.names.get(number, f"revision-{number}")
+
+    def note_order(self, line: str, reply: str) -> None:
+        self.say("order", f"{line} => {with_meaning(reply)}")
+
+    def head(self) -> dict[str, object]:
+        """All but what is told piece by piece."""
+        now, report = time.time(), self.report
+        return {
+            "time": now, "session": self.session, "control": self.control, "read_only": self.is_read_only,
+            "switch": {"answers": not self.fault, "fault": self.fault, "since": self.since},
+            "log": {"path": self.log_path, "fault": self.log_fault, "lost": self.totals.lost,
+                    "unreadable": self.totals.unreadable},
+            "report": as_json(report) if report else None,
+            "steps": steps(report, self.attempt.seen, self.attempt.failed_at) if report else [],
+            "waits_for": AWAITED[report.phase] if report else NO_BOOK,
+            "orders": {order: can and not self.fault and not self.is_read_only for order, can in orders(report).items()},
+            "recent": self.traffic.recent(now)}
+
+    def state(self) -> dict[str, object]:
+        """All that is known."""
+        self.traffic.forget(time.time())
+        return {**self.head(), "slot_seconds": SLOT, "kept_seconds": KEPT, "slots": self.traffic.told(list(self.traffic.slots)),
+                "happened": self.happened, "failed": self.failed}
+
+    def update(self) -> dict[str, object]:
+        """What has changed since the time before."""
+        self.traffic.forget(time.time())
+        known, self.told_up_to = self.told_up_to, self.next_id - 1
+        return {**self.head(), "slots": self.traffic.take_changed(),
+                "happened": [each for each in self.happened if each["id"] > known],
+                "failed": [each for each in self.failed if isinstance(each["id"], int) and each["id"] > known]}

@@ -1,0 +1,326 @@
+// Keeps the page as the events of the dashboard tell it, and sends the orders of its buttons.
+
+import {byId, chip, clock, element, milliseconds, percent, rate, setText, span, titleOf} from "./parts.js";
+import {DurationsChart, RequestsChart} from "./charts.js";
+
+const TOKEN = document.querySelector("meta[name=token]").content;
+const SILENT = 8000;  // milliseconds without an event after which the dashboard counts as silent
+const AGAIN = 2000;  // milliseconds until it is tried again
+const SETTLES = 0.7;  // seconds until the last line of a slot has come
+const MINUTES = [1, 3, 10];
+const TOLD = 20000;  // milliseconds for which the reply to an order is shown
+const MANY_ERRORS = 0.01;  // a share that is shown in red
+const MOST_HAPPENED = 200, MOST_FAILED = 50;
+const ORDERS = [
+  {line: "promote", title: "Promote", kind: "main"},
+  {line: "promote full", title: "Promote full", kind: ""},
+  {line: "retry", title: "Retry", kind: ""},
+  {line: "abort", title: "Abort", kind: "danger"},
+];
+const PHASES = {
+  steady: "Steady",
+  scaling: "Scaling",
+  preAnalysis: "Analysis before the switch",
+  paused: "Paused",
+  sizing: "Sizing",
+  postAnalysis: "Analysis after the switch",
+  aborted: "Aborted",
+};
+
+let state = null;
+let slots = new Map();
+let minutes = 10;
+let lastEvent = Date.now();
+let source = null;  // of the events
+let telling = 0;  // the timer of the reply that is shown
+let asked = null;  // the order of the question that is open
+
+const charts = [new RequestsChart("requests", "Requests a second"), new DurationsChart("durations", "Duration in milliseconds")];
+
+// What is told
+
+function takeState(told) {
+  if (state && state.session !== told.session) {
+    location.reload();  // another dashboard answers, whose token this page has not
+    return;
+  }
+  slots = new Map(told.slots.map((slot) => [slot.begins, slot]));
+  state = told;
+  show(true, true);
+}
+
+function takeUpdate(told) {
+  if (!state) return;
+  for (const slot of told.slots) slots.set(slot.begins, slot);
+  for (const begins of [...slots.keys()]) if (begins < told.time - state.kept_seconds - state.slot_seconds) slots.delete(begins);
+  const happened = [...state.happened, ...told.happened].slice(-MOST_HAPPENED);
+  const failed = [...state.failed, ...told.failed].slice(-MOST_FAILED);
+  state = {...state, ...told, happened, failed};
+  show(told.happened.length > 0, told.failed.length > 0);
+}
+
+function listen() {
+  source = new EventSource("api/events");
+  const taken = (take) => (event) => {
+    lastEvent = Date.now();
+    take(JSON.parse(event.data));
+  };
+  source.addEventListener("state", taken(takeState));
+  source.addEventListener("update", taken(takeUpdate));
+  source.addEventListener("error", () => {
+    showLink(true);
+    if (source.readyState === EventSource.CLOSED) setTimeout(listen, AGAIN);
+  });
+}
+
+function watchSilence() {
+  if (source.readyState !== EventSource.OPEN || Date.now() - lastEvent > SILENT) showLink(true);
+}
+
+// What is shown
+
+function show(hasHappened, hasFailed) {
+  byId("main").hidden = false;
+  showLink();
+  showAttempt();
+  showServices();
+  showRevisions();
+  showCharts();
+  if (hasHappened) showHappened();
+  if (hasFailed) showFailed();
+}
+
+// What is to be said of a dashboard or a switch that gives no answer; empty where both do.
+function silence(isSilent) {
+  if (isSilent) return `The dashboard gives no answer. ${state ? `What is shown is from ${clock(state.time)}.` : ""}`;
+  if (!state || state.switch.answers) return "";
+  const {since, fault} = state.switch;
+  return `The switch gives no answer since ${clock(since)}: ${fault}. ${state.report ? "What is shown is from before." : ""}`;
+}
+
+function showLink(isSilent = false) {
+  const link = byId("link"), alarm = byId("alarm"), text = silence(isSilent), kind = text ? "lost" : "live";
+  link.dataset.state = kind;
+  setText("link", kind === "live" ? (state && state.read_only ? "live, read only" : "live") : "no answer");
+  byId("main").classList.toggle("stale", kind !== "live");
+  if (alarm.textContent !== text) alarm.textContent = text;
+  alarm.hidden = text === "";
+  if (kind !== "live") showOrders(false);
+}
+
+function newest() {
+  return state.report ? state.report.newest : null;
+}
+
+function showAttempt() {
+  const report = state.report, phase = report ? report.phase : "";
+  setText("control", `at port ${state.control}`);
+  document.title = `${report ? PHASES[phase] : "no book"} – bg_switch ${state.control}`;
+  byId("attempt").dataset.phase = phase;
+  setText("phase-name", report ? PHASES[phase] : "No book is open yet");
+  setText("phase-of", report ? titleOf(newest().name) : "");
+  setText("waits-for", report ? state.waits_for : "bin/operator sends open, or bin/controller does");
+  setText("moment", report ? `moment ${report.moment}` : "");
+  const told = JSON.stringify(state.steps), list = byId("steps");
+  if (list.dataset.told !== told) {
+    list.dataset.told = told;
+    list.replaceChildren(...state.steps.map((step) => element("li",
+      {class: step.state, "data-step": step.name, "aria-current": step.state === "current" ? "step" : false},
+      span("dot", ""), span("step-title", step.title), span("unseen", `, ${step.state}`))));
+  }
+  showOrders(state.switch.answers);
+}
+
+function showOrders(mayOrder) {
+  const box = byId("orders");
+  box.hidden = Boolean(state && state.read_only);
+  if (!state || state.read_only) return;
+  if (!box.children.length) {
+    box.append(...ORDERS.map((order) => {
+      const button = element("button", {type: "button", class: order.kind, "data-order": order.line, text: order.title});
+      button.addEventListener("click", () => ask(order));
+      return button;
+    }));
+  }
+  for (const button of box.children) button.disabled = !mayOrder || !state.orders[button.dataset.order];
+}
+
+function showServices() {
+  const report = state.report, cards = ["active", "preview"].map((service) => {
+    const name = report ? report[service].name : "–", number = report ? `revision ${report[service].number}` : "";
+    return element("div", {class: "card", "data-service": service},
+      element("h3", {text: `${service} service`}),
+      element("p", {class: "selected"}, ...(report ? [chip(name)] : []), span("name", name)),
+      element("p", {class: "faint", text: number}));
+  });
+  byId("services").replaceChildren(...cards);
+}
+
+function scaleDown(revision, moment) {
+  if (revision.desired === 0) return ["scaled down", "faint"];
+  if (revision.cut) return [`draining: ${revision.open} open requests are given up`, "warn"];
+  if (revision.draining) return [`draining: waits for ${revision.open} open requests`, "warn"];
+  if (revision.deadline === null) return ["", ""];
+  return [`in ${Math.max(revision.deadline - moment, 0)} s`, ""];
+}
+
+function endpoints(revision) {
+  const made = element("span", {class: "endpoints"}), width = Math.min(revision.desired, 16);
+  for (let place = 0; place < width; place += 1) {
+    made.append(span(place < revision.available * width / revision.desired ? "up" : "down", ""));
+  }
+  return [span("count", `${revision.available} of ${revision.desired}`), made];
+}
+
+function revisionRow(revision, report) {
+  const services = ["active", "preview", "stable", "newest"].filter((service) => report[service].number === revision.number);
+  const recent = state.recent[revision.name], [text, kind] = scaleDown(revision, report.moment);
+  const cell = (title, kind, ...children) => element("td", {class: kind, "data-title": title}, ...children);
+  const isBad = recent && recent.errors >= MANY_ERRORS;
+  return element("tr", {"data-revision": revision.name, class: revision.desired === 0 ? "down" : ""},
+    element("th", {scope: "row"}, chip(revision.name), span("name", revision.name),
+      span("faint after", `revision ${revision.number}`)),
+    cell("Selected by", "", ...services.map((service) => span(`badge ${service}`, service))),
+    cell("Endpoints", "", ...endpoints(revision)),
+    cell("Open requests", "number", `${revision.open}`),
+    cell("Requests/s", "number", recent ? rate(recent.requests_per_second) : "–"),
+    cell("Errors", isBad ? "number bad" : "number", recent ? percent(recent.errors) : "–"),
+    cell("p99", "number", recent ? milliseconds(recent.p99) : "–"),
+    cell("Scale-down", kind, text));
+}
+
+function showRevisions() {
+  const report = state.report, body = byId("revisions").querySelector("tbody");
+  const rows = report ? [...report.revisions].sort((one, other) => other.number - one.number) : [];
+  body.replaceChildren(...rows.map((revision) => revisionRow(revision, report)));
+}
+
+function aboutLog(log) {
+  if (log.path === "") return "No access log is read: --log FILE names it.";
+  if (log.fault) return `${log.path} can't be read: ${log.fault}`;
+  return log.lost ? `${log.lost} lines of the log were lost` : "";
+}
+
+function showCharts() {
+  setText("log", aboutLog(state.log));
+  // up to the end of the latest slot that is over, since a part of a slot would look like fewer requests
+  const to = Math.floor((state.time - SETTLES) / state.slot_seconds) * state.slot_seconds, from = to - minutes * 60;
+  const seen = [...slots.values()].filter((slot) => slot.begins >= from && slot.begins < to)
+    .sort((one, other) => one.begins - other.begins);
+  const marks = state.happened.filter((each) => each.mark && each.time > from && each.time <= to);
+  for (const chart of charts) chart.take({from, to, seconds: state.slot_seconds, slots: seen, marks, recent: state.recent});
+}
+
+function showHappened() {
+  byId("happened").replaceChildren(...[...state.happened].reverse().map((each) => element("li", {class: each.kind},
+    element("time", {text: clock(each.time)}),
+    span("faint", each.moment === null ? "" : `${each.moment}`),
+    span("text", each.text.replaceAll("->", "→")))));
+}
+
+function failedRow(each) {
+  const hasNone = each.status === null, answer = hasNone ? "none" : `${each.status}`;
+  const why = each.reason || (hasNone ? each.end : "");
+  const request = `${each.method || "–"} ${each.target || ""}`;
+  return element("tr", {},
+    element("td", {"data-title": "Time", text: clock(each.time)}),
+    element("td", {"data-title": "Revision"}, chip(each.revision), titleOf(each.revision)),
+    element("td", {"data-title": "Request", class: "target", title: request, text: request}),
+    element("td", {"data-title": "Answer"}, span("bad", answer), span("faint after", why)),
+    element("td", {"data-title": "Duration", class: "number", text: milliseconds(each.duration_ms)}));
+}
+
+function showFailed() {
+  byId("none-failed").hidden = state.failed.length > 0;
+  byId("failed").hidden = state.failed.length === 0;
+  byId("failed").querySelector("tbody").replaceChildren(...[...state.failed].reverse().map(failedRow));
+}
+
+// Orders
+
+function question(line) {
+  const {active, stable} = state.report, name = newest().name;
+  const moves = active.name === name ? "" : ` The active service then moves from ${active.name} to ${name}.`;
+  return {
+    promote: [`Promote ${name}?`, `Its pause ends.${moves}`],
+    "promote full": [`Promote ${name} in full?`,
+      `Its analyses and pauses are skipped; its endpoints are still waited for.${moves}`],
+    abort: [`Abort the attempt of ${name}?`, `Both services go back to ${stable.name}, the stable revision.`],
+    retry: [`Try ${name} again?`, "Its attempt begins again from its first step."],
+  }[line];
+}
+
+function ask(order) {
+  const [title, text] = question(order.line);
+  asked = {order: order.line, revision: newest().number};
+  setText("question-title", title);
+  setText("question-text", text);
+  setText("confirm", order.title);
+  byId("confirm").className = order.kind || "main";
+  byId("question").showModal();
+  byId("cancel").focus();
+}
+
+function tell(text, kind) {
+  setText("reply", text);
+  byId("reply").className = kind;
+  clearTimeout(telling);
+  telling = setTimeout(() => setText("reply", ""), TOLD);
+}
+
+async function send(order) {
+  tell(`${order.order}: sent`, "");
+  try {
+    const headers = {"Content-Type": "application/json", "X-Token": TOKEN};
+    const answer = await fetch("api/order", {method: "POST", headers, body: JSON.stringify(order)});
+    const told = await answer.json();
+    if (!answer.ok) tell(`${order.order}: ${told.fault}`, "bad");
+    else if (told.carried_out) tell(`${order.order}: carried out`, "good");
+    else tell(`${order.order}: ${told.reply}: ${told.meaning}`, "bad");
+  } catch (error) {
+    tell(`${order.order}: the dashboard gives no answer`, "bad");
+  }
+}
+
+function prepareQuestion() {
+  const dialog = byId("question");
+  byId("cancel").addEventListener("click", () => dialog.close());
+  byId("confirm").addEventListener("click", () => {
+    dialog.close();
+    send(asked);
+  });
+}
+
+// The scheme and the time that is shown
+
+function prepareScheme() {
+  const button = byId("scheme"), root = document.documentElement, preferred = matchMedia("(prefers-color-scheme: dark)");
+  const isDark = () => (root.dataset.scheme ? root.dataset.scheme === "dark" : preferred.matches);
+  const name = () => { button.textContent = isDark() ? "light scheme" : "dark scheme"; };
+  button.addEventListener("click", () => {
+    root.dataset.scheme = isDark() ? "light" : "dark";
+    name();
+  });
+  preferred.addEventListener("change", name);
+  name();
+}
+
+function prepareMinutes() {
+  const told = Number(new URLSearchParams(location.hash.slice(1)).get("minutes"));
+  minutes = MINUTES.includes(told) ? told : minutes;
+  byId("minutes").append(...MINUTES.map((each) => {
+    const input = element("input", {type: "radio", name: "minutes", value: `${each}`, checked: each === minutes});
+    input.addEventListener("change", () => {
+      minutes = each;
+      history.replaceState(null, "", `#minutes=${each}`);
+      if (state) showCharts();
+    });
+    return element("label", {}, input, element("span", {text: `${each} min`}));
+  }));
+}
+
+prepareQuestion();
+prepareScheme();
+prepareMinutes();
+listen();
+setInterval(watchSilence, 1000);

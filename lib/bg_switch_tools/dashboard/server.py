@@ -1,0 +1,193 @@
+"""The web server of the dashboard, on 127.0.0.1 alone."""
+import asyncio
+import contextlib
+import html
+import importlib.resources
+import json
+import secrets
+from collections.abc import AsyncIterator, Awaitable, Callable
+
+from aiohttp import web
+
+from bg_switch_tools.access_log import Batch, Follower
+from bg_switch_tools.connection import HOST, Unreachable, ask
+from bg_switch_tools.dashboard import guard, metrics
+from bg_switch_tools.dashboard.board import Board
+from bg_switch_tools.dashboard.orders import Moved, WrongOrder, carry_out, read_order
+from bg_switch_tools.meanings import meaning_of, was_carried_out
+from bg_switch_tools.reports import NoReport, Report, read_report
+
+PAUSE = 0.5  # seconds between two reports
+SOON = 0.01  # seconds, while the log is read from before the dashboard's begin
+ANSWER = 1.5  # seconds for the switch to answer
+BACKLOG = 1 << 25  # bytes of the log that are read when the dashboard begins
+MOST_WAITING = 100  # updates that a listener may be behind
+MOST_LISTENERS = 64
+LARGEST_ORDER = 4096  # bytes
+LAST_SECOND = 1  # second for requests and streams to end after a signal
+FILES = {"dashboard.css": "text/css", "dashboard.js": "text/javascript", "charts.js": "text/javascript",
+         "parts.js": "text/javascript", "icon.svg": "image/svg+xml"}
+Handler = Callable[[web.Request], Awaitable[web.StreamResponse]]
+
+
+def page_file(name: str) -> str:
+    """A file of the page, also where the tools are one file."""
+    return (importlib.resources.files("bg_switch_tools.dashboard") / "page" / name).read_text(encoding="utf-8")
+
+
+def event(name: str, told: dict[str, object]) -> bytes:
+    """An event of a stream, as browsers read it."""
+    return f"event: {name}\ndata: {json.dumps(told)}\n\n".encode("ascii")
+
+
+def refusal(status: int, why: str) -> web.Response:
+    return web.json_response({"fault": why}, status=status)
+
+
+@web.middleware
+async def guarded(request: web.Request, handler: Handler) -> web.StreamResponse:
+    """Refuses what comes by another name or from another site, and gives each answer its fields."""
+    fault = guard.fault_of(request.headers.getall("Host", []), request.headers.getall("Origin", []))
+    if fault:
+        answer: web.StreamResponse = refusal(403, fault)
+    else:
+        try:
+            answer = await handler(request)
+        except web.HTTPException as refused:
+            answer = refusal(refused.status, refused.reason)
+    if not answer.prepared:
+        answer.headers.update(guard.HEADERS)
+    return answer
+
+
+class Server:
+    """Looks at the switch and at its log again and again, and answers requests by what was seen."""
+
+    def __init__(self, board: Board) -> None:
+        self.board = board
+        self.follower = Follower(board.log_path, BACKLOG) if board.log_path else None
+        self.token = secrets.token_urlsafe(32)
+        self.registry = metrics.registry_of(board)
+        self.page = page_file("index.html").replace("{{token}}", html.escape("" if board.is_read_only else self.token))
+        self.files = {name: page_file(name) for name in FILES}
+        self.listeners: set[asyncio.Queue[bytes]] = set()
+        self.soon = asyncio.Event()
+
+    def application(self) -> web.Application:
+        made = web.Application(middlewares=[guarded], client_max_size=LARGEST_ORDER)
+        made.router.add_get("/", self.show_page)
+        made.router.add_get("/metrics", self.show_metrics)
+        made.router.add_get("/api/state", self.show_state)
+        made.router.add_get("/api/events", self.show_events)
+        made.router.add_post("/api/order", self.order)
+        made.router.add_get("/{name}", self.show_file)
+        made.cleanup_ctx.append(self.looking)
+        return made
+
+    async def looking(self, _: web.Application) -> AsyncIterator[None]:
+        """Looks for as long as the server runs."""
+        task = asyncio.create_task(self.look_always())
+        yield
+        task.cancel()
+        with contextlib.suppress(asyncio.CancelledError):
+            await task
+
+    async def look_always(self) -> None:
+        while True:
+            is_counted = not (self.follower and self.follower.is_behind)
+            self.take(*await asyncio.to_thread(self.look), is_counted)
+            with contextlib.suppress(TimeoutError):
+                await asyncio.wait_for(self.soon.wait(), SOON if self.follower and self.follower.is_behind else PAUSE)
+            self.soon.clear()
+
+    def look(self) -> tuple[Batch | None, Report | None | str]:
+        """What has come into the log, and the report or why there is none. The log is read first: each revision that it names
+        is in the report."""
+        batch = self.follower.read() if self.follower else None
+        try:
+            return batch, read_report(ask(self.board.control, b"report", ANSWER))
+        except (Unreachable, NoReport) as reason:
+            return batch, str(reason)
+
+    def take(self, batch: Batch | None, seen: Report | None | str, is_counted: bool) -> None:
+        """Takes in what was seen, and tells it to all who listen."""
+        if isinstance(seen, str):
+            self.board.take_silence(seen)
+        else:
+            self.board.take_report(seen)
+        if batch and self.follower:
+            self.board.take_batch(batch, self.follower.fault, is_counted)
+        told = event("update", self.board.update())
+        for listener in list(self.listeners):
+            if listener.full():
+                self.listeners.discard(listener)  # it reads too slowly: its stream ends, and it begins anew
+            else:
+                listener.put_nowait(told)
+
+    async def show_page(self, _: web.Request) -> web.Response:
+        return web.Response(text=self.page, content_type="text/html", charset="utf-8")
+
+    async def show_file(self, request: web.Request) -> web.Response:
+        name = request.match_info["name"]
+        if name not in self.files:
+            return refusal(404, "there is no such page")
+        return web.Response(text=self.files[name], content_type=FILES[name], charset="utf-8")
+
+    async def show_metrics(self, _: web.Request) -> web.Response:
+        return web.Response(body=metrics.written(self.registry), headers={"Content-Type": metrics.CONTENT_TYPE})
+
+    async def show_state(self, _: web.Request) -> web.Response:
+        return web.json_response(self.board.state())
+
+    async def show_events(self, request: web.Request) -> web.StreamResponse:
+        """All that is known, and then each change."""
+        if len(self.listeners) >= MOST_LISTENERS:
+            return refusal(503, "too many pages are open")
+        stream = web.StreamResponse(headers={**guard.HEADERS, "Content-Type": "text/event-stream; charset=utf-8"})
+        listener: asyncio.Queue[bytes] = asyncio.Queue(MOST_WAITING)
+        await stream.prepare(request)
+        self.listeners.add(listener)
+        try:
+            await stream.write(event("state", self.board.state()))
+            while listener in self.listeners:
+                await stream.write(await listener.get())
+        except ConnectionError:
+            pass
+        finally:
+            self.listeners.discard(listener)
+        return stream
+
+    async def order(self, request: web.Request) -> web.Response:
+        """Carries out an order of the page."""
+        if self.board.is_read_only:
+            return refusal(403, "the dashboard was started with --read-only")
+        if not request.headers.getall("Origin", []):
+            return refusal(403, "the request does not say from which site it comes")
+        if not guard.is_token(request.headers.get("X-Token", ""), self.token):
+            return refusal(403, "the request has not the token of this dashboard: load the page again")
+        try:
+            order = read_order(await request.read())
+        except WrongOrder as wrong:
+            return refusal(400, str(wrong))
+        try:
+            reply = await asyncio.to_thread(carry_out, self.board.control, order)
+        except Moved as moved:
+            return refusal(409, str(moved))
+        except (Unreachable, NoReport) as reason:
+            return refusal(503, str(reason))
+        self.board.note_order(order.line, reply)
+        self.soon.set()
+        return web.json_response({"line": order.line, "reply": reply, "carried_out": was_carried_out(reply),
+                                  "meaning": meaning_of(reply)})
+
+
+def run(board: Board, listen: int) -> None:
+    """Serves up to SIGTERM or ctrl-C. `OSError` where the port can't be had."""
+    async def made() -> web.Application:
+        application = Server(board).application()
+
+        async def tell(_: web.Application) -> None:
+            print(f"dashboard: http://{HOST}:{listen}/", flush=True)
+        application.on_startup.append(tell)
+        return application
+    web.run_app(made(), host=HOST, port=listen, print=lambda *_: None, access_log=None, shutdown_timeout=LAST_SECOND)

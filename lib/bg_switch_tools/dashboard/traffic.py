@@ -1,0 +1,127 @@
+"""Requests of the last ten minutes, counted by time, revision and class of status."""
+import collections
+import math
+from collections.abc import Iterator, Sequence
+from typing import TypedDict
+
+from bg_switch_tools.access_log import Entry
+
+SLOT = 2  # seconds that are counted together
+KEPT = 600  # seconds
+RECENT = 30  # seconds of which the present rates are told
+LEAST, FACTOR = 0.05, 1.05  # of the bins of durations: the end of the first one in milliseconds, and the step between two
+NO_ANSWER = "none"
+ERRORS = ("5xx", NO_ANSWER)
+
+
+def class_of(status: int | None) -> str:
+    """The class of a status, as `5xx`; `none` where there was no answer."""
+    return NO_ANSWER if status is None else f"{status // 100}xx"
+
+
+class Durations:
+    """Durations in milliseconds, of which a quantile is known to 5 per cent."""
+
+    def __init__(self) -> None:
+        self.bins: collections.Counter[int] = collections.Counter()
+
+    def add(self, duration: float) -> None:
+        self.bins[math.ceil(math.log(max(duration, LEAST) / LEAST, FACTOR))] += 1
+
+    def take(self, other: "Durations") -> None:
+        self.bins += other.bins
+
+    def quantile(self, share: float) -> float:
+        """The end of the bin that has the quantile, to two places; 0 where there is no duration."""
+        wanted, seen = share * self.bins.total(), 0
+        for place in sorted(self.bins):
+            seen += self.bins[place]
+            if seen >= wanted:
+                return round(LEAST * FACTOR ** place, 2)
+        return 0.0
+
+
+class Cell:
+    """The requests of one revision in one slot."""
+
+    def __init__(self) -> None:
+        self.counts: collections.Counter[str] = collections.Counter()
+        self.durations = Durations()
+
+    def add(self, entry: Entry) -> None:
+        self.counts[class_of(entry.status)] += 1
+        self.durations.add(entry.duration_ms)
+
+    def take(self, other: "Cell") -> None:
+        self.counts += other.counts
+        self.durations.take(other.durations)
+
+
+class CellJson(TypedDict):
+    """A cell as the page is told it. The name is empty where a request came to no revision."""
+    revision: str
+    counts: dict[str, int]
+    p50: float
+    p99: float
+
+
+class SlotJson(TypedDict):
+    """A slot as the page is told it: the second at which it begins, and its cells."""
+    begins: int
+    cells: list[CellJson]
+
+
+class Recent(TypedDict):
+    """What became of a revision's requests in the last seconds."""
+    requests_per_second: float
+    errors: float
+    p50: float
+    p99: float
+
+
+class Traffic:
+    """The slots of the last ten minutes, by the second at which each begins."""
+
+    def __init__(self) -> None:
+        self.slots: dict[int, dict[str, Cell]] = {}
+        self.changed: set[int] = set()
+
+    def add(self, entry: Entry, revision: str) -> None:
+        begins = int(entry.time) // SLOT * SLOT
+        self.slots.setdefault(begins, {}).setdefault(revision, Cell()).add(entry)
+        self.changed.add(begins)
+
+    def forget(self, now: float) -> None:
+        """Drops the slots that are older than ten minutes."""
+        for begins in [begins for begins in self.slots if begins < now - KEPT - SLOT]:
+            del self.slots[begins]
+            self.changed.discard(begins)
+
+    def told(self, begins: Sequence[int]) -> list[SlotJson]:
+        """These slots, by time."""
+        return [{"begins": each, "cells": list(_cells(self.slots[each]))} for each in sorted(begins)]
+
+    def take_changed(self) -> list[SlotJson]:
+        """The slots that have changed since this was asked last."""
+        changed, self.changed = self.changed, set()
+        return self.told(list(changed))
+
+    def recent(self, now: float) -> dict[str, Recent]:
+        """By revision, what became of its requests in the last seconds."""
+        sums: dict[str, Cell] = {}
+        for begins, cells in self.slots.items():
+            for revision, cell in cells.items() if now - RECENT < begins <= now else ():
+                sums.setdefault(revision, Cell()).take(cell)
+        return {revision: _recent(cell) for revision, cell in sums.items()}
+
+
+def _cells(cells: dict[str, Cell]) -> Iterator[CellJson]:
+    for revision, cell in sorted(cells.items()):
+        yield {"revision": revision, "counts": dict(cell.counts), "p50": cell.durations.quantile(0.5),
+               "p99": cell.durations.quantile(0.99)}
+
+
+def _recent(cell: Cell) -> Recent:
+    total = cell.counts.total()
+    return {"requests_per_second": round(total / RECENT, 1), "errors": sum(cell.counts[each] for each in ERRORS) / total,
+            "p50": cell.durations.quantile(0.5), "p99": cell.durations.quantile(0.99)}

@@ -1,0 +1,58 @@
+"""Words of a command line, read into values. `argparse` shows the message of each that is none."""
+import argparse
+import math
+
+from bg_switch_tools.judging import GREATEST_PORT
+
+LONGEST = 86400.0  # seconds
+
+
+def port_of(text: str) -> int:
+    return numbered_port(text, "the control port")
+
+
+def numbered_port(text: str, title: str) -> int:
+    if not text.isascii() or not text.isdigit() or not 1 <= int(text[:9]) <= GREATEST_PORT:
+        raise argparse.ArgumentTypeError(f"{title} is wanted, a number from 1 to {GREATEST_PORT}, and not {text!r}")
+    return int(text)
+
+
+def number_of(text: str) -> float:
+    """A number that is finite; not a number where it is none."""
+    try:
+        number = float(text)
+    except ValueError:
+        return math.nan
+    return number if math.isfinite(number) else math.nan
+
+
+def seconds_of(text: str) -> float:
+    seconds = number_of(text)
+    if not 0 <= seconds <= LONGEST:
+        raise argparse.ArgumentTypeError(f"a number of seconds from 0 to {LONGEST:.0f} is wanted, and not {text!r}")
+    return seconds
+
+
+def share_of(text: str) -> float:
+    """The share that a text such as `1%` tells."""
+    percent = number_of(text.removesuffix("%"))
+    if not text.endswith("%") or not 0 <= percent <= 100:
+        raise argparse.ArgumentTypeError(f"a percentage is wanted, such as 1%, and not {text!r}")
+    return percent / 100
+
+
+def milliseconds_of(text: str) -> float:
+    """The milliseconds of a text such as `300ms` or `1.5s`."""
+    for unit, factor in (("ms", 1), ("s", 1000)):
+        if text.endswith(unit):
+            number = number_of(text.removesuffix(unit)) * factor
+            if 0 <= number <= LONGEST * 1000:
+                return number
+            break
+    raise argparse.ArgumentTypeError(f"a duration is wanted, such as 300ms or 1.5s, and not {text!r}")
+
+
+def count_of(text: str) -> int:
+    if not text.isascii() or not text.isdigit() or len(text) > 9:
+        raise argparse.ArgumentTypeError(f"a whole number is wanted, and not {text!r}")
+    return int(text)

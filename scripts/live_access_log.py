@@ -1,0 +1,294 @@
+"""The access log of `bg_switch serve`: what each line says, a file that is renamed, one that takes nothing, one that takes
+nothing for a while, and one that can't be opened."""
+import contextlib
+import os
+import pathlib
+import tempfile
+import time
+from collections.abc import Iterator
+
+from support.checks import check, check_within, comes, run
+from support.clients import at_once, connect, get, reset, timed
+from support.endpoints import Endpoint, by_target
+from support.messages import NO_PREVIEW, head_of, request
+from support.switch import Switch
+from support.traffic import ACCESS_LOG
+
+# isort: split; `support` tells where the tools' package is
+from bg_switch_tools.access_log import Entry, read_lines
+
+CLIENTS, REQUESTS = 8, 2000
+TIMEOUT = 2  # seconds for which an endpoint may be silent
+HOSTILE = b'/"<script>\\\xc3\xa9'
+LONG = b"/" + b"a" * 3000
+KEPT_OF_TARGET = 1024
+REOPENED = 2  # seconds after a rename, within which the switch reopens the file
+WRITTEN = 0.5  # seconds after which lines are written: the switch writes ten times a second
+IN_CHUNKS = b"POST /chunks HTTP/1.1\r\nHost: x\r\nTransfer-Encoding: chunked\r\n\r\n"
+MANY = b"A: " + b"b" * 17000 + b"\r\n"
+# What is wrong behind a head that has no fault, and the status that it is refused in.
+FAULTS_OF_BODIES = (("a wrong size", b"x\r\n", 400), ("a wrong end", b"1\r\nab\r\n0\r\n\r\n", 400), ("a wrong trailer", b"0\r\nA b: c\r\n\r\n", 400),
+                    ("large trailers", b"0\r\n" + MANY + b"\r\n", 400), ("a large chunk", b"100001\r\n", 413))
+# How many bytes of lines wait to be written at most. A target whose line in the log is long, and more requests for it than the
+# log keeps lines; the first of them fill the FIFO.
+QUEUE = 1 << 22
+WIDE = b"/" + b"\xff" * 1023
+FIRST_REQUESTS, WIDE_REQUESTS = 32, 1600
+STILL = 3  # seconds for which a reader of the log stands still
+
+
+class Log:
+    """The file of a switch's log."""
+
+    def __init__(self, path: pathlib.Path) -> None:
+        self.path = path
+
+    def entries(self) -> list[Entry]:
+        """What stands in it; each line can be read."""
+        if not self.path.exists():
+            return []
+        batch = read_lines(self.path.read_bytes().splitlines())
+        check("lines that can't be read", (batch.unreadable, batch.lost), (0, 0))
+        return batch.entries
+
+    def awaited(self, count: int) -> list[Entry]:
+        """The entries, once there are so many."""
+        comes(lambda: self.path.exists() and self.path.read_bytes().count(b"\n") >= count)
+        return self.entries()
+
+
+@contextlib.contextmanager
+def logging(path: pathlib.Path, workers: int = 1) -> Iterator[tuple[Switch, Endpoint]]:
+    """A switch that logs to this path, and the endpoint of its first revision."""
+    endpoint = Endpoint(by_target(b"one"))
+    switch = Switch(NO_PREVIEW, workers=workers, timeout=TIMEOUT, variables={ACCESS_LOG: str(path)})
+    check("open", (switch.order(f"open one {endpoint.port}"), switch.order("available 1 1")), ("ok 0", "ok 0"))
+    try:
+        yield switch, endpoint
+    finally:
+        switch.stop()
+        endpoint.stop()
+
+
+@contextlib.contextmanager
+def folder() -> Iterator[pathlib.Path]:
+    with tempfile.TemporaryDirectory() as name:
+        yield pathlib.Path(name)
+
+
+def told(entry: Entry) -> tuple[object, ...]:
+    return entry.service, entry.status, entry.end, entry.reason, entry.method, entry.target
+
+
+def kinds_of_ends() -> None:
+    """Each kind of end is logged with its reason, by the order in which the connections ended."""
+    with folder() as there, logging(there / "log") as (switch, endpoint):
+        port = switch.active
+        refused: list[tuple[str, bytes, tuple[object, ...]]] = [
+            ("answered", request(), ("active", 200, "answered", None, "GET", "/")),
+            ("malformed", b"GET / HTTP/1.1\r\nHost : x\r\n\r\n", ("active", 400, "refused", "head", "GET", "/")),
+            ("too large a body", head_of(2000000), ("active", 413, "refused", "body", "POST", "/")),
+            *[(f"{name} in a body", IN_CHUNKS + rest, ("active", status, "refused", "body", "POST", "/chunks"))
+              for name, rest, status in FAULTS_OF_BODIES],
+            ("a large head", request(b"/", b"GET").replace(b"Host", MANY + b"Host"), ("active", 431, "refused", "head", "GET", "/")),
+            ("not supported", b"CONNECT x:1 HTTP/1.1\r\nHost: x\r\n\r\n", ("active", 501, "refused", "head", "CONNECT", "x:1")),
+            ("an early end", request(b"/closes"), ("active", 502, "refused", "response_malformed", "GET", "/closes")),
+            ("a malformed response", request(b"/status"), ("active", 502, "refused", "response_malformed", "GET", "/status")),
+            ("a large response", request(b"/large"), ("active", 502, "refused", "response_too_large", "GET", "/large")),
+            ("a silent endpoint", request(b"/hangs"), ("active", 502, "refused", "response_timeout", "GET", "/hangs")),
+        ]
+        for _, text, _ in refused:
+            switch.raw(port, text)
+        for (name, _, wanted), entry in zip(refused, Log(there / "log").awaited(len(refused)), strict=True):
+            check(f"the log of {name}", told(entry), wanted)
+        later = ends_of_others(switch, endpoint)
+        entries = Log(there / "log").awaited(len(refused) + len(later))[len(refused):]
+        for (name, wanted), entry in zip(later, entries, strict=True):
+            check(f"the log of {name}", told(entry), wanted)
+
+
+def ends_of_others(switch: Switch, endpoint: Endpoint) -> list[tuple[str, tuple[object, ...]]]:
+    """Connections that end otherwise, one after the other, and what is logged of each."""
+    with connect(switch.active) as client:
+        client.sendall(b"GET /half HT")
+    time.sleep(0.3)
+    with connect(switch.active) as client:
+        client.sendall(request(b"/hangs"))
+        comes(lambda: switch.open_requests() == [1])
+        reset(client)
+        check("a client that has gone frees its worker", comes(lambda: switch.open_requests() == [0]), True)
+    switch.raw(switch.preview or 0, request(b"/preview"))
+    switch.order("available 1 0")
+    switch.raw(switch.active, request(b"/nowhere"))
+    switch.order("available 1 1")
+    endpoint.stop()
+    switch.raw(switch.active, request(b"/down"))
+    return [
+        ("a client that ended early", ("active", None, "closed", None, "GET", "/half")),
+        ("a client that has gone", ("active", None, "write_failed", "given_up", "GET", "/hangs")),
+        ("no preview service", ("preview", 503, "refused", "no_preview", "GET", "/preview")),
+        ("no endpoint", ("active", 503, "refused", "no_endpoint", "GET", "/nowhere")),
+        ("an endpoint that is down", ("active", 502, "refused", "connect_failed", "GET", "/down")),
+    ]
+
+
+def each_field() -> None:
+    """The numbers of a line, and targets that have to be escaped or cut."""
+    with folder() as there, logging(there / "log") as (switch, endpoint):
+        began = time.time()
+        body = b"x" * 5000
+        text = request(b"/slow", b"POST", body)
+        answer = switch.raw(switch.active, text) or b""
+        for target in (HOSTILE, LONG):
+            switch.raw(switch.active, request(target))
+        first, hostile, long = Log(there / "log").awaited(3)
+        check("bytes", (first.request_bytes, first.response_bytes), (len(text), len(answer)))
+        check("numbers", (first.revision, first.request, first.port), (1, 1, endpoint.port))
+        check("a time", began - 1 <= first.time <= time.time() + 1, True)
+        check("milliseconds", 250 <= first.duration_ms <= 5000 and 250 <= (first.upstream_ms or 0) <= first.duration_ms + 1, True)
+        check("a hostile target", hostile.target, HOSTILE.decode())
+        check("a long target", long.target, LONG.decode()[:KEPT_OF_TARGET])
+
+
+def as_many_lines() -> None:
+    """Each of many requests has exactly one line, also where the file is renamed in between."""
+    with folder() as there, logging(there / "log", workers=CLIENTS - 1) as (switch, _):
+        renamed = there / "log.1"
+
+        def ask() -> None:
+            for _ in range(REQUESTS // CLIENTS):
+                get(switch.active)
+
+        def rename() -> None:
+            comes(lambda: (there / "log").read_bytes().count(b"\n") >= REQUESTS // 8)
+            (there / "log").rename(renamed)
+
+        at_once([*[ask] * CLIENTS, rename])
+        get(switch.active)
+        check("a renamed file is left", comes(lambda: (there / "log").exists()), True)
+        count = REQUESTS + 1
+
+        def lines() -> int:
+            return sum(path.read_bytes().count(b"\n") for path in (there / "log", renamed) if path.exists())
+
+        check("a line for each request", (comes(lambda: lines() >= count), lines()), (True, count))
+        entries = Log(renamed).entries() + Log(there / "log").entries()
+        check("each request once", sorted(entry.request or 0 for entry in entries), list(range(1, count + 1)))
+        check("all answered", {(entry.status, entry.end, entry.reason) for entry in entries}, {(200, "answered", None)})
+
+
+def renamed_file() -> None:
+    """A request after the file was renamed has its line in the new file, each time. The renamed file gets no further line."""
+    with folder() as there, logging(there / "log") as (switch, _):
+        log = Log(there / "log")
+        get(switch.active)
+        check("the line before the file is renamed", [entry.request for entry in log.awaited(1)], [1])
+        for number in (2, 3):
+            renamed = there / f"log.{number}"
+            log.path.rename(renamed)
+            before = renamed.read_bytes()
+            time.sleep(REOPENED)
+            comes(log.path.exists)
+            get(switch.active)
+            check("the line of a request after the file was renamed", [entry.request for entry in log.awaited(1)], [number])
+            time.sleep(WRITTEN)
+            check("further bytes of a renamed file", renamed.read_bytes().removeprefix(before), b"")
+
+
+def full_disk() -> None:
+    """A file that takes nothing stops no request, and no end."""
+    with logging(pathlib.Path("/dev/full")) as (switch, _):
+        start = time.monotonic()
+        answers = {get(switch.active) for _ in range(50)}
+        check("answers beside a full disk", answers, {(200, b"one")})
+        check_within("they wait for no disk", time.monotonic() - start, 10)
+
+
+class Fifo:
+    """The log of a switch that is a FIFO, and its reader, which stands still until it is asked."""
+
+    def __init__(self, path: pathlib.Path) -> None:
+        os.mkfifo(path)
+        self.reader = os.open(path, os.O_RDONLY | os.O_NONBLOCK)
+        self.got = b""
+        self.lines: list[bytes] = []  # the whole lines that have come
+        self.told = 0  # how many lines these are, with those that were counted
+
+    def close(self) -> None:
+        os.close(self.reader)
+
+    def read(self) -> None:
+        """Takes what has come up to now."""
+        with contextlib.suppress(BlockingIOError):
+            while piece := os.read(self.reader, 1 << 16):
+                self.got += piece
+        *lines, self.got = self.got.split(b"\n")
+        batch = read_lines(lines)
+        self.lines += lines
+        self.told += len(batch.entries) + batch.lost
+
+    def has(self, count: int) -> bool:
+        """Whether so many lines are written or counted, at a time that comes soon."""
+
+        def is_told() -> bool:
+            self.read()
+            return self.told >= count
+
+        return comes(is_told)
+
+
+def longest_wait(port: int, count: int) -> float:
+    """How many seconds a client of many that ask for a long target waits at most."""
+    return max(timed(port, [request(WIDE)]).seconds for _ in range(count))
+
+
+def slow_disk() -> None:
+    """A log whose reader stands still holds nobody up. Lines for which there is no room are counted, and the count is written once
+    the reader goes on."""
+    with folder() as there, contextlib.closing(Fifo(there / "log")) as fifo, logging(there / "log", workers=CLIENTS - 1) as (switch, _):
+        longest_wait(switch.active, FIRST_REQUESTS)
+        time.sleep(WRITTEN)
+        start = time.monotonic()
+        waits = at_once([lambda: longest_wait(switch.active, WIDE_REQUESTS // CLIENTS)] * CLIENTS)
+        check_within("requests beside a slow disk", max(waits), STILL)
+        time.sleep(max(STILL - (time.monotonic() - start), 0))
+        count = FIRST_REQUESTS + WIDE_REQUESTS
+        check("each line is written or counted", fifo.has(count), True)
+        check_lost_lines(fifo.lines, count)
+        get(switch.active)
+        check("a line once the reader goes on", (fifo.has(count + 1), told(read_lines(fifo.lines[-1:]).entries[-1])),
+              (True, ("active", 200, "answered", None, "GET", "/")))
+
+
+def check_lost_lines(lines: list[bytes], count: int) -> None:
+    """Checks the lines of so many requests, some of which had no room: the count is behind those that had it."""
+    batch = read_lines(lines)
+    check("the lines that were written and those that were counted", (len(batch.entries) + batch.lost, batch.unreadable), (count, 0))
+    check("lines are lost", batch.lost > 0, True)
+    check("the last line is the count", read_lines(lines[-1:]).lost, batch.lost)
+    check("no line is lost before the queue is full", sum(len(line) + 1 for line in lines) > QUEUE - max(map(len, lines)), True)
+
+
+def no_file() -> None:
+    """A log that can't be opened is told, and nothing is served."""
+    path = "/nowhere/log"
+    switch = Switch(NO_PREVIEW, preview=False, variables={ACCESS_LOG: path})
+    check("the end without a log", (switch.first, switch.wait()), ("", ("", 1)))
+    why = f"bg_switch: the access log {path} can't be opened: No such file or directory (os error 2)"
+    check("a log that can't be opened", switch.tells(why), True)
+
+
+def none_ordered() -> None:
+    """Without the variable nothing is logged."""
+    endpoint = Endpoint(by_target(b"one"))
+    switch = Switch(NO_PREVIEW, preview=False)
+    switch.order(f"open one {endpoint.port}")
+    switch.order("available 1 1")
+    check("an answer without a log", get(switch.active), (200, b"one"))
+    switch.stop()
+    check("nothing is told", switch.told, [])
+    endpoint.stop()
+
+
+if __name__ == "__main__":
+    run("live_access_log", (kinds_of_ends, each_field, as_many_lines, renamed_file, full_disk, slow_disk, no_file, none_ordered), at_once=3)

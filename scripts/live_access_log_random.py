@@ -1,0 +1,407 @@
+"""The access log of `bg_switch serve` beside an own count: two thousand connections of all kinds, mixed at random and beside each
+other. The log has exactly one line for each, and each member is what the clients and the endpoints saw."""
+import collections
+import concurrent.futures
+import contextlib
+import pathlib
+import random
+import socket
+import tempfile
+import threading
+import time
+from collections.abc import Callable, Iterator, Sequence
+from typing import NamedTuple
+
+from support.checks import check, comes, run
+from support.clients import connect, received, reset
+from support.endpoints import BROKEN, Endpoint, Request
+from support.messages import LARGEST_BODY, UNAVAILABLE, request, response
+from support.messages import answer as answer_of
+from support.ports import HOST, free_ports
+from support.switch import Switch
+from support.traffic import ACCESS_LOG
+
+# isort: split; `support` tells where the tools' package is
+from bg_switch_tools.access_log import Entry, read_lines
+
+SEED = 7
+CONNECTIONS, CLIENTS, WORKERS = 2000, 32, 7
+TIMEOUT = 4  # seconds within which a response has to be whole
+LONGEST_ASK = 30  # seconds within which a request reaches its endpoint, or is answered
+KEPT_OF_TARGET = 1024
+SLACK = 2  # milliseconds by which a rounded time may be off
+SLOW = 0.25  # seconds
+STRATEGY = """{{"spec": {{"replicas": 3, "strategy": {{"blueGreen": {{"activeService": "web", {preview}
+"autoPromotionEnabled": false}}}}}}}}"""
+WITH_PREVIEW = STRATEGY.format(preview='"previewService": "web-preview",')
+WITHOUT_PREVIEW = STRATEGY.format(preview="")
+STATUSES = (b"200 OK", b"204 No Content", b"301 Moved Permanently", b"404 Not Found", b"500 Internal Server Error",
+            b"503 Service Unavailable")
+BIG = b"x" * 3000000
+IN_CHUNKS = b"POST %s HTTP/1.1\r\nHost: x\r\nTransfer-Encoding: chunked\r\n\r\n"
+# What is wrong with a head, and the status that it is refused in; `%s` is the target.
+HEAD_FAULTS = (
+    (b"GET %s HTTP/1.1\r\n\r\n", 400), (b"GET %s HTTP/1.1\r\nHost : x\r\n\r\n", 400), (b"GET %s HTTP/1.1\r\nHost: x\r\n y\r\n\r\n", 400),
+    (b"POST %s HTTP/1.1\r\nHost: x\r\nContent-Length: x\r\n\r\n", 400),
+    (b"POST %s HTTP/1.1\r\nHost: x\r\nTransfer-Encoding: gzip, chunked\r\n\r\n0\r\n\r\n", 501),
+    (b"GET %s HTTP/1.1\r\nHost: x\r\nLong: " + b"y" * 17000 + b"\r\n\r\n", 431))
+# What is wrong behind a head: the size of a chunk, its end, a trailer, and more than a body may have.
+BODY_FAULTS = (
+    (IN_CHUNKS + b"x\r\n", 400), (IN_CHUNKS + b"-1\r\na\r\n0\r\n\r\n", 400), (IN_CHUNKS + b"3\r\nabcde\r\n0\r\n\r\n", 400),
+    (b"\r\n" + IN_CHUNKS + b"1\r\na\r\n0\r\nA b: c\r\n\r\n", 400), (IN_CHUNKS + b"0\r\nA: " + b"y" * 17000 + b"\r\n\r\n", 400),
+    (IN_CHUNKS + b"%x\r\n" % (LARGEST_BODY + 1), 413),
+    (b"POST %%s HTTP/1.1\r\nHost: x\r\nContent-Length: %d\r\n\r\n" % (LARGEST_BODY + 1), 413))
+MALFORMED = (b"/closes", b"/head", b"/cut", b"/chunk", b"/lengths", b"/status", b"/upgrade")
+
+
+class Asked(NamedTuple):
+    """What a client sends, and what it does then."""
+    number: int
+    kind: str
+    is_second: bool  # of the two switches
+    service: str
+    method: bytes
+    target: bytes
+    text: bytes
+    status: int = 0  # of a refusal before an endpoint
+
+
+class Seen(NamedTuple):
+    """What a client saw, and when: the moments before its connect and after the connection's end."""
+    asked: Asked
+    answer: bytes
+    was_cut: bool
+    begun: float
+    ended: float
+
+
+class Served(NamedTuple):
+    """Where a request was answered, and how long that took at least, in seconds."""
+    port: int
+    seconds: float
+
+
+class Endpoints:
+    """Endpoints that keep which request came to which of them."""
+
+    def __init__(self) -> None:
+        self.served: dict[bytes, Served] = {}
+        self.arrived: collections.defaultdict[bytes, threading.Event] = collections.defaultdict(threading.Event)
+        self.lock = threading.Lock()
+
+    def has_come(self, target: bytes) -> threading.Event:
+        with self.lock:
+            return self.arrived[target]
+
+    def answer(self, read: Request, connection: socket.socket) -> None:
+        port = connection.getsockname()[1]
+        start = time.monotonic()
+        self.served[read.target] = Served(port, 0)
+        self.has_come(read.target).set()
+        name = read.target.partition(b"?")[0]
+        if name == b"/hangs":
+            received(connection)
+            return
+        if name == b"/slow":
+            time.sleep(SLOW)
+        self.served[read.target] = Served(port, time.monotonic() - start)
+        connection.sendall(answer_to(name, read.method))
+
+
+def answer_to(name: bytes, method: bytes) -> bytes:
+    """What an endpoint sends to a request for this."""
+    if name in BROKEN:
+        return BROKEN[name]
+    if name == b"/big":
+        return response(BIG)
+    if name.startswith(b"/status/"):
+        line = STATUSES[int(name.rpartition(b"/")[2])]
+        length = b"" if line.startswith(b"204") else b"Content-Length: 2\r\n"
+        body = b"" if method == b"HEAD" or not length else b"ok"
+        return b"HTTP/1.1 %s\r\n%s\r\n%s" % (line, length, body)
+    return b"HTTP/1.1 200 OK\r\nContent-Length: 2\r\n\r\n" + (b"" if method == b"HEAD" else b"ok")
+
+
+def asked_at_random(rng: random.Random, number: int) -> Asked:
+    """A connection of a kind that is drawn."""
+    kind = rng.choices(list(KINDS), [weight for weight, _ in KINDS.values()])[0]
+    is_second = rng.random() < 0.5
+    service = "active"
+    if kind == "elsewhere":
+        service, kind = "preview", "no_preview" if is_second else "no_endpoint"
+        asked = whole(rng, b"/elsewhere?%d" % number)
+    else:
+        asked = KINDS[kind][1](rng, number)
+    return asked._replace(number=number, kind=kind, is_second=is_second, service=service)
+
+
+def whole(rng: random.Random, target: bytes) -> Asked:
+    """A request for a target, with a body or without one."""
+    method = rng.choice((b"GET", b"GET", b"HEAD", b"POST", b"DELETE"))
+    body = rng.randbytes(rng.choice((1, 100, 3000))) if method == b"POST" else None
+    text = request(target, method, body, chunked=rng.random() < 0.5)
+    return Asked(0, "", False, "", method, target, text)
+
+
+def answered(rng: random.Random, number: int) -> Asked:
+    """A request that is answered in one of several statuses; some targets have to be escaped or cut."""
+    place = rng.randrange(len(STATUSES) + 2)
+    name = b"/status/%d" % place if place < len(STATUSES) else rng.choice((b"/slow", b"/plain"))
+    more = rng.choice((b"", b"", b'"<script>\\\xc3\xa9', b"a" * 2000))
+    return whole(rng, b"%s?%d&%s" % (name, number, more))
+
+
+def by_get(*names: bytes) -> Callable[[random.Random, int], Asked]:
+    """A request for one of these names, whose answer has a body."""
+
+    def asked(rng: random.Random, number: int) -> Asked:
+        target = b"%s?%d" % (rng.choice(names), number)
+        return Asked(0, "", False, "", b"GET", target, request(target))
+
+    return asked
+
+
+def faulty(faults: Sequence[tuple[bytes, int]]) -> Callable[[random.Random, int], Asked]:
+    """A request that is refused before it enters."""
+
+    def asked(rng: random.Random, number: int) -> Asked:
+        form, status = rng.choice(faults)
+        target = b"/faulty?%d" % number
+        text = form.replace(b"%s", target)
+        return Asked(0, "", False, "", text.lstrip().partition(b" ")[0], target, text, status)
+
+    return asked
+
+
+def part(rng: random.Random, number: int) -> Asked:
+    """A request that isn't sent whole: its head is cut, or its body."""
+    target = b"/part?%d" % number
+    text = request(target, b"POST", rng.randbytes(300), chunked=rng.random() < 0.5)
+    return Asked(0, "", False, "", b"POST", target, text[:rng.randrange(1, len(text) - 5)])
+
+
+def nothing(_: random.Random, __: int) -> Asked:
+    return Asked(0, "", False, "", b"", b"", b"")
+
+
+# How often a kind comes, and what its client sends.
+KINDS: dict[str, tuple[int, Callable[[random.Random, int], Asked]]] = {
+    "answered": (1000, answered), "elsewhere": (160, nothing), "malformed": (140, by_get(*MALFORMED)), "too_large": (60, by_get(b"/large")),
+    "timeout": (24, by_get(b"/hangs")), "given_up": (24, by_get(b"/hangs")), "cut_in_answer": (60, by_get(b"/big")),
+    "head": (160, faulty(HEAD_FAULTS)), "body": (160, faulty(BODY_FAULTS)), "silent": (60, nothing), "part": (80, part),
+    "silent_reset": (40, nothing), "part_reset": (60, part)}
+
+
+def exchange(asked: Asked, port: int, endpoints: Endpoints) -> Seen:
+    """Makes a connection, and gives what its client saw."""
+    begun = time.time()
+    with connect(port) as client:
+        with contextlib.suppress(ConnectionError):
+            client.sendall(asked.text)
+        was_cut, answer = ENDS.get(asked.kind, to_the_end)(client, asked, endpoints)
+    return Seen(asked, answer, was_cut, begun, time.time())
+
+
+def to_the_end(client: socket.socket, _: Asked, __: Endpoints) -> tuple[bool, bytes]:
+    return False, received(client)
+
+
+def close(_: socket.socket, __: Asked, ___: Endpoints) -> tuple[bool, bytes]:
+    return True, b""
+
+
+def cut(client: socket.socket, _: Asked, __: Endpoints) -> tuple[bool, bytes]:
+    reset(client)
+    return True, b""
+
+
+def give_up(client: socket.socket, asked: Asked, endpoints: Endpoints) -> tuple[bool, bytes]:
+    """Goes once its endpoint has the request."""
+    has_come = endpoints.has_come(asked.target)
+    client.settimeout(0.02)
+    for _ in range(LONGEST_ASK * 50):
+        if has_come.is_set():
+            reset(client)
+            return True, b""
+        with contextlib.suppress(TimeoutError):
+            first = client.recv(1)
+            client.settimeout(LONGEST_ASK)
+            return False, first + received(client)
+    raise TimeoutError("a request that reached no endpoint")
+
+
+def cut_in_answer(client: socket.socket, _: Asked, __: Endpoints) -> tuple[bool, bytes]:
+    """Goes once a part of the answer has come."""
+    first = client.recv(1000)
+    if first.startswith(b"HTTP/1.1 200 "):
+        reset(client)
+        return True, first
+    return False, first + received(client)
+
+
+ENDS = {"silent": close, "part": close, "silent_reset": cut, "part_reset": cut, "given_up": give_up, "cut_in_answer": cut_in_answer}
+
+
+class Line(NamedTuple):
+    """What a line of the log says, but for times and the number of the request."""
+    service: str
+    revision: int | None
+    port: int | None
+    method: str | None
+    target: str | None
+    status: int | None
+    end: str
+    reason: str | None
+    request_bytes: int | None
+    response_bytes: int | None
+
+
+def line_of(entry: Entry) -> Line:
+    return Line(entry.service, entry.revision, entry.port, entry.method, entry.target, entry.status, entry.end, entry.reason,
+                entry.request_bytes, entry.response_bytes)
+
+
+def shown(asked: Asked) -> tuple[str | None, str | None]:
+    """The method and the target of what was sent, where it has both."""
+    words = asked.text.partition(b"\r\n")[0].split(b" ") if asked.kind.startswith("part") else [b"", b"", b""]
+    if not asked.text or len(words) < 3:
+        return None, None
+    return asked.method.decode(), asked.target[:KEPT_OF_TARGET].decode(errors="replace")
+
+
+REASONS = {"malformed": "response_malformed", "too_large": "response_too_large", "timeout": "response_timeout"}
+
+
+def wanted_line(seen: Seen, served: Served | None, dead: int) -> Line:
+    """What the log has to say of a connection."""
+    asked, answer = seen.asked, seen.answer
+    line = Line(asked.service, None, None, *shown(asked), status_of(answer), "refused", None, len(asked.text), len(answer))
+    if asked.kind.startswith(("silent", "part")):
+        return line._replace(end="read_failed" if asked.kind.endswith("reset") else "closed")
+    if asked.kind in ("head", "body"):
+        return line._replace(status=asked.status, reason=asked.kind)
+    if asked.kind in ("no_preview", "no_endpoint"):
+        return line._replace(status=503, reason=asked.kind)
+    line = line._replace(revision=1, port=served.port if served else dead)
+    if served is None:
+        return line._replace(reason="connect_failed")
+    if asked.kind == "given_up":
+        return line._replace(status=None, end="write_failed", reason="given_up", response_bytes=len(UNAVAILABLE))
+    if asked.kind == "cut_in_answer":
+        return line._replace(status=200, end="answered", response_bytes=len(answer_of(BIG)))
+    if asked.kind == "answered":
+        return line._replace(end="answered")
+    return line._replace(reason=REASONS[asked.kind])
+
+
+def status_of(answer: bytes) -> int | None:
+    """The status of an answer, of which nothing need have come."""
+    return int(answer[9:12]) if answer else None
+
+
+def fits(line: Line, wanted: Line, kind: str) -> bool:
+    """Whether a line says what it has to. How far a request with a fault was read isn't fixed, nor whether an answer was handed over
+    before its client went."""
+    if wanted.reason in ("head", "body"):
+        most, count = wanted.request_bytes or 0, line.request_bytes or 0
+        return 0 < count <= most and line._replace(request_bytes=most) == wanted
+    if kind == "cut_in_answer" and line.end == "write_failed":
+        return line == wanted._replace(status=None, end="write_failed", response_bytes=line.response_bytes)
+    return line == wanted
+
+
+def fits_times(entry: Entry, seen: Seen, served: Served | None) -> bool:
+    """Whether the times of a line lie within what the client and the endpoint measured."""
+    millis = (seen.ended - seen.begun) * 1000 + SLACK
+    if not seen.was_cut and not (seen.begun - SLACK / 1000 <= entry.time <= seen.ended and entry.duration_ms <= millis):
+        return False
+    if entry.revision is None:
+        return entry.upstream_ms is None
+    least = served.seconds * 1000 - SLACK if served else 0
+    if seen.asked.kind == "timeout" and served:
+        least = (TIMEOUT - 1) * 1000
+    return least <= (entry.upstream_ms or 0) <= entry.duration_ms + SLACK
+
+
+class Scene(NamedTuple):
+    """Two switches with a log each, whose endpoints keep what came; the third port of each refuses."""
+    switches: list[Switch]
+    logs: list[pathlib.Path]
+    endpoints: Endpoints
+    dead: int
+
+    def port(self, asked: Asked) -> int:
+        switch = self.switches[asked.is_second]
+        return switch.active if asked.service == "active" else switch.preview
+
+    def entries(self, number: int, count: int) -> list[Entry]:
+        """What stands in a log, once there is so much and no more comes."""
+        log = self.logs[number]
+        check("as many lines as connections", comes(lambda: log.read_bytes().count(b"\n") >= count), True)
+        time.sleep(0.3)
+        batch = read_lines(log.read_bytes().splitlines())
+        check("lines that can't be read, or were lost", (batch.unreadable, batch.lost), (0, 0))
+        return batch.entries
+
+
+@contextlib.contextmanager
+def scene() -> Iterator[Scene]:
+    """A scene, of which nothing is left after the block."""
+    with contextlib.ExitStack() as stack:
+        folder = pathlib.Path(stack.enter_context(tempfile.TemporaryDirectory()))
+        refusing = stack.enter_context(socket.socket())
+        refusing.bind((HOST, free_ports(1)[0]))
+        dead = refusing.getsockname()[1]
+        endpoints = Endpoints()
+        ports = [Endpoint(endpoints.answer, port).port for port in free_ports(2)]
+        logs = [folder / "first", folder / "second"]
+        switches = [Switch(rollout, workers=WORKERS, timeout=TIMEOUT, variables={ACCESS_LOG: str(log)})
+                    for rollout, log in zip((WITH_PREVIEW, WITHOUT_PREVIEW), logs)]
+        for switch in switches:
+            stack.callback(switch.stop)
+            check("open", [switch.order(f"open one {ports[0]} {ports[1]} {dead}"), switch.order("available 1 3")], ["ok 0", "ok 0"])
+        lines = ["deploy two {} {} {}".format(*free_ports(3)), "available 2 3", "available 2 0"]
+        check("a preview with no endpoint", [switches[0].order(line) for line in lines], ["ok 0", "ok 1", "ok 0"])
+        yield Scene(switches, logs, endpoints, dead)
+
+
+def check_log(the_scene: Scene, number: int, seen: Sequence[Seen]) -> None:
+    """A check that a log has exactly the lines of what was seen, each with its right members."""
+    entries = the_scene.entries(number, len(seen))
+    check("a line for each connection", len(entries), len(seen))
+    numbers = sorted(entry.request for entry in entries if entry.request is not None)
+    check("the numbers of the requests", numbers, list(range(1, len(numbers) + 1)))
+    check("requests that entered", [entry.request is None for entry in entries], [entry.revision is None for entry in entries])
+    by_target = {entry.target: entry for entry in entries if entry.target is not None}
+    rest = collections.Counter(line_of(entry) for entry in entries if entry.target is None)
+    faults: dict[str, list[object]] = {"lines": [], "times": []}
+    for one in seen:
+        served = the_scene.endpoints.served.get(one.asked.target)
+        wanted = wanted_line(one, served, the_scene.dead)
+        entry = by_target.pop(wanted.target, None) if wanted.target is not None else None
+        if wanted.target is None:
+            rest[wanted] -= 1
+        elif entry is None or not fits(line_of(entry), wanted, one.asked.kind):
+            faults["lines"].append((one.asked.kind, entry and line_of(entry), wanted))
+        elif not fits_times(entry, one, served):
+            faults["times"].append((one.asked.kind, entry, one.ended - one.begun, served))
+    for name, found in faults.items():
+        check(f"{name} that are wrong", (len(found), found[:2]), (0, []))
+    check("lines of no connection", list(by_target.values())[:2], [])
+    check("connections that sent no request line", [(line, count) for line, count in rest.items() if count][:3], [])
+
+
+def two_thousand_connections() -> None:
+    rng = random.Random(SEED)
+    plan = [asked_at_random(rng, number) for number in range(CONNECTIONS)]
+    with scene() as the_scene:
+        with concurrent.futures.ThreadPoolExecutor(CLIENTS) as pool:
+            seen = list(pool.map(lambda asked: exchange(asked, the_scene.port(asked), the_scene.endpoints), plan))
+        for number in (0, 1):
+            check_log(the_scene, number, [one for one in seen if one.asked.is_second == bool(number)])
+        counts = collections.Counter(one.asked.kind for one in seen)
+        check("kinds that came", set(counts), {*KINDS, "no_preview", "no_endpoint"} - {"elsewhere"})
+
+
+if __name__ == "__main__":
+    run("live_access_log_random", [two_thousand_connections])

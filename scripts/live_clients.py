@@ -1,0 +1,467 @@
+"""The ports of clients of a running `serve`: requests that come slowly, answers that are taken slowly, uploads, clients
+that have gone, more connections than a port keeps, and workers that all wait for endpoints."""
+import contextlib
+import socket
+import threading
+import time
+from collections import Counter
+from collections.abc import Callable, Iterator
+from functools import partial
+
+from support import checks, clients, processes
+from support.checks import check, check_within, comes
+from support.clients import SMALL_BUFFER, Crowd, at_once, connect, received, reset, timed, timed_for
+from support.endpoints import Endpoint, Held, Request, by_target, held_at
+from support.messages import (BAD_REQUEST, CONTINUE, HEAD_TOO_LARGE, LARGEST_BODY, NOT_IMPLEMENTED, TOO_LARGE, answer,
+                              head_of, request, response)
+from support.ports import connections_at, is_refused
+from support.switch import Switch, opened, serving
+
+# How long, in seconds, a polite client waits at most beside slow ones. Where one of them kept a worker, it would wait
+# for the timeout of the switch or longer.
+POLITE = 8.0
+TIMEOUT = 40
+# What a wait may take, in seconds, beyond its limit: the machine may be busy.
+SLACK = 5.0
+BIG = b"x" * 4000000
+HEAD_OF_CHUNKS = b"POST / HTTP/1.1\r\nHost: x\r\nTransfer-Encoding: chunked\r\n\r\n"
+MEGABYTE = 1 << 20
+
+
+def check_polite(name: str, port: int, count: int, body: bytes, most: float = POLITE) -> None:
+    """Checks that a client that asks so often is answered this body, and how long it waits at most."""
+    waits = clients.polite(port, count, 0.05)
+    check(f"polite clients beside {name}", set(waits.answers), {answer(body)})
+    check_within(f"the wait beside {name}", waits.longest, most)
+
+
+def drips() -> None:
+    """A hundred clients at once send a byte now and then."""
+    endpoint = Endpoint(by_target(b"one"))
+    firsts = {"a request line": b"GET /", "a field": request()[:-2] + b"A: ", "a body": head_of(100000),
+              "a body in chunks": HEAD_OF_CHUNKS + b"ffff\r\n"}
+    with serving(endpoint.port, workers=7, timeout=TIMEOUT) as switch:
+        for what, first in firsts.items():
+            with clients.dripping(switch.active, 100, first, 0.2), clients.dripping(switch.preview, 20, first, 0.2):
+                check_polite(f"clients that drip {what}", switch.active, 20, b"one")
+                check_polite(f"clients that drip {what} at the preview port", switch.preview, 5, b"one")
+        check("requests that dripped reach no endpoint", endpoint.served, 25 * len(firsts))
+
+
+def in_pieces(text: bytes, size: int) -> list[bytes]:
+    return [text[start:start + size] for start in range(0, len(text), size)]
+
+
+def refusals() -> None:
+    """A faulty request is answered as one that comes at once, also where it comes in pieces."""
+    texts = {
+        request().replace(b"Host: x\r\n", b""): BAD_REQUEST,
+        head_of(1).replace(b"\r\n\r\n", b"\r\nTransfer-Encoding: chunked\r\n\r\n"): BAD_REQUEST,
+        HEAD_OF_CHUNKS + b"x\r\n": BAD_REQUEST,
+        head_of(LARGEST_BODY + 1): TOO_LARGE,
+        HEAD_OF_CHUNKS + b"%x\r\n" % (LARGEST_BODY + 1): TOO_LARGE,
+        b"GET / HTTP/1.1\r\n" + b"A: b\r\n" * 65 + b"\r\n": HEAD_TOO_LARGE,
+        b"GET /" + b"a" * 16384: HEAD_TOO_LARGE,
+        request(method=b"CONNECT"): NOT_IMPLEMENTED,
+    }
+    endpoint = Endpoint(by_target(b"one"))
+    with serving(endpoint.port, workers=3) as switch:
+        whole = at_once([partial(timed, switch.active, [text]) for text in texts])
+        pieces = at_once([partial(timed, switch.active, in_pieces(text, 1 + len(text) // 6), 0.1) for text in texts])
+    check("a faulty request that comes at once", [got.answer for got in whole], list(texts.values()))
+    check("a faulty request that comes in pieces", [got.answer for got in pieces], list(texts.values()))
+    check("faulty requests reach no endpoint", endpoint.served, 0)
+
+
+def long_chunks() -> None:
+    """A body within the limits whose chunks have long lines: it takes sixteen times as many bytes, more than are
+    buffered."""
+    body = bytes(range(256)) * 4096
+    line = b"40;" + b"e" * 1000 + b"\r\n"
+    chunks = b"".join(line + piece + b"\r\n" for piece in in_pieces(body, 64))
+    with serving(Endpoint(by_target(b"one")).port, workers=2, timeout=TIMEOUT) as switch:
+        got = timed(switch.active, [HEAD_OF_CHUNKS, *in_pieces(chunks + b"0\r\n\r\n", MEGABYTE)], 0.05).answer
+    check("a body of 16 MB on the wire", got == answer(b"one" + body), True)
+
+
+class Counting:
+    """Answers each request with its body, and counts the requests by their target."""
+
+    def __init__(self) -> None:
+        self.targets: Counter[bytes] = Counter()
+        self.lock = threading.Lock()
+
+    def __call__(self, asked: Request, connection: socket.socket) -> None:
+        with self.lock:
+            self.targets[asked.target] += 1
+        connection.sendall(response(asked.body))
+
+
+def sent_and_reset(port: int, text: bytes) -> bytes:
+    """Sends this and resets the connection."""
+    client = connect(port)
+    client.sendall(text)
+    time.sleep(0.05)
+    reset(client)
+    return b""
+
+
+def answered(port: int, pieces: list[bytes], pause: float) -> bytes:
+    """What a client is answered that sends these pieces, or nothing where that takes too long."""
+    return timed_for(port, 2 * POLITE, pieces, pause).answer
+
+
+def ended_early(port: int, text: bytes) -> bytes | None:
+    """What a client is answered that sends this and ends its side; where its connection isn't ended, that is said."""
+    with connect(port) as client:
+        client.settimeout(2 * POLITE)
+        try:
+            return clients.exchanged(client, text)
+        except TimeoutError:
+            return b"no end"
+
+
+def served_once() -> None:
+    """Each connection is given to one worker once, whichever way its request comes: the endpoint counts the requests,
+    and the run ends with the last connection."""
+    counting = Counting()
+    switch, operator = opened(Endpoint(counting).port, workers=6, count=50, timeout=3)
+    port, calls, wanted = switch.active, list[Callable[[], bytes | None]](), list[bytes]()
+    for number in range(60):
+        target, body = b"/%d" % number, b"%d" % number
+        text = request(target, b"POST", body * 400, chunked=number % 2 == 0)
+        cut = request(b"/cut", b"POST", body * 400)[:-1]
+        calls += [partial(answered, port, [text], 0.0), partial(answered, port, in_pieces(text, 300), 0.02),
+                  partial(ended_early, port, cut), partial(sent_and_reset, port, cut),
+                  partial(answered, port, [cut[:40], cut[40:]], 0.02)]
+        wanted += [answer(body * 400)] * 2 + [b""] * 3
+    check("what each client of 300 is answered", at_once(calls) == wanted, True)
+    check("each request is forwarded once", counting.targets, Counter({b"/%d" % number: 2 for number in range(60)}))
+    check("the port is closed with its last connection", is_refused(port), True)
+    operator.order_quit()
+    for _ in range(50):
+        connect(switch.preview).close()
+    check("each connection is given to a worker", comes(lambda: switch.process.poll() is not None), True)
+    switch.process.terminate()
+    ended = switch.wait()
+    check("each connection is given to one worker once", (ended.printed[-10:], ended.status), ("calls 240\n", 0))
+
+
+def late_requests() -> None:
+    """A request that isn't whole in time is ended without an answer, and not before."""
+    timeout = 3
+    firsts = {"that is silent": b"", "in its head": b"GET / HTTP/1.1\r\nHo", "in its body": head_of(1000) + b"abc",
+              "in its chunks": HEAD_OF_CHUNKS + b"ffff\r\nabc"}
+    with serving(Endpoint(by_target(b"one")).port, workers=2, timeout=timeout) as switch:
+        silent = at_once([partial(timed_for, switch.active, 2 * timeout + SLACK, [first])
+                          for first in firsts.values()])
+        dripped = at_once([partial(timed_for, switch.active, SLACK, [first, *[b"a"] * 50], 0.2)
+                           for first in firsts.values()])
+        in_time = timed(switch.active, in_pieces(request(), 8), 0.3)
+    for what, ends in (("that says no more", silent), ("that drips", dripped)):
+        for where, end in zip(firsts, ends):
+            check(f"a client {where} and {what} is answered nothing", end.answer, b"")
+            check(f"a client {where} and {what} has its time", end.seconds > timeout - 1, True)
+            check_within(f"a request past its time is ended ({where}, {what})", end.seconds, timeout + SLACK)
+    check("a request that is whole in time", in_time.answer, answer(b"one"))
+
+
+def continues() -> None:
+    """`100 Continue` is written once where it is owed, and else not at all."""
+    body, whole = b"b" * 1000, CONTINUE + answer(b"one" + b"b" * 1000)
+    head = head_of(1000).replace(b"\r\n\r\n", b"\r\nExpect: 100-continue\r\n\r\n")
+    chunked = HEAD_OF_CHUNKS.replace(b"\r\n\r\n", b"\r\nExpect: 100-continue\r\n\r\n")
+    chunks = b"1f4\r\n" + b"b" * 500 + b"\r\n" + b"1f4\r\n" + b"b" * 500 + b"\r\n0\r\n\r\n"
+    wide = b"".join(b"1;" + b"e" * 1000 + b"\r\nb\r\n" for _ in range(10000)) + b"0\r\n\r\n"
+    cases: dict[str, tuple[list[bytes], bytes]] = {
+        "before the body": ([head, body], whole),
+        "before a body that comes with the head": ([head + body], whole),
+        "before a body in pieces": ([head, *in_pieces(body, 300)], whole),
+        "after a head in pieces": ([*in_pieces(head, 30), body], whole),
+        "before chunks": ([chunked, chunks], whole),
+        "before chunks that come with the head": ([chunked + chunks], whole),
+        "before more chunks than are buffered": ([chunked, *in_pieces(wide, MEGABYTE)],
+                                                 CONTINUE + answer(b"one" + b"b" * 10000)),
+        "not before a body that is too large": ([head.replace(b"1000", b"1048577")], TOO_LARGE),
+        "not where no body is to come": ([head.replace(b"1000", b"0")], answer(b"one")),
+        "not in version 1.0": ([head.replace(b"HTTP/1.1", b"HTTP/1.0"), body], answer(b"one" + body)),
+    }
+    with serving(Endpoint(by_target(b"one")).port, workers=2, timeout=TIMEOUT) as switch:
+        got = at_once([partial(answered, switch.active, pieces, 0.1) for pieces, _ in cases.values()])
+    for (what, (_, wanted)), found in zip(cases.items(), got):
+        check(f"100 Continue is written once: {what}", (found.count(CONTINUE), found == wanted),
+              (wanted.count(CONTINUE), True))
+
+
+def slow_readers() -> None:
+    """Forty clients read an answer of 4 MB at a kilobyte a second: they hold no worker, no request and no revision, and
+    one that reads on gets all of its answer."""
+    one, two = Endpoint(by_target(b"one")), Endpoint(by_target(b"two"))
+    switch, operator = opened(one.port, workers=3, timeout=TIMEOUT)
+    late = connect(switch.active, SMALL_BUFFER)
+    late.sendall(request(b"/big"))
+    with clients.slow_readers(switch.active, 40, b"/big"):
+        check("slow readers have reached the endpoint", comes(lambda: one.served == 41), True)
+        start = time.monotonic()
+        check("slow readers hold no request", comes(lambda: operator.open_requests() == [0]), True)
+        check_within("the wait until no request of slow readers is open", time.monotonic() - start, POLITE)
+        check_polite("clients that read slowly", switch.active, 20, b"one")
+        operator.check(f"deploy two {two.port}", "ok 0")
+        operator.check("available 2 1", "ok 4")
+        operator.check("tick 30", "ok 1")
+        check("the revision of slow readers is scaled down", operator.revisions()[0],
+              "revision 1 one desired 0 available 0 open 0 deadline none")
+        check_polite("slow readers of the revision before", switch.active, 5, b"two")
+        with late:
+            check("a slow reader gets the whole of its answer", received(late) == answer(BIG), True)
+    operator.close()
+    switch.stop()
+
+
+def stalled_reader() -> None:
+    """A client that takes nothing of its answer for 30 seconds is let go, and not before."""
+    with serving(Endpoint(by_target(b"one")).port, workers=1, timeout=TIMEOUT) as switch:
+        with connect(switch.active, SMALL_BUFFER) as client:
+            client.sendall(request(b"/big"))
+            check("the answer is pending",
+                  comes(lambda: switch.open_requests() == [0] and connections_at(switch.active) == 1), True)
+            start = time.monotonic()
+            check("a client that takes nothing is let go",
+                  comes(lambda: connections_at(switch.active) == 0, 30 + SLACK), True)
+            check("a client that takes nothing has its time", time.monotonic() - start > 27, True)
+
+
+def many_answers() -> None:
+    """The answers that a port keeps are bounded: of more slow readers some are let go, and others are served."""
+    endpoint, count = Endpoint(by_target(b"one")), 320
+    with serving(endpoint.port, workers=7, timeout=TIMEOUT) as switch:
+        with clients.slow_readers(switch.active, count, b"/big"):
+            check("all slow readers reach the endpoint", comes(lambda: endpoint.served == count), True)
+            check_polite("more answers than a port keeps", switch.active, 10, b"one", 10.0)
+            check("some of the slow readers are let go", comes(lambda: connections_at(switch.active) < count - 20, 10),
+                  True)
+
+
+def steady_readers() -> None:
+    """Clients that read fast enough get the whole of their answers, however many there are."""
+    with serving(Endpoint(by_target(b"one")).port, workers=7, timeout=TIMEOUT) as switch:
+        got = at_once([partial(read_steadily, switch.active)] * 80)
+    check("steady readers get the whole of their answers", Counter(got), Counter({len(answer(BIG)): 80}))
+
+
+def read_steadily(port: int) -> int:
+    """How many bytes come to a client that reads 400,000 bytes each quarter of a second."""
+    count = 0
+    with connect(port, 65536) as client:
+        client.sendall(request(b"/big"))
+        while piece := client.recv(400000, socket.MSG_WAITALL):
+            count += len(piece)
+            time.sleep(0.25)
+    return count
+
+
+def large_bodies() -> None:
+    """The answer to a body that is too large arrives, also where the client sends all of the body first, and isn't
+    reset."""
+    mega = bytes(MEGABYTE)
+    cases = {f"{count} MB at once": [head_of(count << 20) + mega * count] for count in (2, 4, 15)}
+    cases["4 MB in pieces"] = [head_of(4 << 20), *in_pieces(mega * 4, 65536)]
+    cases["6 MB in chunks"] = [HEAD_OF_CHUNKS + (b"%x\r\n" % MEGABYTE + mega + b"\r\n") * 6 + b"0\r\n\r\n"]
+    with serving(Endpoint(by_target(b"one")).port, workers=2) as switch:
+        got = at_once([partial(clients.asked, switch.active, *pieces) for pieces in cases.values()])
+    for what, found in zip(cases, got):
+        check(f"413 arrives for {what}", found, TOO_LARGE)
+
+
+def endless_bodies() -> None:
+    """A client that was answered and sends on is passed over for ten seconds and up to 16 MiB, and keeps no worker."""
+    with serving(Endpoint(by_target(b"one")).port, workers=1) as switch:
+        with connect(switch.active) as client, contextlib.suppress(OSError):
+            client.sendall(head_of(1 << 40))
+            sent = 0
+            while sent < 64 * MEGABYTE:
+                sent += client.send(bytes(65536))
+        check("a client that sends without end is passed over up to a bound", sent < 64 * MEGABYTE, True)
+        start = time.monotonic()
+        with connect(switch.active) as client:
+            client.sendall(head_of(1 << 40))
+            check("it is answered", client.recv(65536), TOO_LARGE)
+            sender = threading.Thread(target=clients.send_in_pieces, args=(client, [b"a"] * 200, 0.1), daemon=True)
+            sender.start()
+            check_polite("a client that sends on after its answer", switch.active, 10, b"one")
+            check("a client that sends on is let go in the end",
+                  comes(lambda: connections_at(switch.active) == 0, 10 + SLACK), True)
+            check("it isn't let go before", time.monotonic() - start > 8, True)
+            sender.join()
+
+
+def uploads() -> None:
+    """Sixty clients that upload 1 MB at once are all answered 200."""
+    upload_at_once(60)
+
+
+def two_thousand_uploads() -> None:
+    upload_at_once(2000)
+
+
+def upload_at_once(count: int) -> None:
+    processes.limit_descriptors(16000)
+    with serving(Endpoint(by_target(b"one")).port, workers=7, timeout=300, descriptors=8192) as switch:
+        got = at_once([partial(clients.upload, switch.active, LARGEST_BODY, 65536, 0.02)] * count)
+    check(f"{count} uploads of 1 MB at once", clients.counted(got), {b"200": count})
+
+
+def few_descriptors() -> None:
+    """With `ulimit -n 30` it serves on beside silent and dripping clients."""
+    with serving(Endpoint(by_target(b"one")).port, workers=1, timeout=TIMEOUT, descriptors=30) as switch:
+        with Crowd(switch.active, 12, b""), clients.dripping(switch.active, 4, b"GET /"):
+            check_polite("silent clients and thirty descriptors", switch.active, 5, b"one", TIMEOUT / 2)
+        check("it has let go of them", comes(lambda: connections_at(switch.active) == 0, SLACK), True)
+        check("a client once they have gone", clients.get(switch.active), (200, b"one"))
+
+
+def full_port() -> None:
+    """Of 1,130 clients a port keeps 1,024. Silent ones are let go where others come."""
+    processes.limit_descriptors(16000)
+    with serving(Endpoint(by_target(b"one")).port, workers=3, timeout=TIMEOUT, descriptors=4096) as switch:
+        with Crowd(switch.active, 1130, b""):
+            check("a port that is full", comes(lambda: connections_at(switch.active) >= 1024), True)
+            check_polite("more silent clients than a port keeps", switch.active, 10, b"one", 10.0)
+            check("connections that a port keeps", connections_at(switch.active) < 1100, True)
+
+
+def steady_clients() -> None:
+    """Of more clients than a port keeps none is let go whose request goes on."""
+    keep_steady(90, 100)
+
+
+def many_steady_clients() -> None:
+    keep_steady(1130, 4096)
+
+
+def keep_steady(count: int, descriptors: int) -> None:
+    processes.limit_descriptors(16000)
+    with serving(Endpoint(by_target(b"one")).port, workers=3, timeout=TIMEOUT, descriptors=descriptors) as switch:
+        got = at_once([partial(clients.upload, switch.active, 40960, 8192, 0.5)] * count)
+    check(f"{count} clients whose requests go on, with {descriptors} descriptors", clients.counted(got),
+          {b"200": count})
+
+
+def ten_thousand_left_open() -> None:
+    """Beside ten thousand connections that are left open a client is answered within a second."""
+    processes.limit_descriptors(16000)
+    with serving(Endpoint(by_target(b"one")).port, workers=3, timeout=300, descriptors=16000) as switch:
+        with Crowd(switch.active, 10000, b"GET / HTTP/1.1\r\n"):
+            time.sleep(3)
+            check_polite("ten thousand connections", switch.active, 50, b"one", 1.0)
+
+
+@contextlib.contextmanager
+def busy(switch: Switch, held: Held, count: int) -> Iterator[None]:
+    """So many workers wait for an endpoint."""
+    with contextlib.ExitStack() as stack:
+        for _ in range(count):
+            client = stack.enter_context(connect(switch.active))
+            client.sendall(request(b"/held"))
+        check("all workers wait for endpoints", held.holds(count), True)
+        yield
+        held.is_free.set()
+
+
+def all_workers_busy() -> None:
+    """While all workers wait for endpoints, a pending answer is written, a request is read, and one is ended at its
+    time."""
+    held, timeout = Held(b"held"), 12
+    endpoint = Endpoint(held_at(b"/held", held, by_target(b"one")))
+    with serving(endpoint.port, workers=2, timeout=timeout) as switch, contextlib.ExitStack() as stack:
+        reader, late, expecting = (stack.enter_context(connect(switch.active, SMALL_BUFFER)) for _ in range(3))
+        reader.sendall(request(b"/big"))
+        late.sendall(b"GET / HT")
+        expecting.sendall(head_of(3)[:-2])
+        start = time.monotonic()
+        check("the answer of the reader is pending",
+              comes(lambda: endpoint.served == 1 and switch.open_requests() == [0]), True)
+        time.sleep(timeout / 3)
+        with busy(switch, held, 2):
+            whole = received(reader) == answer(BIG)
+            check("a pending answer is written while all workers wait", (whole, held.closed), (True, 0))
+            expecting.sendall(b"Expect: 100-continue\r\n\r\n")
+            check("a request is read while all workers wait", (expecting.recv(100), held.closed), (CONTINUE, 0))
+            expecting.sendall(b"abc")
+            late.settimeout(start + timeout + timeout / 4 - time.monotonic())
+            with contextlib.suppress(TimeoutError):
+                check("a late request is answered nothing while all workers wait", received(late), b"")
+            check_within("a request past its time is ended while all workers wait", time.monotonic() - start,
+                         timeout + timeout / 4 - 0.1)
+            check("all workers have waited meanwhile", (held.waiting, held.closed), (2, 0))
+        check("the request that was read meanwhile", received(expecting), answer(b"oneabc"))
+
+
+def leave_by(way: Callable[[socket.socket], None]) -> None:
+    """Clients that have gone in this way keep no worker."""
+    held = Held(b"held")
+    endpoint = Endpoint(held_at(b"/held", held, by_target(b"one")))
+    with serving(endpoint.port, workers=2, timeout=TIMEOUT) as switch:
+        for number in range(2, 7, 2):
+            gone = [connect(switch.active) for _ in range(2)]
+            for client in gone:
+                client.sendall(request(b"/held", b"POST", b"body"))
+            check("requests of clients that go", comes(lambda: held.waiting == number), True)
+            for client in gone:
+                way(client)
+            start = time.monotonic()
+            check("a polite client after clients that have gone", timed(switch.active).answer, answer(b"one"))
+            check_within("a client that has gone frees its worker", time.monotonic() - start, POLITE)
+            check("the endpoint of a client that has gone sees its connection closed",
+                  comes(lambda: held.closed == number, POLITE), True)
+        check("no request of clients that have gone is open", comes(lambda: switch.open_requests() == [0], SLACK), True)
+
+
+def clients_that_close() -> None:
+    leave_by(socket.socket.close)
+
+
+def clients_that_reset() -> None:
+    leave_by(reset)
+
+
+def half_closed_client() -> None:
+    """A client that only shut its writing side is answered."""
+    held = Held(b"held")
+    with serving(Endpoint(held).port, workers=1, timeout=TIMEOUT) as switch:
+        with connect(switch.active) as client:
+            client.sendall(request())
+            client.shutdown(socket.SHUT_WR)
+            check("the request of a client that shut its writing side", held.holds(1), True)
+            time.sleep(4)
+            check("a client that shut its writing side hasn't gone", held.closed, 0)
+            held.is_free.set()
+            check("a client that shut its writing side is answered", received(client), answer(b"held"))
+
+
+def gone_while_answered() -> None:
+    """An endpoint that answers slowly is let go too, once its client has gone."""
+    ended = threading.Event()
+
+    def drip(_: Request, connection: socket.socket) -> None:
+        clients.send_in_pieces(connection, [response(bytes(1000))[:-1000], *[b"x"] * 300], 0.1)
+        ended.set()
+
+    endpoint = Endpoint(drip)
+    with serving(endpoint.port, workers=1, timeout=TIMEOUT) as switch:
+        with connect(switch.active) as client:
+            client.sendall(request())
+            check("the endpoint answers slowly", comes(lambda: endpoint.served == 1), True)
+            time.sleep(0.5)
+        start = time.monotonic()
+        check("an endpoint that answers slowly is let go", ended.wait(15), True)
+        check_within("an endpoint that answers slowly sees that its client has gone", time.monotonic() - start,
+                     2 + SLACK)
+
+
+if __name__ == "__main__":
+    checks.run("live_clients", (
+        stalled_reader, drips, refusals, long_chunks, served_once, late_requests, continues, slow_readers, many_answers,
+        steady_readers, large_bodies, endless_bodies, uploads, few_descriptors, full_port, steady_clients,
+        all_workers_busy, clients_that_close, clients_that_reset, half_closed_client, gone_while_answered), 4, by_hand=(
+            two_thousand_uploads, many_steady_clients, ten_thousand_left_open))

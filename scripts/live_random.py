@@ -1,0 +1,216 @@
+"""`bg_switch serve` on loopback: ten thousand exchanges at random while revisions come and go. What entered is what is
+told at the end, and neither a descriptor nor memory is lost."""
+import concurrent.futures
+import random
+import time
+from collections.abc import Sequence
+from typing import NamedTuple
+
+from support import checks, clients
+from support.checks import check, comes
+from support.endpoints import BROKEN, Endpoint, by_target
+from support.messages import (BAD_GATEWAY, BAD_REQUEST, BY_HAND, HEAD_TOO_LARGE, LARGEST_BODY, NOT_IMPLEMENTED,
+                              TOO_LARGE, UNAVAILABLE, answer, head_of, request)
+from support.ports import connections_at
+from support.processes import descriptors, resident_memory
+from support.switch import Switch
+
+SEED = 30
+CLIENTS = 8
+# How many exchanges make the first mark and the second, and how many come in each step.
+FIRST_MARK, EACH_STEP = 104, 1000
+# How much more memory, in KiB, the program may have after ten thousand exchanges than after a hundred, when not each
+# worker has had its largest message, and than after a thousand.
+MOST_GROWTH_FROM_HUNDRED = 2048
+MOST_GROWTH_FROM_THOUSAND = 512
+# Requests that are refused, and what they are answered.
+REFUSED = [
+    (b"GET / HTTP/1.1\r\n\r\n", BAD_REQUEST),
+    (b"GET  / HTTP/1.1\r\nHost: x\r\n\r\n", BAD_REQUEST),
+    (b"\0\1\2\3\r\n\r\n", BAD_REQUEST),
+    (b"POST / HTTP/1.1\r\nHost: x\r\nTransfer-Encoding: chunked\r\n\r\nx\r\n", BAD_REQUEST),
+    (head_of(LARGEST_BODY + 1), TOO_LARGE),
+    (b"GET / HTTP/1.1\r\n" + b"A: b\r\n" * 65 + b"\r\n", HEAD_TOO_LARGE),
+    (request(method=b"CONNECT"), NOT_IMPLEMENTED),
+]
+LAST_REPORT = """moment 30
+phase steady
+active 3
+preview 3
+stable 3
+newest 3
+revision 1 one desired 0 available 0 open 0 deadline none
+revision 2 two desired 1 available 1 open 0 deadline 60
+revision 3 three desired 1 available 1 open 0 deadline none
+end
+"""
+
+
+class Exchange(NamedTuple):
+    """What a client sends at a port, whether it resets the connection then and hears nothing, what it is answered else,
+    and whether its request enters."""
+    port: int
+    text: bytes
+    resets: bool
+    answer: bytes
+    enters: bool
+
+    def is_as_wanted(self) -> bool:
+        if not self.resets:
+            return clients.asked(self.port, self.text) == self.answer
+        client = clients.connect(self.port)
+        client.sendall(self.text)
+        clients.reset(client)
+        return True
+
+
+class Step(NamedTuple):
+    """Lines with their replies, and which endpoints, by their names, the two services have after them."""
+    lines: dict[str, str]
+    active: bytes | None
+    preview: bytes | None
+
+
+class Footprint(NamedTuple):
+    """How many descriptors the program has when no client is there any more, and its memory in KiB."""
+    descriptors: int
+    memory: int
+
+
+def random_request(rng: random.Random, name: bytes) -> tuple[bytes, bytes]:
+    """A request, and what it is answered by the endpoint of this name."""
+    body = rng.randbytes(rng.choice((1, 100, 3000)))
+    return rng.choice((
+        (request(), answer(name)),
+        (request(method=b"HEAD"), answer(name)[:-len(name)]),
+        (request(method=b"POST", body=body), answer(name + body)),
+        (request(method=b"POST", body=body, chunked=True), answer(name + body)),
+        (request(rng.choice(list(BROKEN))), BAD_GATEWAY)))
+
+
+def random_exchange(rng: random.Random, port: int, name: bytes | None) -> Exchange:
+    """An exchange at a port whose endpoint has this name; None where there is no endpoint."""
+    text, wanted = random_request(rng, name or b"none")
+    kind = rng.randrange(10)
+    if kind == 0:
+        text, wanted = rng.choice(REFUSED)
+        return Exchange(port, text, False, wanted, False)
+    if kind <= 2:
+        return Exchange(port, text[:rng.randrange(len(text))], kind == 1, b"", False)
+    if name is None:
+        return Exchange(port, text, False, UNAVAILABLE, False)
+    return Exchange(port, text, kind == 3, wanted, True)
+
+
+class RandomRun:
+    """A switch with eight workers, its operator and three endpoints, and how many requests have entered."""
+
+    def __init__(self, count: int) -> None:
+        self.rng = random.Random(SEED)
+        self.switch = Switch(BY_HAND, workers=7, count=count)
+        self.operator = self.switch.operator()
+        self.endpoints = [Endpoint(by_target(name)) for name in (b"one", b"two", b"three")]
+        self.entered = 0
+
+    def has_settled(self) -> bool:
+        """Whether each request that entered has reached an endpoint and left."""
+        served = sum(endpoint.served for endpoint in self.endpoints)
+        return served == self.entered and not any(self.operator.open_requests())
+
+    def settled_report(self) -> str:
+        """The report once it has settled; requests whose clients are gone may still be under way."""
+        check("all that entered have reached an endpoint and left", comes(self.has_settled), True)
+        return self.operator.report()
+
+    def order(self, step: Step) -> None:
+        for line, wanted in step.lines.items():
+            self.operator.check(line, wanted)
+
+    def exchange(self, count: int, step: Step) -> int:
+        """So many exchanges at once with the active and the preview port; each eighth is one with the preview port.
+        Gives how many entered."""
+        switch = self.switch
+        active, preview = (switch.active, step.active), (switch.preview, step.preview)
+        ports = [preview if place % 8 == 0 else active for place in range(count)]
+        self.rng.shuffle(ports)
+        exchanges = [random_exchange(self.rng, *port) for port in ports]
+        for port, _ in ports:
+            switch.take(port)
+        with concurrent.futures.ThreadPoolExecutor(CLIENTS) as pool:
+            results = pool.map(Exchange.is_as_wanted, exchanges)
+            check("exchanges at random", [one for one, as_wanted in zip(exchanges, results) if not as_wanted][:3], [])
+        entered = sum(one.enters for one in exchanges)
+        self.entered += entered
+        self.settled_report()
+        return entered
+
+    def compact(self, entered: int) -> None:
+        """A check that the entries of so many requests are dropped from the history."""
+        self.operator.check("compact", f"compacted {2 * entered}")
+
+    def has_no_client(self) -> bool:
+        return connections_at(self.switch.active) + connections_at(self.switch.preview) == 0
+
+    def footprint(self) -> Footprint:
+        process = self.switch.process.pid
+        check("all connections of clients have ended", comes(self.has_no_client), True)
+        counts = []
+        for _ in range(20):
+            counts.append(len(descriptors(process)))
+            time.sleep(0.02)
+        return Footprint(min(counts), resident_memory(process))
+
+
+def steps_of(one: int, two: int, three: int) -> Sequence[Step]:
+    """The steps of a rollout whose revisions have an endpoint each at these ports."""
+    return (
+        Step({f"open one {one}": "ok 0", "available 1 1": "ok 0"}, b"one", b"one"),
+        Step({f"deploy two {two}": "ok 0", "available 2 1": "ok 1"}, b"one", b"two"),
+        Step({"promote": "ok 3"}, b"two", b"two"),
+        Step({"tick 30": "ok 1"}, b"two", b"two"),
+        Step({f"deploy three {three}": "ok 0", "available 3 1": "ok 1"}, b"two", b"three"),
+        Step({"abort": "ok 0"}, b"two", b"two"),
+        Step({"available 2 0": "ok 0"}, None, None),
+        Step({"available 2 1": "ok 0"}, b"two", b"two"),
+        Step({"retry": "ok 1"}, b"two", b"three"),
+        Step({"promote": "ok 3"}, b"three", b"three"),
+    )
+
+
+def first_marks(run: RandomRun, step: Step) -> tuple[Footprint, Footprint]:
+    """The first step; gives what the program has after the first hundred exchanges, and after the first thousand."""
+    run.order(step)
+    entered = run.exchange(FIRST_MARK, step)
+    hundred = run.footprint()
+    entered += run.exchange(EACH_STEP - FIRST_MARK, step)
+    thousand = run.footprint()
+    run.compact(entered)
+    return hundred, thousand
+
+
+def check_footprint(end: Footprint, hundred: Footprint, thousand: Footprint) -> None:
+    check("descriptors at the end", end.descriptors, hundred.descriptors)
+    for since, before, most in (("hundred", hundred, MOST_GROWTH_FROM_HUNDRED),
+                                ("thousand", thousand, MOST_GROWTH_FROM_THOUSAND)):
+        grown = end.memory - before.memory
+        check(f"KiB of memory since the first {since} above what is allowed", max(grown - most, 0), 0)
+
+
+def ten_thousand_exchanges() -> None:
+    """Of the history each thousand is dropped."""
+    run = RandomRun(count=1251)
+    first, *others = steps_of(*(endpoint.port for endpoint in run.endpoints))
+    hundred, thousand = first_marks(run, first)
+    for step in others:
+        run.order(step)
+        run.compact(run.exchange(EACH_STEP, step))
+    check_footprint(run.footprint(), hundred, thousand)
+    told = run.settled_report()
+    run.operator.order_quit()
+    check("the end of ten thousand exchanges", run.switch.end(), (f"{told}calls {2 * run.entered}\n", 0))
+    check("their last report", told, LAST_REPORT)
+    run.operator.close()
+
+
+if __name__ == "__main__":
+    checks.run("live_random", [ten_thousand_exchanges])

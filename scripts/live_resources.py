@@ -1,0 +1,115 @@
+"""`bg_switch serve` on loopback where something runs out: the connections of a port, the descriptors, the threads."""
+import concurrent.futures
+import contextlib
+import resource
+import time
+
+from support import checks, clients
+from support.checks import check, comes
+from support.endpoints import Endpoint, by_target, in_pieces
+from support.messages import BAD_GATEWAY, BY_HAND, NO_PREVIEW, answer, request, response
+from support.ports import is_open, is_refused
+from support.processes import DescriptorLimit
+from support.switch import Switch, opened
+
+# The C library gives each thread a stack of the limit, and of this size there is none.
+NO_STACK = 1 << 48
+REQUEST, RESPONSE, ANSWER = request(), response(b"ok"), answer(b"ok")
+# For how many seconds it is seen what a program doesn't do, or it can't accept: less than the second in which it tries
+# again before an accept that fails counts.
+SEEN = 0.3
+
+
+def connections_used_up() -> None:
+    """A port of clients is closed once its connections are taken; the others, and the operators' side, go on."""
+    switch, operator = opened(Endpoint(in_pieces([RESPONSE])).port, workers=2, count=2)
+    for _ in range(3):
+        check("an answer", switch.timed(REQUEST).answer, ANSWER)
+    check("a port that has a connection left", is_open(switch.active), True)
+    # the last connection, which is still being served as others come
+    with switch.connect(switch.active) as last:
+        last.sendall(REQUEST[:9])
+        check("a port whose connections are used up", is_refused(switch.active), True)
+        last.sendall(REQUEST[9:])
+        check("the last connection", clients.received(last), ANSWER)
+    check("the other port", is_open(switch.preview), True)
+    check("the operators' side", operator.order("tick 1"), "ok 0")
+    for _ in range(2):
+        switch.take(switch.preview)
+        check("an answer at the preview port", clients.timed(switch.preview).answer, ANSWER)
+    check("the preview port once its connections are used up", is_refused(switch.preview), True)
+    check("the operators' side then", operator.order("tick 2"), "ok 0")
+    switch.check_end_after(operator, "the end of a run whose ports are closed", 12)
+
+
+def a_client_too_many() -> None:
+    """A client that was still waiting as the port is closed doesn't hang."""
+    switch, operator = opened(Endpoint(in_pieces([b"", RESPONSE], 0.5)).port, count=2)
+    with contextlib.ExitStack() as stack:
+        waiting = [stack.enter_context(clients.connect(switch.active)) for _ in range(3)]
+        switch.take(switch.active, 2)
+        for client in waiting:
+            client.sendall(REQUEST)
+        got = [clients.received(client) for client in waiting]
+    check("clients, one too many", got, [ANSWER, ANSWER, b""])
+    switch.check_end_after(operator, "the end after a client too many", 4)
+
+
+def check_no_dial(name: str, switch: Switch, limit: DescriptorLimit, before: int) -> None:
+    """A check of a client that is connected when descriptors run out: its endpoint isn't reached. The program has so many
+    descriptors without clients."""
+    check("no client is connected", comes(lambda: switch.count_descriptors() == before), True)
+    with switch.connect(switch.active) as client:
+        client.sendall(REQUEST[:9])
+        check("a client is connected", comes(lambda: switch.count_descriptors() == before + 1), True)
+        limit.refuse()
+        client.sendall(REQUEST[9:])
+        check(name, clients.received(client), BAD_GATEWAY)
+
+
+def without_descriptors() -> None:
+    """No file descriptor is free: no endpoint is reached; an accept that fails is tried again for nearly a second, and
+    counts as one of the connections after that."""
+    switch, operator = opened(Endpoint(by_target(b"one")).port, NO_PREVIEW, count=8, preview=False)
+    before = switch.count_descriptors()
+    check("descriptors for all", switch.get(switch.active), (200, b"one"))
+    limit = DescriptorLimit(switch.process.pid)
+    check_no_dial("no descriptor for an endpoint", switch, limit, before)
+    with concurrent.futures.ThreadPoolExecutor(1) as pool:
+        waiting = pool.submit(switch.get, switch.active)
+        time.sleep(SEEN)
+        limit.lift()
+        check("an accept that is tried again", waiting.result(), (200, b"one"))
+    check_no_dial("no descriptor once more", switch, limit, before)
+    start = time.monotonic()
+    check("accepts that fail use the connections up", is_refused(switch.active), True)
+    check("each was tried for a while", time.monotonic() - start > 1, True)
+    limit.lift()
+    switch.left.clear()
+    switch.check_end_after(operator, "calls, with accepts that failed", 8)
+
+
+def without_threads() -> None:
+    """No thread can be had: the operator is answered up to `quit`, and then the seats are worked in turn."""
+    hard = resource.getrlimit(resource.RLIMIT_STACK)[1]
+    if hard != resource.RLIM_INFINITY and hard < NO_STACK:
+        print("live_resources: the limit on stacks is fixed here, so a run without threads is passed over")
+        return
+    limits = (NO_STACK, hard)
+    switch = Switch(BY_HAND, workers=2, count=2, prepare=lambda: resource.setrlimit(resource.RLIMIT_STACK, limits))
+    operator = switch.operator()
+    operator.check(f"open one {Endpoint(by_target(b'one')).port}", "ok 0")
+    with concurrent.futures.ThreadPoolExecutor(6) as pool:
+        gets = [pool.submit(switch.get, port) for port in (switch.active, switch.active, switch.preview) * 2]
+        time.sleep(SEEN)
+        check("none is answered beside the operator", [get.done() for get in gets], [False] * 6)
+        operator.check("available 1 1", "ok 0")
+        operator.order_quit()
+        check("each is answered after it", [get.result() for get in gets], [(200, b"one")] * 6)
+    switch.check_end("calls, without threads", 12)
+    operator.close()
+
+
+if __name__ == "__main__":
+    PARTS = [connections_used_up, a_client_too_many, without_descriptors, without_threads]
+    checks.run("live_resources", PARTS, at_once=4)

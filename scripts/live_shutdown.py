@@ -1,0 +1,283 @@
+"""The end of a running `serve`: `quit` with `--forever` is a graceful shutdown, and with `--count` it ends the
+operators' side alone. And what a switch tells on standard error: too few threads, accepts that fail, ports whose
+connections are used up."""
+import contextlib
+import pathlib
+import resource
+import socket
+import subprocess
+import time
+from collections.abc import Iterator
+
+from support import TOP, checks, processes
+from support.checks import check, check_within, comes
+from support.clients import SMALL_BUFFER, connect, dripping, polite, received, timed
+from support.endpoints import Endpoint, Held, by_target, held_at
+from support.messages import ROLLOUT, answer, request
+from support.operators import Operator
+from support.ports import is_open, is_refused
+from support.switch import LISTENING, Ended, Switch, opened
+from support.told import accepts_fail, check_told_once, fewer_workers, no_event_loop, told, used_up
+
+# How long, in seconds, it takes at most until the ports are closed, and until the program has ended once nothing is
+# open. Where a shutdown waited for what it needn't, that would be for the timeout or the sixty seconds of a shutdown.
+SOON = 5.0
+TIMEOUT = 40
+BIG = b"x" * 4000000
+# The stack of each thread where few are to be had: what the system lends beside so many stacks is less than one.
+STACK = 512 << 20
+SPARE = 200 << 20
+REPORT = """moment 0
+phase steady
+active 1
+preview 1
+stable 1
+newest 1
+revision 1 one desired 1 available 1 open 0 deadline none
+end
+"""
+
+
+def check_ended(name: str, ended: Ended, calls: int) -> None:
+    check(f"{name}: the report, the calls and the status", (ended.printed, ended.status),
+          (f"{REPORT}calls {calls}\n", 0))
+
+
+def check_ports_closed(name: str, switch: Switch) -> None:
+    """Checks that all ports are refused soon."""
+    start = time.monotonic()
+    for port in (switch.active, switch.preview, switch.control):
+        check(f"{name}: a port is refused", is_refused(port), True)
+    check_within(f"{name}: until the ports are refused", time.monotonic() - start, SOON)
+
+
+def check_ends_soon(name: str, switch: Switch, calls: int, most: float = SOON) -> None:
+    start = time.monotonic()
+    check_ended(name, switch.wait(), calls)
+    check_within(f"{name}: until the program has ended", time.monotonic() - start, most)
+
+
+class Scene:
+    """A switch that serves for ever, an operator, and connections in each state."""
+
+    def __init__(self, stack: contextlib.ExitStack, workers: int) -> None:
+        self.stack = stack
+        self.held = Held(b"held")
+        self.endpoint = Endpoint(held_at(b"/held", self.held, by_target(b"one")))
+        self.switch, self.operator = opened(self.endpoint.port, workers=workers, timeout=TIMEOUT)
+
+    def client(self, port: int, text: bytes) -> socket.socket:
+        """A client that has sent this."""
+        client = self.stack.enter_context(connect(port, SMALL_BUFFER))
+        client.sendall(text)
+        return client
+
+    def hold(self, port: int, count: int) -> list[socket.socket]:
+        """So many clients more, whose requests wait at the endpoint."""
+        before = self.held.waiting
+        waiting = [self.client(port, request(b"/held")) for _ in range(count)]
+        check("requests that wait at the endpoint", self.held.holds(before + count), True)
+        return waiting
+
+
+def graceful() -> None:
+    """Requests that are served, that arrive, and that wait for a worker are answered; pending answers are written."""
+    with contextlib.ExitStack() as stack:
+        scene = Scene(stack, 3)
+        switch = scene.switch
+        silent = [scene.client(port, b"") for port in (switch.active, switch.preview)]
+        arriving = [scene.client(port, request()[:-1]) for port in (switch.active, switch.preview)]
+        reader = scene.client(switch.active, request(b"/big"))
+        check("an answer is pending",
+              comes(lambda: scene.endpoint.served == 1 and scene.operator.open_requests() == [0]), True)
+        served = [*scene.hold(switch.active, 2), *scene.hold(switch.preview, 1)]
+        scene.operator.order_quit()
+        check_ports_closed("a graceful shutdown", switch)
+        start = time.monotonic()
+        for client in silent:
+            client.settimeout(SOON)
+            with contextlib.suppress(TimeoutError):
+                check("a client that has sent nothing is answered nothing", received(client), b"")
+        check_within("a client that has sent nothing is let go at once", time.monotonic() - start, SOON)
+        for client in arriving:
+            client.sendall(b"\n")
+        check("a request that is arriving at quit is answered", received(arriving[0]), answer(b"one"))
+        check("the program waits for what is open", switch.process.poll(), None)
+        check("the pending answer of a slow reader at quit is written", received(reader) == answer(BIG), True)
+        scene.held.is_free.set()
+        check("requests that are served at quit are answered", [received(client) for client in served],
+              [answer(b"held")] * 3)
+        check("a request that waits for a worker at quit is answered", received(arriving[1]), answer(b"one"))
+        check_ends_soon("a graceful shutdown", switch, 12)
+
+
+def waiting_for_workers() -> None:
+    """All workers are busy at quit: requests that were accepted before are answered by them."""
+    with contextlib.ExitStack() as stack:
+        scene = Scene(stack, 1)
+        switch = scene.switch
+        arriving = [scene.client(switch.active, request()[:-1]) for _ in range(5)]
+        time.sleep(0.5)
+        served = scene.hold(switch.active, 1)
+        for client in arriving:
+            client.sendall(b"\n")
+        scene.operator.order_quit()
+        check_ports_closed("a shutdown while all workers are busy", switch)
+        time.sleep(1.5)
+        scene.held.is_free.set()
+        check("requests that wait for a worker at quit are answered", [received(client) for client in arriving],
+              [answer(b"one")] * 5)
+        check("the request of the busy worker", received(served[0]), answer(b"held"))
+        check_ends_soon("a shutdown while all workers are busy", switch, 12)
+
+
+def at_rest() -> None:
+    """With nothing open a switch ends at once, by the operator's tool too."""
+    switch, operator = opened(Endpoint(by_target(b"one")).port, workers=2)
+    operator.close()
+    check("answers before the shutdown", set(polite(switch.active, 3).answers), {answer(b"one")})
+    with connect(switch.active), connect(switch.preview):
+        run = subprocess.run([TOP / "bin" / "operator", str(switch.control), "shutdown", "--yes"], capture_output=True,
+                             text=True, timeout=SOON * 2, check=False)
+        check("the operator's tool", (run.stdout, run.stderr, run.returncode), ("", "", 0))
+        check_ends_soon("a shutdown at rest", switch, 6)
+
+
+def before_open() -> None:
+    """Before a book is open `quit` ends the program, which prints nothing."""
+    switch = Switch(workers=2)
+    check("listening", switch.first, LISTENING)
+    with connect(switch.active), contextlib.closing(switch.operator()) as operator:
+        operator.order_quit()
+        check("quit before a book is open", switch.wait(), Ended("", 0))
+
+
+def late_at_quit() -> None:
+    """A request that isn't whole in time, and an endpoint that is silent, keep a shutdown for no longer than their
+    time."""
+    timeout, held = 4, Held(b"held")
+    switch, operator = opened(Endpoint(held).port, workers=2, timeout=timeout)
+    with connect(switch.active) as late, connect(switch.active) as waiting:
+        late.sendall(request()[:-1])
+        waiting.sendall(request())
+        check("the endpoint is silent", held.holds(1), True)
+        operator.order_quit()
+        check("a late request at quit", received(late), b"")
+        check("a silent endpoint at quit", received(waiting)[:12], b"HTTP/1.1 502")
+        check_ends_soon("a shutdown beside a late request", switch, 2, timeout + SOON)
+
+
+def sixty_seconds() -> None:
+    """A request that still arrives 60 seconds after `quit` is cut, where the timeout is longer."""
+    switch, operator = opened(Endpoint(by_target(b"one")).port, workers=2, timeout=300)
+    with dripping(switch.active, 3, b"GET /"):
+        time.sleep(1)
+        operator.order_quit()
+        start = time.monotonic()
+        check_ends_soon("a shutdown beside requests that drip", switch, 0, 60 + SOON)
+        check("requests that drip keep a shutdown for up to 60 seconds", time.monotonic() - start > 50, True)
+
+
+def counted() -> None:
+    """With `--count`, `quit` ends the operators' side alone: clients are served until the connections are used up."""
+    switch, operator = opened(Endpoint(by_target(b"one")).port, workers=2, count=10)
+    check("answers before quit", set(polite(switch.active, 5).answers), {answer(b"one")})
+    operator.order_quit()
+    check("the control port is refused after quit", is_refused(switch.control), True)
+    with connect(switch.active) as client:
+        check("answers after quit", set(polite(switch.active, 14).answers), {answer(b"one")})
+        check("answers at the preview port after quit", set(polite(switch.preview, 10).answers), {answer(b"one")})
+        check("the port is closed with its last connection", is_refused(switch.active), True)
+        check("the program waits for the last connection", switch.process.poll(), None)
+        client.sendall(request())
+        check("the last connection is answered", received(client), answer(b"one"))
+        check_ends_soon("a run whose connections are used up", switch, 60)
+
+
+def connections_used_up() -> None:
+    """A port that is closed since its connections are used up is told once. The operators' side goes on."""
+    switch, operator = opened(Endpoint(by_target(b"one")).port, workers=1, count=3)
+    for name, port in (("active", switch.active), ("preview", switch.preview)):
+        check(f"nothing is told of the {name} port before", told(switch, used_up(name)), [])
+        check("answers", set(polite(port, 3).answers), {answer(b"one")})
+        check_told_once(f"the connections of the {name} port are used up", switch, used_up(name))
+    operator.check("tick 0", "ok 0")
+    time.sleep(2.5)
+    check("it is told once", len(switch.told), 2)
+    operator.order_quit()
+    check_ends_soon("a run whose ports are closed", switch, 12)
+
+
+@contextlib.contextmanager
+def few_threads(count: int) -> Iterator[tuple[Switch, Operator]]:
+    """A switch with four workers and one, which gets so many threads beside the first."""
+    def large_stacks() -> None:
+        resource.setrlimit(resource.RLIMIT_STACK, (STACK, resource.getrlimit(resource.RLIMIT_STACK)[1]))
+
+    switch = Switch(ROLLOUT, workers=4, prepare=large_stacks, timeout=TIMEOUT)
+    check("listening", switch.first, LISTENING)
+    lines = pathlib.Path(f"/proc/{switch.process.pid}/status").read_text(encoding="ascii").splitlines()
+    size = next(int(line.split()[1]) for line in lines if line.startswith("VmSize:")) << 10
+    most = size + count * STACK + SPARE
+    resource.prlimit(switch.process.pid, resource.RLIMIT_AS, (most, resource.RLIM_INFINITY))
+    operator = switch.operator()
+    operator.check(f"open one {Endpoint(by_target(b'one')).port}", "ok 0")
+    operator.check("available 1 1", "ok 0")
+    yield switch, operator
+    operator.order_quit()
+    check_ended("a run with few threads", switch.wait(), 6 if count else 0)
+
+
+def too_few_threads() -> None:
+    """Fewer workers than ordered are told once; those that have begun serve clients."""
+    with few_threads(4) as (switch, _):
+        check("answers of fewer workers", set(polite(switch.active, 3).answers), {answer(b"one")})
+        check_told_once("fewer workers are told", switch, fewer_workers("active"))
+        begun, ordered = map(int, told(switch, fewer_workers("active"))[0].groups())
+        check("the numbers of workers", (0 < begun < ordered, ordered), (True, 4))
+
+
+def no_threads() -> None:
+    """Where no thread is to be had, that is told, and `quit` ends the program all the same."""
+    with few_threads(0) as (switch, operator):
+        for port in ("active", "preview"):
+            check_told_once(f"no worker at the {port} port is told", switch, fewer_workers(port))
+            check_told_once(f"no event loop at the {port} port is told", switch, no_event_loop(port))
+        operator.check("tick 0", "ok 0")
+
+
+def accepts_that_fail() -> None:
+    """Accepts that fail for want of descriptors are told once for each port, and tried again until they succeed."""
+    switch, operator = opened(Endpoint(by_target(b"one")).port, workers=2, timeout=TIMEOUT)
+    limit = processes.DescriptorLimit(switch.process.pid)
+    limit.leave(0)
+    clients = [connect(port) for port in (switch.active, switch.preview)]
+    for name, client in zip(("active", "preview"), clients):
+        client.sendall(request())
+        check_told_once(f"accepts that fail at the {name} port are told", switch, accepts_fail(name))
+    time.sleep(2)
+    operator.check("tick 0", "ok 0")
+    check("each is told once", len(switch.told), 2)
+    limit.lift()
+    check("clients are answered once there are descriptors", [received(client) for client in clients],
+          [answer(b"one")] * 2)
+    check("clients that come later", timed(switch.active).answer, answer(b"one"))
+    operator.order_quit()
+    check_ends_soon("a run whose accepts have failed", switch, 6)
+
+
+def nothing_to_tell() -> None:
+    """A run without trouble tells nothing."""
+    switch, operator = opened(Endpoint(by_target(b"one")).port, workers=7)
+    check("answers", set(polite(switch.active, 20).answers), {answer(b"one")})
+    time.sleep(5)
+    check("the port is open", is_open(switch.active), True)
+    operator.order_quit()
+    check_ends_soon("a run without trouble", switch, 40)
+    check("a run without trouble tells nothing", switch.told, [])
+
+
+if __name__ == "__main__":
+    checks.run("live_shutdown", (
+        graceful, waiting_for_workers, at_rest, before_open, late_at_quit, counted, connections_used_up,
+        too_few_threads, no_threads, accepts_that_fail, nothing_to_tell), 6, by_hand=(sixty_seconds,))

@@ -1,0 +1,49 @@
+"""What the program tells on standard error while its ports are open. The patterns stand here alone."""
+import re
+
+from support.checks import check, comes
+from support.switch import Switch
+
+# Why, behind a notice, where the program tells it.
+REASON = r"[^:]*(: .+)?"
+
+
+def fewer_workers(port: str) -> re.Pattern[str]:
+    """Of the workers of a port fewer have begun than were ordered; the groups are both numbers."""
+    return re.compile(rf"bg_switch: the {port} port has (\d+) of (\d+) workers")
+
+
+def no_event_loop(port: str) -> re.Pattern[str]:
+    """The thread that deals with the pending connections of a port hasn't begun."""
+    return re.compile(rf"bg_switch: the {port} port has no event loop")
+
+
+def accepts_fail(port: str) -> re.Pattern[str]:
+    """Accepts fail at a port: `active`, `preview` or `control`."""
+    return re.compile(rf"bg_switch: accepts fail at the {port} port{REASON}")
+
+
+def used_up(port: str) -> re.Pattern[str]:
+    """A port is closed since its connections are used up."""
+    return re.compile(rf"bg_switch: the {port} port is closed: its connections are used up")
+
+
+def nearly_full() -> re.Pattern[str]:
+    """The history is nearly full; the groups are how many entries it holds, and the most that it can."""
+    return re.compile(r"bg_switch: the history holds (\d+) of (\d+) entries; once it is full, requests and lines are refused")
+
+
+def full() -> re.Pattern[str]:
+    """Lines and requests were refused since the history is full; the groups are how many of each."""
+    return re.compile(r"bg_switch: the history is full; lines refused: (\d+), requests refused: (\d+)")
+
+
+def told(switch: Switch, pattern: re.Pattern[str]) -> list[re.Match[str]]:
+    """The lines that a switch has told, and that match a pattern as a whole."""
+    return [match for line in list(switch.told) if (match := pattern.fullmatch(line))]
+
+
+def check_told_once(name: str, switch: Switch, pattern: re.Pattern[str]) -> None:
+    """A check that a line of this pattern comes soon, and is the only one up to now."""
+    comes(lambda: told(switch, pattern) != [])
+    check(name, len(told(switch, pattern)) == 1 or switch.told, True)

@@ -1,0 +1,163 @@
+"""The access log: its lines, and a file that grows, is renamed, is cut, and ends within a line."""
+import json
+import pathlib
+import tempfile
+import unittest
+from unittest import mock
+
+from bg_switch_tools import access_log
+from bg_switch_tools.access_log import Entry, Follower, Lost, NoEntry, read_line, time_text, written
+from tests.synthetic_log import ANSWERED, BEGIN, REFUSALS, GrowingLog, Part, entries, refused
+
+LINE = (b'{"time":"2026-11-25T18:03:12.042Z","service":"active","revision":2,"request":17,"port":9201,"method":"GET",'
+        b'"target":"/a?\\u003cscript\\u003e","status":200,"end":"answered","reason":null,"request_bytes":78,"response_bytes":5,'
+        b'"duration_ms":4.25,"upstream_ms":3}')
+
+
+class Lines(unittest.TestCase):
+    def test_every_value(self) -> None:
+        wanted = Entry(1795629792.042, "active", 2, 17, 9201, "GET", "/a?<script>", 200, "answered", None, 78, 5, 4.25, 3)
+        self.assertEqual(read_line(LINE), wanted)
+        self.assertEqual(read_line(b'{"time": "2026-11-25T19:03:12+01:00", "lost": 12}'), Lost(1795629792.0, 12))
+
+    def test_what_is_written_is_read(self) -> None:
+        told = [ANSWERED, *(refused(reason) for reason, *_ in REFUSALS), ANSWERED._replace(target='"\\\n\u2028<'),
+                ANSWERED._replace(status=None, end="closed", request_bytes=None, response_bytes=None, upstream_ms=None)]
+        self.assertEqual([read_line(written(entry)) for entry in told], told)
+        self.assertEqual(time_text(1795629792.042), "2026-11-25T18:03:12.042Z")
+
+    def test_errors(self) -> None:
+        for status, is_error in ((200, False), (404, False), (499, False), (500, True), (503, True), (None, True)):
+            self.assertEqual(ANSWERED._replace(status=status).is_error, is_error, status)
+
+    def test_what_is_no_line(self) -> None:
+        whole = json.loads(LINE)
+        for name, value in whole.items():
+            wrong = {"x": 1} if value is None else [value]
+            without = {key: each for key, each in whole.items() if key != name}
+            for told in ({**whole, name: wrong}, {**whole, name: True}, without):
+                with self.subTest(member=name, told=told), self.assertRaises(NoEntry):
+                    read_line(json.dumps(told).encode())
+        for told in (b"", b"{}", b"[]", LINE[:-1], LINE.replace(b"active", b"both"), LINE.replace(b"answered", b"gone"),
+                     LINE.replace(b"4.25", b"NaN"), LINE.replace(b"4.25", b"1e999"), LINE.replace(b"4.25", b"-1"),
+                     LINE.replace(b".042Z", b""), b'{"time": "now", "lost": 1}', b"\xff", b"[" * 100000):
+            with self.subTest(line=told[:80]), self.assertRaises(NoEntry):
+                read_line(told)
+
+    def test_further_members_are_passed_over(self) -> None:
+        self.assertEqual(read_line(LINE[:-1] + b',"more":[1]}'), read_line(LINE))
+
+
+class Files(unittest.TestCase):
+    def setUp(self) -> None:
+        folder = tempfile.TemporaryDirectory()
+        self.addCleanup(folder.cleanup)
+        self.log = GrowingLog(pathlib.Path(folder.name) / "access.log")
+        self.told = list(entries([Part(1, 60)]))
+
+    def follow(self, backlog: int = 0) -> Follower:
+        follower = Follower(str(self.log.path), backlog)
+        self.addCleanup(follower.close)
+        return follower
+
+    def numbers(self, follower: Follower) -> list[int | None]:
+        return [entry.request for entry in follower.read().entries]
+
+    def test_from_the_end_on(self) -> None:
+        self.log.add(self.told[:5])
+        follower = self.follow()
+        self.assertEqual(self.numbers(follower), [])
+        self.log.add(self.told[5:7])
+        self.assertEqual((self.numbers(follower), self.numbers(follower)), ([6, 7], []))
+
+    def test_a_backlog_begins_with_a_whole_line(self) -> None:
+        self.log.add(self.told[:5])
+        for back in range(1, len(written(self.told[4]))):
+            self.assertEqual(self.numbers(self.follow(back)), [5], back)
+        follower = self.follow(1 << 20)
+        self.assertTrue(follower.is_behind)
+        self.assertEqual(self.numbers(follower), [1, 2, 3, 4, 5])
+        self.assertFalse(follower.is_behind)
+
+    def test_a_line_that_comes_in_pieces(self) -> None:
+        line = written(self.told[0])
+        for cut in (1, 40, len(line) - 1):
+            self.log.add_bytes(line[:cut])
+            follower = self.follow()
+            self.assertEqual(self.numbers(follower), [])
+            self.log.add_bytes(line[cut:])
+            self.assertEqual(self.numbers(follower), [1], cut)
+
+    def test_a_rename_under_writing(self) -> None:
+        """Lines that still come into the renamed file are read, and so is the file in its place."""
+        follower = self.follow()
+        self.log.add(self.told[:3])
+        moved = self.log.rename()
+        self.assertEqual(self.numbers(follower), [1, 2, 3])
+        late = GrowingLog(moved)
+        late.add(self.told[3:5])
+        self.log.add(self.told[5:7])
+        self.assertEqual(self.numbers(follower), [4, 5, 6, 7])
+        late.add(self.told[7:8])
+        self.log.add(self.told[8:9])
+        self.assertEqual(self.numbers(follower), [8, 9])
+        self.assertEqual(follower.fault, "")
+
+    def test_a_replaced_file_is_closed_after_a_while(self) -> None:
+        follower = self.follow()
+        self.log.add(self.told[:1])
+        moved = self.log.rename()
+        GrowingLog(moved).add_bytes(b"cut")
+        self.log.add(self.told[1:2])
+        with mock.patch.object(access_log, "READ_ON_SECONDS", 0.0):
+            batch = follower.read()
+        self.assertEqual(([entry.request for entry in batch.entries], batch.unreadable, len(follower.files)), ([1, 2], 1, 1))
+        GrowingLog(moved).add(self.told[2:3])
+        self.assertEqual(self.numbers(follower), [])
+
+    def test_a_file_that_is_cut(self) -> None:
+        follower = self.follow()
+        self.log.add(self.told[:9])
+        self.assertEqual(len(self.numbers(follower)), 9)
+        self.log.path.write_bytes(b"")
+        self.assertEqual(self.numbers(follower), [])
+        self.log.add(self.told[9:11])
+        self.assertEqual(self.numbers(follower), [10, 11])
+
+    def test_what_is_no_line_is_counted(self) -> None:
+        follower = self.follow()
+        self.log.add_bytes(b"rubbish\n" + LINE + b'\n{"time": "2026-11-25T18:03:12Z", "lost": 7}\n')
+        batch = follower.read()
+        self.assertEqual((len(batch.entries), batch.lost, batch.unreadable), (1, 7, 1))
+        self.log.add_bytes(b"x" * (access_log.LONGEST_LINE + 1))
+        self.assertEqual(follower.read().unreadable, 1)
+        self.log.add_bytes(b"\n" + LINE + b"\n")
+        self.assertEqual(self.numbers(follower), [17])
+
+    def test_a_large_file_is_read_in_pieces(self) -> None:
+        follower = self.follow()
+        self.log.add(self.told)
+        with mock.patch.object(access_log, "PIECE", 1000):
+            seen = [number for _ in range(40) for number in self.numbers(follower)]
+        self.assertEqual(seen, list(range(1, 61)))
+
+    def test_a_file_that_cannot_be_read(self) -> None:
+        self.log.path.unlink()
+        follower = self.follow(1 << 20)
+        self.assertEqual((follower.fault, self.numbers(follower)), ("No such file or directory", []))
+        self.log.add(self.told[:2])
+        self.assertEqual((self.numbers(follower), follower.fault), ([1, 2], ""))
+        self.assertEqual(Follower(tempfile.gettempdir()).fault, "it is no regular file")
+
+
+class Synthetic(unittest.TestCase):
+    def test_the_generator(self) -> None:
+        told = list(entries([Part(1, 1000), Part(2, 1000, 0.05, 40.0)]))
+        errors = [entry.revision for entry in told if entry.is_error]
+        self.assertEqual((set(errors), 30 < len(errors) < 70), ({2}, True))
+        self.assertEqual([entry.time for entry in told], sorted(entry.time for entry in told))
+        self.assertAlmostEqual(told[-1].time, BEGIN + 60)
+
+
+if __name__ == "__main__":
+    unittest.main()

@@ -1,0 +1,343 @@
+"""bin/dashboard before a fake switch, over HTTP: the page, its JSON and events, metrics, and orders that are refused."""
+import contextlib
+import http.client
+import json
+import pathlib
+import re
+import shutil
+import signal
+import socket
+import subprocess
+import sys
+import tempfile
+import time
+import unittest
+import zipapp
+from collections.abc import Iterator, Sequence
+from typing import NamedTuple
+
+from bg_switch_tools.access_log import Entry
+from tests.fake_port import free_port
+from tests.fake_switch import FakeSwitch
+from tests.scenes import TOOLS, TOP, WAIT, comes
+from tests.synthetic_log import ANSWERED, GrowingLog, Part, entries, refused
+
+PYTHON = "/usr/bin/python3"
+LIBRARIES = "import aiohttp, prometheus_client"
+MISSING = "python3-aiohttp and python3-prometheus-client are not installed: apt-get install them to run this test"
+HAS_LIBRARIES = (shutil.which(PYTHON) is not None
+                 and subprocess.run([PYTHON, "-c", LIBRARIES], capture_output=True, check=False).returncode == 0)
+PAGE = TOP / "lib" / "bg_switch_tools" / "dashboard" / "page"
+NO_ORDERS = dict.fromkeys(("promote", "promote full", "abort", "retry"), False)
+HOSTILE = '/"><script>alert(1)</script><img src=x onerror=alert(2)>'
+
+
+class Answer(NamedTuple):
+    """What a request was answered."""
+    status: int
+    headers: dict[str, str]
+    body: str
+
+    def told(self) -> dict[str, object]:
+        value = json.loads(self.body)
+        assert isinstance(value, dict)
+        return value
+
+
+class Dashboard(unittest.TestCase):
+    """A fake switch that is paused at web-v2, a log, and a dashboard."""
+    options: Sequence[str] = ()
+
+    def setUp(self) -> None:
+        if not HAS_LIBRARIES:
+            self.skipTest(MISSING)
+        folder = tempfile.TemporaryDirectory()
+        self.addCleanup(folder.cleanup)
+        self.folder = pathlib.Path(folder.name)
+        self.switch = FakeSwitch("pause", "post")
+        self.addCleanup(self.switch.kill)
+        self.by_hand("open web-v1 1 2", "available 1 2", "deploy web-v2 3 4", "available 2 2")
+        self.log = GrowingLog(self.folder / "access.log")
+        self.log.add(self.now([Part(1, 7)]))
+        self.port = free_port()
+        self.start([str(TOOLS / "dashboard")])
+
+    def start(self, program: Sequence[str]) -> None:
+        words = [*program, str(self.switch.port), "--listen", str(self.port), "--log", str(self.log.path), *self.options]
+        self.process = subprocess.Popen(words, stdout=subprocess.PIPE, stderr=subprocess.PIPE, text=True)
+        self.addCleanup(self.end)
+        self.assertTrue(comes(self.is_up))
+
+    def end(self) -> tuple[int, str]:
+        """Ends the dashboard. Gives its status and what it told on standard error."""
+        self.process.send_signal(signal.SIGTERM)
+        told = ""
+        with contextlib.suppress(ValueError):  # it was ended before
+            told = self.process.communicate(timeout=WAIT)[1]
+        return self.process.returncode, told
+
+    def is_up(self) -> bool:
+        try:
+            return "web-v1" in self.get("/api/state").body
+        except OSError:
+            return False
+
+    def by_hand(self, *lines: str) -> None:
+        for line in lines:
+            self.switch.book.answer(line)
+
+    @staticmethod
+    def now(parts: Sequence[Part]) -> list[Entry]:
+        """Entries that end at this time."""
+        return list(entries(parts, time.time() - 1, 1.0))
+
+    def get(self, path: str, method: str = "GET", body: str | None = None, **headers: str) -> Answer:
+        connection = http.client.HTTPConnection("127.0.0.1", self.port, timeout=WAIT)
+        try:
+            connection.request(method, path, body, {name.replace("_", "-"): value for name, value in headers.items()})
+            answer = connection.getresponse()
+            return Answer(answer.status, dict(answer.getheaders()), answer.read().decode())
+        finally:
+            connection.close()
+
+    def state(self) -> dict[str, object]:
+        return self.get("/api/state").told()
+
+    def token(self) -> str:
+        found = re.search(r'name="token" content="([^"]*)"', self.get("/").body)
+        assert found is not None
+        return found[1]
+
+    def order(self, line: str = "promote", revision: int = 2, **changed: str) -> Answer:
+        """An order as the page sends it, but for the fields that are changed; an empty one is left out."""
+        headers = {"X_Token": self.token(), "Origin": f"http://127.0.0.1:{self.port}", "Content_Type": "application/json",
+                   **changed}
+        kept = {name: value for name, value in headers.items() if value}
+        return self.get("/api/order", "POST", json.dumps({"order": line, "revision": revision}), **kept)
+
+    @contextlib.contextmanager
+    def events(self) -> Iterator[Iterator[tuple[str, dict[str, object]]]]:
+        """The events of a stream, as they come."""
+        connection = http.client.HTTPConnection("127.0.0.1", self.port, timeout=WAIT)
+        try:
+            connection.request("GET", "/api/events")
+            answer = connection.getresponse()
+            self.assertEqual((answer.status, answer.getheader("Content-Type")), (200, "text/event-stream; charset=utf-8"))
+
+            def each() -> Iterator[tuple[str, dict[str, object]]]:
+                while (line := answer.readline().decode()):
+                    data = answer.readline().decode()
+                    self.assertEqual(answer.readline(), b"\n")
+                    yield line.removeprefix("event: ").strip(), json.loads(data.removeprefix("data: "))
+            yield each()
+        finally:
+            connection.close()
+
+
+class Pages(Dashboard):
+    def test_the_page_and_its_files(self) -> None:
+        page = self.get("/")
+        self.assertEqual((page.status, "{{" in page.body, len(self.token()) >= 40), (200, False, True))
+        named = re.findall(r'(?:src|href)="([^"]+)"', page.body)
+        self.assertIn("dashboard.js", named)
+        for name in [*named, "charts.js", "parts.js"]:
+            answer = self.get(f"/{name.removeprefix('/')}")
+            self.assertEqual((answer.status, answer.headers["X-Content-Type-Options"]), (200, "nosniff"), name)
+        for path in ("/nothing", "/../server.py", "/index.html", "/page/index.html", "/%2e%2e/server.py"):
+            self.assertEqual(self.get(path).status, 404, path)
+
+    def test_a_policy_stands_over_each_answer(self) -> None:
+        for path in ("/", "/metrics", "/api/state", "/nothing", "/dashboard.js"):
+            policy = self.get(path).headers["Content-Security-Policy"]
+            self.assertIn("default-src 'none'; script-src 'self';", policy, path)
+            self.assertNotIn("unsafe", policy)
+
+    def test_the_page_names_no_other_address_and_puts_no_text_in_as_html(self) -> None:
+        for path in PAGE.iterdir():
+            text = path.read_text(encoding="utf-8")
+            addresses = [found for found in re.findall(r"https?://[^\s\"']+", text) if "www.w3.org/2000/svg" not in found]
+            self.assertEqual(addresses, [], path)
+            unsafe = r"innerHTML|outerHTML|insertAdjacentHTML|document\.write|eval\(| style=| on\w+="
+            self.assertEqual(re.findall(unsafe, text), [], path)
+
+    def test_state(self) -> None:
+        told = self.state()
+        report = told["report"]
+        assert isinstance(report, dict)
+        self.assertEqual((report["phase"], report["active"], told["waits_for"]),
+                         ("paused", {"number": 1, "name": "web-v1"}, "waits for: promote"))
+        self.assertEqual(told["orders"], {"promote": True, "promote full": True, "abort": True, "retry": False})
+        self.log.add([ANSWERED._replace(time=time.time(), revision=2, status=None, end="write_failed", target=HOSTILE)])
+        self.assertTrue(comes(lambda: self.state()["failed"]))
+        failed = self.state()["failed"]
+        assert isinstance(failed, list)
+        self.assertEqual((failed[0]["target"], failed[0]["revision"], failed[0]["end"]), (HOSTILE, "web-v2", "write_failed"))
+
+    def test_events(self) -> None:
+        with self.events() as told:
+            name, first = next(told)
+            self.assertEqual((name, first["kept_seconds"]), ("state", 600))
+            self.by_hand("promote")
+            self.log.add(self.now([Part(2, 11)]))
+            seen: set[str] = set()
+            counted = 0
+            for name, update in told:
+                self.assertEqual(name, "update")
+                happened, slots = update["happened"], update["slots"]
+                assert isinstance(happened, list) and isinstance(slots, list)
+                seen |= {each["text"] for each in happened}
+                counted += sum(cell["revision"] == "web-v2" for slot in slots for cell in slot["cells"])
+                if "active: revision 1 web-v1 -> revision 2 web-v2" in seen and counted:
+                    break
+        self.assertIn("phase: paused -> postAnalysis", seen)
+
+    def test_it_ends_at_a_signal_with_a_page_open(self) -> None:
+        with self.events() as told:
+            next(told)
+            begun = time.monotonic()
+            status, errors = self.end()
+            self.assertEqual((status, errors, time.monotonic() - begun < 5), (0, "", True))
+
+    def test_a_switch_that_gives_no_answer(self) -> None:
+        self.switch.kill()
+        self.assertTrue(comes(lambda: '"answers": false' in self.get("/api/state").body))
+        told = self.state()
+        self.assertEqual((told["report"] is not None, told["orders"]), (True, NO_ORDERS))
+        self.assertIn("bg_switch_up 0.0", self.get("/metrics").body)
+        self.assertEqual(self.order().status, 503)
+        self.assertTrue(comes(self.starts_again))
+        self.assertTrue(comes(lambda: '"answers": true' in self.get("/api/state").body))
+
+    def starts_again(self) -> bool:
+        """Starts the switch again. False where its port was given to a connection meanwhile."""
+        try:
+            self.switch.start("open web-v1 1 2")
+        except OSError:
+            return False
+        return True
+
+
+class Metrics(Dashboard):
+    def value(self, line: str) -> float | None:
+        found = re.search(rf"^{re.escape(line)} (.*)$", self.get("/metrics").body, re.M)
+        return float(found[1]) if found else None
+
+    def test_values(self) -> None:
+        labels = '{revision="web-v2",service="active",status="5xx"}'
+        self.log.add([*self.now([Part(2, 20, 1.0)]), refused("no_preview")._replace(time=time.time())])
+        self.assertTrue(comes(lambda: self.value(f"nginx_http_requests_total{labels}")))
+        self.assertEqual(self.value(f"nginx_http_requests_total{labels}"), 20)
+        self.assertEqual(self.value('nginx_http_requests_total{revision="none",service="active",status="5xx"}'), 1)
+        # these stood there before
+        self.assertIsNone(self.value('nginx_http_requests_total{revision="web-v1",service="active",status="2xx"}'))
+        self.assertEqual(self.value(f"nginx_ingress_controller_request_duration_seconds_count{labels}"), 20)
+        for line, wanted in (('bg_switch_phase{phase="paused"}', 1), ('bg_switch_phase{phase="steady"}', 0), ("bg_switch_up", 1),
+                             ('bg_switch_selected{revision="web-v2",service="preview"}', 1),
+                             ('bg_switch_open_requests{revision="web-v1"}', 0),
+                             ('rollout_info{phase="Paused",strategy="blueGreen"}', 1),
+                             ('rollout_info_replicas_desired{revision="web-v2"}', 2),
+                             ('rollout_info_replicas_available{revision="web-v2"}', 2)):
+            self.assertEqual(self.value(line), wanted, line)
+        self.by_hand("promote")
+        self.assertTrue(comes(lambda: self.value('rollout_events_total{reason="SwitchService"}') == 1))
+
+    def test_promtool(self) -> None:
+        promtool = shutil.which("promtool")
+        if promtool is None:
+            self.skipTest("promtool is not installed: apt-get install prometheus to run this test")
+        self.log.add(self.now([Part(1, 20), Part(2, 20, 0.5)]))
+        self.assertTrue(comes(lambda: "nginx_http_requests_total{" in self.get("/metrics").body))
+        self.by_hand("abort")
+        self.assertTrue(comes(lambda: "RolloutAborted" in self.get("/metrics").body))
+        run = subprocess.run([promtool, "check", "metrics"], input=self.get("/metrics").body, capture_output=True, text=True,
+                             timeout=WAIT, check=False)
+        self.assertEqual((run.returncode, run.stdout, run.stderr), (0, "", ""))
+
+
+class Ordered(Dashboard):
+    def check_refused(self, answer: Answer, status: int, why: str) -> None:
+        self.assertEqual((answer.status, why in str(answer.told()["fault"])), (status, True), answer)
+        self.assertEqual(self.switch.orders(), [])
+
+    def test_an_order(self) -> None:
+        answer = self.order()
+        self.assertEqual((answer.status, answer.told()),
+                         (200, {"line": "promote", "reply": "ok 1", "carried_out": True, "meaning": None}))
+        again = self.order().told()
+        self.assertEqual((again["carried_out"], again["meaning"]), (False, "the rollout is not paused"))
+        self.assertTrue(comes(lambda: "promote => ok 1" in self.get("/api/state").body))
+        self.assertEqual(self.switch.orders(), ["promote", "promote"])
+
+    def test_what_is_refused(self) -> None:
+        self.check_refused(self.order(X_Token=""), 403, "has not the token")
+        self.check_refused(self.order(X_Token="x" * 43), 403, "has not the token")
+        self.check_refused(self.order(Origin="http://evil.example"), 403, "from another site")
+        self.check_refused(self.order(Origin="http://127.0.0.1:3000"), 403, "from another site")
+        self.check_refused(self.order(Origin=""), 403, "from which site")
+        self.check_refused(self.order(Origin="null"), 403, "from another site")
+        self.check_refused(self.order(Host="evil.example", Origin="http://evil.example"), 403, "by the name localhost")
+        self.check_refused(self.order(revision=1), 409, "the newest revision is revision 2 web-v2 by now")
+        self.check_refused(self.order(line="quit"), 400, "one of promote")
+        self.check_refused(self.order(line="promote" + " " * 5000), 413, "")
+        self.check_refused(self.get("/api/order"), 405, "")
+
+    def test_nothing_is_read_by_another_name(self) -> None:
+        for path in ("/", "/api/state", "/api/events", "/metrics", "/dashboard.js"):
+            answer = self.get(path, Host=f"evil.example:{self.port}")
+            self.assertEqual((answer.status, self.token() in answer.body, "web-v1" in answer.body), (403, False, False), path)
+            self.assertEqual(self.get(path, Origin="http://evil.example").status, 403, path)
+
+    def test_it_listens_on_loopback_alone(self) -> None:
+        own = socket.gethostbyname_ex(socket.gethostname())[2]
+        for address in [each for each in own if not each.startswith("127.")]:
+            with self.assertRaises(OSError):
+                socket.create_connection((address, self.port), timeout=2).close()
+        rows = [line.split() for line in pathlib.Path("/proc/net/tcp").read_text(encoding="ascii").splitlines()[1:]]
+        listening = [row[1] for row in rows if row[3] == "0A" and row[1].endswith(f":{self.port:04X}")]
+        self.assertEqual(listening, [f"0100007F:{self.port:04X}"])
+
+
+class ReadOnly(Dashboard):
+    options = ("--read-only",)
+
+    def test_nothing_can_be_ordered(self) -> None:
+        self.assertEqual(self.token(), "")
+        answer = self.order(X_Token="x")
+        self.assertEqual((answer.status, self.switch.orders()), (403, []))
+        self.assertIn("--read-only", answer.body)
+        told = self.state()
+        self.assertEqual((told["read_only"], told["orders"]), (True, NO_ORDERS))
+
+
+class Started(Dashboard):
+    def test_a_port_that_is_taken(self) -> None:
+        words = [str(TOOLS / "dashboard"), str(self.switch.port), "--listen", str(self.port)]
+        run = subprocess.run(words, capture_output=True, text=True, timeout=WAIT, check=False)
+        self.assertEqual((run.returncode, f"port {self.port} can't be had" in run.stderr), (1, True), run.stderr)
+
+    def test_as_one_file(self) -> None:
+        self.end()
+        archive = str(self.folder / "tools.pyz")
+        zipapp.create_archive(TOP / "lib", archive, PYTHON)
+        self.start([PYTHON, archive, "dashboard"])
+        self.assertEqual(self.get("/dashboard.js").status, 200)
+
+
+class Libraries(unittest.TestCase):
+    def test_without_its_libraries_it_names_the_package(self) -> None:
+        words = [sys.executable, "-S", "-B", str(TOP / "lib"), "dashboard", "1", "--listen", "2"]
+        run = subprocess.run(words, capture_output=True, text=True, timeout=WAIT, check=False)
+        self.assertEqual(run.returncode, 1)
+        self.assertIn("apt-get install python3-aiohttp", run.stderr)
+        self.assertNotIn("Traceback", run.stderr)
+
+    def test_the_other_tools_need_no_library(self) -> None:
+        code = ("import sys; sys.argv = ['x']; sys.path.insert(0, 'lib'); import __main__, runpy; "
+                "from bg_switch_tools import analysis_command, controller_command, operator_command; "
+                "from bg_switch_tools.dashboard import dashboard_command; "
+                "sys.exit('aiohttp' in sys.modules or 'prometheus_client' in sys.modules)")
+        self.assertEqual(subprocess.run([sys.executable, "-B", "-c", code], cwd=TOP, timeout=WAIT, check=False).returncode, 0)
+
+
+if __name__ == "__main__":
+    unittest.main()

@@ -1,0 +1,264 @@
+"""What the dashboard knows, counts and refuses, without a server."""
+import time
+import unittest
+from collections.abc import Sequence
+from unittest import mock
+
+from bg_switch_tools.access_log import Batch
+from bg_switch_tools.dashboard import totals, traffic
+from bg_switch_tools.dashboard.board import MOST_HAPPENED, Board
+from bg_switch_tools.dashboard.guard import fault_of, is_token
+from bg_switch_tools.dashboard.orders import Moved, Order, WrongOrder, carry_out, read_order
+from bg_switch_tools.dashboard.steps import Attempt, orders, steps
+from bg_switch_tools.dashboard.totals import Labels, Tally, Totals, reasons
+from bg_switch_tools.dashboard.traffic import Durations, Traffic
+from bg_switch_tools.reports import PHASES, Report, read_report
+from bg_switch_tools.tables import in_one_line
+from tests.fake_switch import FakeBook, FakeSwitch
+from tests.synthetic_log import ANSWERED, BEGIN, Part, entries, refused
+
+
+def reports(*lines: str) -> list[Report]:
+    """The report after each of these lines, to a switch with a pause and an analysis after the switch."""
+    book, found = FakeBook("pause", "post"), []
+    for line in lines:
+        book.answer(line)
+        report = read_report(book.answer("report") or [])
+        assert report is not None
+        found.append(report)
+    return found
+
+
+OPENED = ("open web-v1 1 2", "available 1 2")
+PAUSED = (*OPENED, "deploy web-v2 3 4", "available 2 2")
+
+
+class Slots(unittest.TestCase):
+    def test_requests_by_time_revision_and_status(self) -> None:
+        told = Traffic()
+        requests = ((200, 0, "a"), (204, 1.9, "a"), (404, 0.5, "a"), (502, 0, "b"), (None, 2.0, "b"), (200, 2.5, "a"))
+        for status, after, revision in requests:
+            told.add(ANSWERED._replace(time=BEGIN + after, status=status), revision)
+        first, second = told.take_changed()
+        self.assertEqual((first["begins"], second["begins"]), (int(BEGIN), int(BEGIN) + traffic.SLOT))
+        self.assertEqual([(cell["revision"], cell["counts"]) for cell in first["cells"]],
+                         [("a", {"2xx": 2, "4xx": 1}), ("b", {"5xx": 1})])
+        self.assertEqual([(cell["revision"], cell["counts"]) for cell in second["cells"]],
+                         [("a", {"2xx": 1}), ("b", {"none": 1})])
+        self.assertEqual(told.take_changed(), [])
+
+    def test_ten_minutes_are_kept(self) -> None:
+        told = Traffic()
+        for entry in entries([Part(1, 700)], BEGIN, 700.0):
+            told.add(entry, "a")
+        told.forget(BEGIN + 700)
+        begins = sorted(told.slots)
+        self.assertEqual((begins[0] >= BEGIN + 98, begins[0] <= BEGIN + 100, len(begins)), (True, True, len(told.take_changed())))
+
+    def test_quantiles_are_known_to_five_per_cent(self) -> None:
+        durations = Durations()
+        for number in range(1, 10001):
+            durations.add(number / 10)
+        for share, wanted in ((0.5, 500), (0.99, 990), (0.01, 10)):
+            self.assertLess(abs(durations.quantile(share) / wanted - 1), 0.06, share)
+        self.assertEqual((Durations().quantile(0.5), traffic.class_of(None), traffic.class_of(503)), (0.0, "none", "5xx"))
+
+    def test_the_last_seconds(self) -> None:
+        told = Traffic()
+        for after, status in ((-100, 500), (-3, 200), (-2, 200), (-1, 503), (-1, None)):
+            told.add(ANSWERED._replace(time=BEGIN + after, status=status, duration_ms=8.0), "a")
+        recent = told.recent(BEGIN)["a"]
+        self.assertEqual((recent["requests_per_second"], recent["errors"]), (round(4 / traffic.RECENT, 1), 0.5))
+        self.assertLess(abs(recent["p99"] / 8 - 1), 0.06)
+
+
+class Counted(unittest.TestCase):
+    def test_requests_and_durations(self) -> None:
+        counted = Totals()
+        for milliseconds in (0.5, 1.0, 3.0, 99000.0):
+            counted.add(ANSWERED._replace(duration_ms=milliseconds, upstream_ms=None), "a")
+        counted.add(refused("no_preview"), "")
+        labels = Labels("active", "a", "2xx")
+        self.assertEqual(counted.requests, {labels: 4, Labels("active", "none", "5xx"): 1})
+        tally = counted.durations[labels]
+        self.assertEqual((tally.buckets()[0], tally.buckets()[2], tally.buckets()[-2:]),
+                         (("0.001", 2.0), ("0.005", 3.0), [("60.0", 3.0), ("+Inf", 4.0)]))
+        self.assertAlmostEqual(tally.sum, 99.0045)
+        self.assertEqual((len(counted.upstream), Tally().buckets()[-1]), (0, ("+Inf", 0.0)))
+
+    def test_names_that_are_too_old_are_dropped(self) -> None:
+        counted = Totals()
+        with mock.patch.object(totals, "MOST_REVISIONS", 2):
+            for name in ("a", "b", "a", "c"):
+                counted.add(ANSWERED, name)
+        for told in (set(counted.requests), set(counted.durations), set(counted.upstream), set(counted.bytes)):
+            self.assertEqual(sorted(labels.revision for labels in told), ["b", "c"])
+
+    def test_events(self) -> None:
+        told = reports(*PAUSED, "promote", "verdict post failed", "retry", "promote", "verdict post successful")
+        self.assertEqual([reasons(before, now) for before, now in zip(told, told[1:])], [
+            [], ["NewReplicaSetCreated", "SwitchService"], ["RolloutPaused"], ["SwitchService", "RolloutResumed"],
+            ["SwitchService", "SwitchService", "RolloutAborted"], ["SwitchService", "RolloutPaused"],
+            ["SwitchService", "RolloutResumed"], ["RolloutCompleted"]])
+
+
+class Steps(unittest.TestCase):
+    def states(self, phase: str, failed_at: str = "", seen: Sequence[str] = PHASES) -> list[str]:
+        book = FakeBook()
+        book.answer("open web-v1 1 2")
+        book.phase = phase
+        report = read_report(book.answer("report") or [])
+        assert report is not None
+        return [step["state"] for step in steps(report, seen, failed_at)]
+
+    def test_each_phase(self) -> None:
+        for phase, place in (("scaling", 0), ("preAnalysis", 1), ("paused", 2), ("sizing", 3), ("postAnalysis", 5)):
+            self.assertEqual(self.states(phase), ["done"] * place + ["current"] + ["ahead"] * (6 - place))
+        self.assertEqual(self.states("steady"), ["done"] * 7)
+        self.assertEqual(self.states("aborted", "postAnalysis"), ["done"] * 5 + ["failed", "ahead"])
+        self.assertEqual(self.states("aborted"), ["ahead"] * 7)
+
+    def test_a_step_that_was_not_seen(self) -> None:
+        self.assertEqual(self.states("postAnalysis", "", ["scaling", "postAnalysis"]),
+                         ["done", "passed", "passed", "passed", "done", "current", "ahead"])
+        self.assertEqual(self.states("steady", "", []), ["passed"] * 4 + ["done", "passed", "done"])
+
+    def test_what_is_seen_of_an_attempt(self) -> None:
+        attempt = Attempt()
+        for report in reports(*PAUSED, "promote", "verdict post failed"):
+            attempt.take(report)
+        self.assertEqual((attempt.seen, attempt.failed_at), (["scaling", "paused", "postAnalysis"], "postAnalysis"))
+        attempt.take(reports(*PAUSED, "abort", "retry")[-1])
+        self.assertEqual((attempt.seen, attempt.failed_at), (["paused"], ""))
+        attempt.take(reports(*PAUSED, "deploy web-v3 5 6")[-1])
+        self.assertEqual(attempt.seen, ["scaling"])
+        attempt.take(reports(*PAUSED, "deploy web-v3 5 6", "abort")[-1])
+        self.assertEqual(attempt.failed_at, "scaling")
+        late = Attempt()
+        late.take(reports(*PAUSED, "abort")[-1])
+        self.assertEqual(late.failed_at, "")
+
+    def test_orders(self) -> None:
+        told = reports(*PAUSED, "promote", "abort")
+        running = ["promote full", "abort"]
+        self.assertEqual([[name for name, can in orders(report).items() if can] for report in told[1:]],
+                         [[], running, ["promote", *running], running, ["retry"]])
+        self.assertFalse(any(orders(None).values()))
+        self.assertEqual(set(PHASES), {"steady", "scaling", "preAnalysis", "paused", "sizing", "postAnalysis", "aborted"})
+
+
+class Boards(unittest.TestCase):
+    def setUp(self) -> None:
+        self.board = Board(8082, "/log", False)
+
+    def texts(self, kind: str = "") -> list[str]:
+        return [each["text"] for each in self.board.happened if kind in ("", each["kind"])]
+
+    def test_marks_at_a_switch_and_an_abort(self) -> None:
+        for report in reports(*PAUSED, "promote", "verdict post failed"):
+            self.board.take_report(report)
+        self.assertEqual([(each["kind"], each["mark"]) for each in self.board.happened if each["mark"]],
+                         [("switch", "to web-v2"), ("abort", "abort"), ("switch", "to web-v1")])
+        states = self.board.head()["steps"]
+        assert isinstance(states, list)
+        self.assertEqual([step["name"] for step in states if step["state"] == "failed"], ["postAnalysis"])
+
+    def test_silence_is_told_once_and_its_end(self) -> None:
+        report = reports(*OPENED)[-1]
+        for reason in ("gone", "gone", "still gone"):
+            self.board.take_report(report)
+            self.board.take_silence(reason)
+            self.board.take_silence(reason)
+        self.assertEqual(len(self.texts("silence")), 3)
+        self.assertEqual(self.texts("answer"), [f"the switch answers: {in_one_line(report)}"] * 3)
+        self.assertEqual(self.texts("change"), [])
+        switch = self.board.head()["switch"]
+        assert isinstance(switch, dict)
+        self.assertEqual((switch["answers"], switch["fault"]), (False, "still gone"))
+        self.assertIsNotNone(self.board.head()["report"])
+        told = self.board.head()["orders"]
+        assert isinstance(told, dict)
+        self.assertFalse(any(told.values()))
+
+    def test_names_of_a_book_that_is_gone_are_forgotten(self) -> None:
+        self.board.take_report(reports(*PAUSED, "tick 9")[-1])
+        self.assertEqual((self.board.name(2), self.board.name(3), self.board.name(None)), ("web-v2", "revision-3", ""))
+        self.board.take_report(reports("open other 1 2")[-1])
+        self.assertEqual((self.board.name(1), self.board.name(2)), ("other", "revision-2"))
+        self.board.take_report(None)
+        self.assertEqual(self.board.name(1), "revision-1")
+
+    def test_updates_have_what_is_new(self) -> None:
+        self.board.take_report(reports(*OPENED)[-1])
+        now = [entry._replace(time=time.time()) for entry in (ANSWERED, refused("connect_failed"))]
+        self.board.take_batch(Batch(now, 3, 1), "")
+        first, second = self.board.update(), self.board.update()
+        for name in ("slots", "happened", "failed"):
+            told, later = first[name], second[name]
+            assert isinstance(told, list)
+            self.assertEqual((len(told) > 0, later), (True, []), name)
+        self.assertEqual(self.texts("log"), ["the switch could not write 3 lines of its log"])
+        self.board.take_batch(Batch([], 0, 0), "gone")
+        self.board.take_batch(Batch([], 0, 0), "")
+        self.assertEqual(self.texts("log")[1:], ["the log /log can't be read: gone", "the log /log is read"])
+
+    def test_what_stood_in_the_log_is_not_counted(self) -> None:
+        self.board.take_batch(Batch([ANSWERED], 0, 0), "", is_counted=False)
+        self.assertEqual((len(self.board.traffic.slots), self.board.totals.requests.total()), (1, 0))
+
+    def test_no_list_grows_without_end(self) -> None:
+        for _ in range(300):
+            self.board.note_order("promote", "refused NotPaused")
+            self.board.take_batch(Batch([refused("connect_failed")] * 30, 0, 0), "")
+        self.assertEqual((len(self.board.happened), len(self.board.failed)), (MOST_HAPPENED, 50))
+        self.assertEqual(self.texts()[-1], "promote => refused NotPaused: the rollout is not paused")
+
+
+class Guarded(unittest.TestCase):
+    def test_hosts(self) -> None:
+        for host in ("127.0.0.1:8090", "localhost:8090", "LOCALHOST", "127.0.0.1", "localhost:1234"):
+            self.assertEqual(fault_of([host], []), "", host)
+        wrong: Sequence[Sequence[str]] = (
+            [], ["evil.example"], ["evil.example:8090"], ["127.0.0.1.evil.example"], ["localhost.evil.example:8090"],
+            ["127.0.0.1:8090", "127.0.0.1:8090"], ["localhost:8090@evil.example"], [""], ["127.0.0.1:"], ["10.0.0.1:8090"],
+            ["localhost\n"])
+        for hosts in wrong:
+            self.assertIn("is reached by the name", fault_of(hosts, []), hosts)
+
+    def test_origins(self) -> None:
+        self.assertEqual(fault_of(["localhost:8090"], ["http://localhost:8090"]), "")
+        for origin in ("http://localhost:3000", "http://127.0.0.1:8090", "https://localhost:8090", "null", "",
+                       "http://evil.example"):
+            self.assertEqual(fault_of(["localhost:8090"], [origin]), "the request comes from another site", origin)
+
+    def test_tokens(self) -> None:
+        self.assertTrue(is_token("abc", "abc"))
+        for wrong in ("", "ab", "abcd", "ABC", "ä", "\udcff"):
+            self.assertFalse(is_token(wrong, "abc"), wrong)
+
+
+class Orders(unittest.TestCase):
+    def test_what_is_an_order(self) -> None:
+        self.assertEqual(read_order(b'{"order": "promote full", "revision": 2}'), Order("promote full", 2))
+        for wrong in (b"", b"[]", b"{}", b'{"order": "promote"}', b'{"order": "quit", "revision": 2}', b"\xff",
+                      b'{"order": "abort", "revision": "2"}', b'{"order": "abort\\nquit", "revision": 2}',
+                      b'{"order": "abort", "revision": 0}', b'{"order": "abort", "revision": 2, "more": 1}',
+                      b'{"order": ["abort"], "revision": 2}', b'{"order": "abort", "order": "promote", "revision": 2}'):
+            with self.subTest(text=wrong), self.assertRaises(WrongOrder):
+                read_order(wrong)
+
+    def test_an_order_for_another_revision_is_not_sent(self) -> None:
+        switch = FakeSwitch("pause")
+        self.addCleanup(switch.kill)
+        with self.assertRaises(Moved):
+            carry_out(switch.port, Order("abort", 1))
+        for line in PAUSED:
+            switch.book.answer(line)
+        with self.assertRaises(Moved):
+            carry_out(switch.port, Order("promote", 1))
+        self.assertEqual(switch.orders(), [])
+        self.assertEqual((carry_out(switch.port, Order("promote", 2)), switch.orders()), ("ok 1", ["promote"]))
+
+
+if __name__ == "__main__":
+    unittest.main()

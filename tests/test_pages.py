@@ -1,0 +1,108 @@
+"""The pages: each relative link leads to a file and to a heading of it, each path and target that is named is there, and
+the map of definitions is that of the files."""
+import contextlib
+import io
+import pathlib
+import re
+import tempfile
+import unittest
+
+import definitions
+from tests.scenes import TOP
+
+LEAST_LINKS = 30
+MOST_LINES_OF_README = 130
+
+
+def pages(top: pathlib.Path) -> list[pathlib.Path]:
+    return sorted([top / "README.md", *top.glob("docs/*.md"), *top.glob("examples/**/*.md"), *top.glob("crates/*/README.md")])
+
+
+def without_code(text: str) -> str:
+    return re.sub(r"^```.*?^```$", "", text, flags=re.M | re.S)
+
+
+def anchors_of(page: pathlib.Path) -> set[str]:
+    """The anchors that a page's headings have, as GitHub makes them."""
+    headings = re.findall(r"^#+ (.*)$", without_code(page.read_text(encoding="utf-8")), re.M)
+    return {re.sub(r"[^\w\- ]", "", heading.lower()).replace(" ", "-") for heading in headings}
+
+
+def links_of(page: pathlib.Path) -> list[str]:
+    return re.findall(r"\]\((?!https?:)([^)\s]+)\)", without_code(page.read_text(encoding="utf-8")))
+
+
+def is_broken(page: pathlib.Path, link: str) -> bool:
+    place, _, anchor = link.partition("#")
+    target = page.parent / place if place else page
+    return not target.exists() or bool(anchor) and anchor not in anchors_of(target)
+
+
+def broken_links(top: pathlib.Path) -> list[str]:
+    return [f"{page.relative_to(top)}: {link}" for page in pages(top) for link in links_of(page) if is_broken(page, link)]
+
+
+class Links(unittest.TestCase):
+    def test_each_link_leads_somewhere(self) -> None:
+        self.assertEqual(broken_links(TOP), [])
+        self.assertGreater(sum(len(links_of(page)) for page in pages(TOP)), LEAST_LINKS)
+
+    def test_what_is_broken_is_found(self) -> None:
+        with tempfile.TemporaryDirectory() as folder:
+            top = pathlib.Path(folder)
+            (top / "docs").mkdir()
+            (top / "README.md").write_text("[a](docs/A.md#the-first-part) [b](docs/B.md) [c](docs/A.md#other) [d](#none)\n", encoding="ascii")
+            (top / "docs" / "A.md").write_text("# The `first` part\n```sh\n# other\n```\n[up](../README.md)\n", encoding="ascii")
+            self.assertEqual(broken_links(top), ["README.md: docs/B.md", "README.md: docs/A.md#other", "README.md: #none"])
+
+
+def missing_names(top: pathlib.Path, text: str) -> list[str]:
+    """The paths and the targets of make that a text names in vain."""
+    paths = set(re.findall(r"(?<![\w/.])(?:bin|docs|examples|scripts)/[\w./*]*\w", text))
+    targets = set(re.findall(r"^([a-z-]+):", (top / "Makefile").read_text(encoding="utf-8"), re.M))
+    named = {word for span in re.findall(r"`make ([a-z -]+)", text) for word in span.split()}
+    return sorted({path for path in paths if not any(top.glob(path))} | (named - targets))
+
+
+class Names(unittest.TestCase):
+    def test_what_the_pages_for_people_name_is_there(self) -> None:
+        for page in (TOP / "README.md", TOP / "CONTRIBUTING.md"):
+            with self.subTest(page=page.name):
+                self.assertEqual(missing_names(TOP, page.read_text(encoding="utf-8")), [])
+
+    def test_what_is_missing_is_found(self) -> None:
+        with tempfile.TemporaryDirectory() as folder:
+            top = pathlib.Path(folder)
+            (top / "Makefile").write_text("build:\ntest-tools:\n", encoding="ascii")
+            (top / "bin").mkdir()
+            (top / "bin" / "tool").touch()
+            self.assertEqual(missing_names(top, "`make build test-tools`, `make demo`, `bin/tool`, bin/other."), ["bin/other", "demo"])
+
+    def test_readme_is_short(self) -> None:
+        self.assertLessEqual(len((TOP / "README.md").read_text(encoding="utf-8").splitlines()), MOST_LINES_OF_README)
+
+
+class Definitions(unittest.TestCase):
+    def test_the_map_is_that_of_the_files(self) -> None:
+        page = definitions.PAGE.read_text(encoding="utf-8")
+        self.assertEqual(page.count(definitions.MARK), 1)
+        self.assertEqual(page, definitions.page_of(page, TOP), "run scripts/definitions.py")
+
+    def test_names_and_crates(self) -> None:
+        told, faults = io.StringIO(), io.StringIO()
+        with contextlib.redirect_stdout(told), contextlib.redirect_stderr(faults):
+            self.assertEqual(definitions.main(["is_running", "bg_endpoints", "is_nowhere"]), 1)
+        self.assertRegex(told.getvalue(), r"(?m)^crates/bg_history/specs/Turns\.antt:\d+: is_running: \w")
+        self.assertRegex(told.getvalue(), r"(?m)^crates/bg_endpoints/specs/OwnPorts\.antt: \w")
+        self.assertEqual(faults.getvalue(), "no definition and no crate with definitions has the name is_nowhere\n")
+
+    def test_a_file(self) -> None:
+        text = "-- What holds,\n-- so far. More.\nuse Rattle.x\n\n-- it is\n-- so\nabbrev pub is_so : Bool\nis_so = true\n\n  pub record Known (X : Type 0) where\n"
+        self.assertEqual(definitions.subject_of(text), "What holds, so far. More.")
+        self.assertEqual(list(definitions.definitions_of(text)), [
+            ("is_so", 7, "it is so", "abbrev pub is_so : Bool\nis_so = true"),
+            ("Known", 10, "", "  pub record Known (X : Type 0) where")])
+
+
+if __name__ == "__main__":
+    unittest.main()
