@@ -1,7 +1,8 @@
 use Rattle.std.proofs.Common.{◌∙◌, ap, map}
 use Rattle.clap.specs.Words.{app_of, found_of, rows_of}
 use Rattle.bg_command_line.specs.CommandLine.{has_forever, program}
-use Rattle.bg_command_line.proofs.Accepted.{met, inner_name, inner_rows, known_as, order_as, fault_as, conflict_as, no_kinds, still_in_conflict}
+use Rattle.bg_command_line.proofs.Accepted.{met, inner_name, inner_rows, known_as, order_as, still_in_conflict}
+use Rattle.bg_command_line.proofs.ErrorKinds.{conflict_as, fault_as, no_kinds}
 use Rattle.bg_command_line.proofs.words.order.Goals as goal
 
 pub order_of-requires : goal.order_of-requires

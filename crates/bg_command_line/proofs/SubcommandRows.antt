@@ -1,0 +1,145 @@
+-- What the rows of `replay` and of `serve` hold.
+use Rattle.std.proofs.Common.{◌≡◌, ℕ, List, [], ◌∷◌, refl}
+use Rattle.std.specs.Prelude.{Bool, true, false, ◌&&◌, ◌||◌, not, Some, is_some, find, cond, codes, option_and_then, slice_get, bytes_eq}
+use Rattle.std.specs.List.{list_any}
+use Rattle.std.specs.Option.{option_map_or}
+use Rattle.clap.specs.Takes.{is_given, value_passes}
+use Rattle.clap.specs.Facts.{explicit_source}
+use Rattle.clap.specs.ValueTests.{accepts}
+use Rattle.clap.specs.Walk.{Row, Text, Rule, arg_by_id, first_of, walk, nothing_held, rows_after, walk_from, settled}
+use Rattle.clap.specs.Simple.{Shape, built_leaf, inherited, with_leaf_noted, marked_built}
+use Rattle.clap.specs.Kinds.{check_kinds}
+use Rattle.clap.specs.Faults.{level_fault, walk_fault, settle_fault, defaults_fault}
+use Rattle.clap.specs.declared.builder.value_parser.ValueParser.TheVariants as value_parser
+use Rattle.clap.proofs.ValueTestLemmas.{accepts-Accepts}
+use Rattle.bg_command_line.specs.CommandLine.{IsIn, HasWordsOfServe, program, replay_app, serve_app, number_rule, required_rule, count_rule}
+use Rattle.bg_command_line.proofs.WordsTaken.{none_else}
+use Rattle.bg_command_line.proofs.ValuesPass.{AreGood, has_none, first_passes}
+use Rattle.bg_command_line.proofs.ArgumentRows.{Keeps, Each, held, number_keeps, required_keeps, count_keeps, flag_keeps, help_keeps, DefaultKeeps, no_default_keeps, flag_default_keeps, help_default_keeps, leaf_good}
+
+abbrev pub built_sub : Shape → Shape
+built_sub s = built_leaf (inherited (with_leaf_noted (marked_built (program false).top)) s)
+
+abbrev pub replay : Shape
+replay = built_sub replay_app.top
+
+replay_keeps : Each (Keeps replay.rules) replay.rules
+replay_keeps = (number_keeps replay.rules (codes "seats") 8 refl, (help_keeps replay.rules, tt))
+
+-- a number that is given to an option with this parser is in its range
+in_range : (c : List Rule) (r : Rule) (id : Text) (most : ℕ) (rows : List Row) → arg_by_id c id ≡ Some r → r.ignore_case ≡ false
+    → r.parser ≡ Some (value_parser.Unsigned 1 most) → AreGood c rows → IsIn 1 most id rows
+in_range c r id most rows own plain parser good t at =
+    let pass : option_map_or (λ a. value_passes a t) (arg_by_id c id) true ≡ true = first_passes c id rows t good at in
+    let own_pass : value_passes r t ≡ true = rw own at pass in
+    let test : accepts false (value_parser.Unsigned 1 most) t ≡ true = rw (plain, parser) at own_pass in
+    accepts-Accepts false (value_parser.Unsigned 1 most) t test
+
+-- `--seats` has a number from 1 to 8, if it is given
+pub replay_known : (words : List Text) → level_fault replay [] nothing_held words false [] ≡ [] → IsIn 1 8 (codes "seats") (rows_after replay.rules [] words)
+replay_known words e =
+    let rows = rows_after replay.rules [] words in
+    in_range replay.rules (held (number_rule (codes "seats") 8)) (codes "seats") 8 rows refl refl refl
+    (leaf_good replay words refl replay_keeps
+    (no_default_keeps replay.rules (held (number_rule (codes "seats") 8)) refl, (help_default_keeps replay.rules, tt)) e)
+
+abbrev pub serve : Bool → Shape
+serve forever = built_sub (serve_app forever).top
+
+serve_keeps : (forever : Bool) → Each (Keeps (serve forever).rules) (serve forever).rules
+serve_keeps forever = let c = (serve forever).rules in (
+  required_keeps c (codes "active") 65535 refl,
+  (
+    number_keeps c (codes "preview") 65535 refl,
+    (
+      required_keeps c (codes "control") 65535 refl,
+      (
+        required_keeps c (codes "workers") 7 refl,
+        (count_keeps c forever refl, (flag_keeps c forever refl, (help_keeps c, tt))),
+      ),
+    ),
+  ),
+)
+
+serve_defaults : (forever : Bool) → Each (DefaultKeeps (serve forever).rules) (serve forever).rules
+serve_defaults forever = let c = (serve forever).rules in (
+  no_default_keeps c (held (required_rule (codes "active") 65535)) refl,
+  (
+    no_default_keeps c (held (number_rule (codes "preview") 65535)) refl,
+    (
+      no_default_keeps c (held (required_rule (codes "control") 65535)) refl,
+      (
+        no_default_keeps c (held (required_rule (codes "workers") 7)) refl,
+        (
+          no_default_keeps c (held (count_rule forever)) refl,
+          (flag_default_keeps c forever refl, (help_default_keeps c, tt)),
+        ),
+      ),
+    ),
+  ),
+)
+
+first_some : (values : List Text) → has_none values ≡ false → is_some (slice_get values 0) ≡ true
+first_some [] e = cc
+first_some (v ∷ vs) e = refl
+
+-- an argument that was given has a first value
+given_has : (c : List Rule) (id : Text) (rows : List Row) → AreGood c rows → is_given id rows ≡ true → is_some (first_of id rows) ≡ true
+given_has c id [] g e = cc
+given_has c id (r ∷ rs) g e = go (bytes_eq r.id id) e (λ h. given_has c id rs g.1 h)
+  where
+    go : (b : Bool) → option_map_or (λ x. explicit_source x.source) (cond b (Some r) (find (λ x. bytes_eq x.id id) rs)) false ≡ true
+        → (is_given id rs ≡ true → is_some (first_of id rs) ≡ true)
+        → is_some (option_and_then (λ x. slice_get x.values 0) (cond b (Some r) (find (λ x. bytes_eq x.id id) rs))) ≡ true
+    go true h rest = first_some r.values g.0.0
+    go false h rest = rest h
+
+none_wanted : (help sub wanted : Bool) → check_kinds help sub wanted ≡ [] → wanted ≡ false
+none_wanted true sub wanted e = cc
+none_wanted false true wanted e = cc
+none_wanted false false true e = cc
+none_wanted false false false e = refl
+
+-- what is required is given
+all_given : (s : Shape) (words : List Text) → s.subcommand_negates_reqs ≡ false → level_fault s [] nothing_held words false [] ≡ []
+    → list_any (λ a. a.required && not (is_given a.id (rows_after s.rules [] words))) s.rules ≡ false
+all_given s words plain e =
+    let rows = rows_after s.rules [] words in
+    let end = (walk s.rules [] nothing_held words).held in
+    let f = none_else (walk_fault s [] (walk_from nothing_held) words) _ e in
+    let g = none_else (settle_fault s.rules s.args_override_self end) _ f.1 in
+    let h = none_else (defaults_fault (settled s.rules end).rows s.rules) _ g.1 in
+    let wanted : list_any (λ a. a.required && not (is_given a.id rows)) s.rules ≡ false = none_wanted
+    (not false && (s.arg_required_else_help && not (list_any (λ r. explicit_source r.source) rows)))
+    (not false && s.subcommand_required)
+    (list_any (λ a. a.required && not (is_given a.id rows)) s.rules)
+    (rw plain at h.1) in
+    wanted
+
+first_given : (given other : Bool) → (not given || other) ≡ false → (given ≡ true) × (other ≡ false)
+first_given true other e = (refl, e)
+first_given false other e = cc
+
+-- an argument that is required unless `forever` holds
+unless_given : (forever given other : Bool) → ((not forever && not given) || other) ≡ false → forever ≡ false → given ≡ true
+unless_given true given other e limited = cc
+unless_given false true other e limited = refl
+unless_given false false other e limited = cc
+
+pub serve_known : (forever : Bool) (words : List Text) → level_fault (serve forever) [] nothing_held words false [] ≡ []
+    → HasWordsOfServe forever (rows_after (serve forever).rules [] words)
+serve_known forever words e =
+    let c = (serve forever).rules in
+    let rows = rows_after c [] words in
+    let good : AreGood c rows = leaf_good (serve forever) words refl (serve_keeps forever) (serve_defaults forever) e in
+    let active = first_given (is_given (codes "active") rows) _ (all_given (serve forever) words refl e) in
+    let control = first_given (is_given (codes "control") rows) _ active.1 in
+    let workers = first_given (is_given (codes "workers") rows) _ control.1 in
+    record {
+      active = (given_has c (codes "active") rows good active.0, in_range c (held (required_rule (codes "active") 65535)) (codes "active") 65535 rows refl refl refl good);
+      preview = in_range c (held (number_rule (codes "preview") 65535)) (codes "preview") 65535 rows refl refl refl good;
+      control = (given_has c (codes "control") rows good control.0, in_range c (held (required_rule (codes "control") 65535)) (codes "control") 65535 rows refl refl refl good);
+      workers = (given_has c (codes "workers") rows good workers.0, in_range c (held (required_rule (codes "workers") 7)) (codes "workers") 7 rows refl refl refl good);
+      count = in_range c (held (count_rule forever)) (codes "count") 1000000 rows refl refl refl good;
+      count_given = λ limited. given_has c (codes "count") rows good (unless_given forever (is_given (codes "count") rows) _ workers.1 limited);
+    }
