@@ -278,6 +278,14 @@ def no_file() -> None:
     check("a log that can't be opened", switch.tells(why), True)
 
 
+def no_text() -> None:
+    """A variable that isn't UTF-8 is told, and nothing is served."""
+    switch = Switch(NO_PREVIEW, preview=False, variables={ACCESS_LOG: os.fsdecode(b"/tmp/\xff")})
+    check("the end with a variable that isn't UTF-8", (switch.first, switch.wait()), ("", ("", 1)))
+    why = f"bg_switch: {ACCESS_LOG} can't be read: environment variable was not valid unicode"
+    check("a variable that isn't UTF-8", switch.tells(why), True)
+
+
 def none_ordered() -> None:
     """Without the variable nothing is logged."""
     endpoint = Endpoint(by_target(b"one"))
@@ -291,4 +299,5 @@ def none_ordered() -> None:
 
 
 if __name__ == "__main__":
-    run("live_access_log", (kinds_of_ends, each_field, as_many_lines, renamed_file, full_disk, slow_disk, no_file, none_ordered), at_once=3)
+    run("live_access_log", (kinds_of_ends, each_field, as_many_lines, renamed_file, full_disk, slow_disk, no_file, no_text,
+                            none_ordered), at_once=3)

@@ -28,9 +28,9 @@ const ACCESS_LOG_VARIABLE: &str = "BG_SWITCH_ACCESS_LOG";
 
 /// Reads the program's words, and carries out their order over standard input and standard output.
 ///
-/// The exit status is 0, also after `--version`, or 1 after a fault. It is 2 after words that are not an order, and
-/// after `--help`, whose text goes to standard error. It is 1 if the run ends early; the reason goes to standard
-/// error.
+/// The exit status is 0, also after `--version`, or 1 after a fault. It is 2 after words that are not an
+/// order, and after `--help`, whose text goes to standard error. It is 1 if the run ends early; the reason
+/// goes to standard error. It is also 1 if the access log cannot be opened; a notice says why.
 fn main(rt: HostRuntime) -> ExitCode {
     let order = match process_order(&rt) {
         Ok(order) => order,
@@ -101,7 +101,8 @@ fn message_timeout<R: Env + AllocGlobal, E: Write>(rt: &R, errors: &mut E) -> Me
     timeout
 }
 
-/// The access log that the environment asks for, if any. Writes a notice if it cannot be opened.
+/// The access log that the environment asks for, if any. An error, and a notice, if the variable cannot
+/// be read as a text, or if the log cannot be opened.
 fn access_log<R: Env + AllocGlobal, E: Write>(
     rt: &R,
     errors: &mut E,
@@ -109,7 +110,13 @@ fn access_log<R: Env + AllocGlobal, E: Write>(
     let path = match env::var(rt, ACCESS_LOG_VARIABLE) {
         Ok(path) => path,
         Err(VarError::NotPresent) => return Ok(None),
-        Err(_) => return Err(io::Error::from(ErrorKind::InvalidInput)),
+        Err(reason) => {
+            let _ = writeln!(
+                errors,
+                "bg_switch: {ACCESS_LOG_VARIABLE} can't be read: {reason}"
+            );
+            return Err(io::Error::from(ErrorKind::InvalidInput));
+        }
     };
     match AccessLog::open(rt.alloc(), path.as_str()) {
         Ok(log) => Ok(Some(log)),
