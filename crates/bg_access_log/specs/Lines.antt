@@ -1,4 +1,4 @@
--- What stands in a line.
+-- The values of a line.
 use Rattle.std.specs.Prelude.{ℕ, List, Option, Some, None, codes, decimal}
 
 -- a number, or null

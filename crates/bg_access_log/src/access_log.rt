@@ -11,11 +11,11 @@ use std::sync::{Mutex, Wait};
 use std::time::{Clock, Duration};
 use std::{io, mem, thread};
 
-/// How many bytes may wait to be written. Lines past them are lost, and counted.
+/// The maximum number of bytes of the queue. Further lines are lost and counted.
 const MOST_BYTES: usize = 1 << 22;
 
-/// How many milliseconds pass between two writes, and after how many of these pauses the file is opened
-/// anew.
+/// The number of milliseconds between two writes, and the number of these pauses after which the writer
+/// opens the file again.
 const PAUSE_MILLIS: u64 = 100;
 
 const PAUSES_BETWEEN_OPENINGS: u32 = 10;
@@ -24,24 +24,24 @@ const PAUSES_BETWEEN_OPENINGS: u32 = 10;
 #[derive(Drop)]
 struct Queue {
     bytes: Vec<u8>,
-    /// How many lines were lost since that was last written.
+    /// The number of lost lines that the log has not reported yet.
     lost: u64,
 }
 
-/// An access log. Workers share it, and a thread of its own writes it.
+/// An access log. Workers share it, and one more thread writes it.
 #[derive(Drop)]
 pub struct AccessLog {
     alloc: Global,
     times: Mutex<TimeTexts>,
     queue: Mutex<Queue>,
-    /// The writer's alone.
+    /// Only the writer uses it.
     file: Mutex<LogFile>,
     is_over: AtomicBool,
 }
 
 impl AccessLog {
-    /// Opens the file of this path, which is made where it is missing and appended to where it isn't;
-    /// `-` is standard error.
+    /// Opens the file of this path to append to it, and creates it if it is missing. `-` is standard error.
+    /// An error if the file cannot be opened, or if an allocation fails.
     pub fn open(alloc: Global, path: &str) -> io::Result<AccessLog> {
         Ok(AccessLog {
             alloc,
@@ -55,12 +55,13 @@ impl AccessLog {
         })
     }
 
-    /// The time of day now. None where the clock fails, or memory is refused.
+    /// The time of day now. `None` if the clock fails, if it is before 1970, or if an allocation fails.
     pub fn time<R: Clock + Wait>(&self, rt: &R) -> Option<TimeText> {
         self.times.lock(rt).now(rt, self.alloc)
     }
 
-    /// Adds a line. One that can't be kept is counted.
+    /// Adds a line. If the queue would have more than 4,194,304 bytes, or if an allocation fails, the line
+    /// is lost and counted.
     pub fn add<R: Wait>(&self, rt: &R, entry: &Entry) {
         let line = entry.to_line(self.alloc);
         let mut queue = self.queue.lock(rt);
@@ -73,8 +74,10 @@ impl AccessLog {
         }
     }
 
-    /// Writes what is added, until [`AccessLog::end`] was called and a last write was made. A line says
-    /// how many lines were lost, once it can be written.
+    /// Writes the added lines every 100 milliseconds. If lines were lost, it writes a line with their number
+    /// when the file takes bytes again. It opens the file again about once a second. After
+    /// [`AccessLog::end`] it makes one last write and returns; lines that the file does not take then are
+    /// lost.
     pub fn run_writer<R: Clock + Wait>(&self, rt: &R) {
         let mut file = self.file.lock(rt);
         let mut pauses = 0u32;
@@ -93,12 +96,12 @@ impl AccessLog {
         }
     }
 
-    /// Lets the writer end.
+    /// Makes [`AccessLog::run_writer`] return after a last write.
     pub fn end(&self) {
         self.is_over.store(true, Ordering::SeqCst);
     }
 
-    /// Writes what waits, as far as the file takes it.
+    /// Writes the queue, as far as the file takes it.
     fn write_out<R: Clock + Wait>(&self, rt: &R, file: &mut LogFile) {
         if !file.write_rest() {
             return;
@@ -113,7 +116,7 @@ impl AccessLog {
         }
     }
 
-    /// Takes what waits.
+    /// Takes the bytes of the queue and the number of lost lines.
     fn take<R: Wait>(&self, rt: &R) -> (Vec<u8>, u64) {
         let mut queue = self.queue.lock(rt);
         let bytes = mem::replace(&mut queue.bytes, Vec::new(self.alloc));
@@ -121,13 +124,13 @@ impl AccessLog {
         (bytes, lost)
     }
 
-    /// Counts lines that are lost.
+    /// Adds to the number of lost lines.
     fn lose<R: Wait>(&self, rt: &R, lost: u64) {
         let mut queue = self.queue.lock(rt);
         queue.lost = queue.lost.saturating_add(lost);
     }
 
-    /// The line that says how many lines were lost.
+    /// The line with the number of lost lines; empty if an allocation fails.
     fn line_of_lost<R: Clock + Wait>(&self, rt: &R, lost: u64) -> Vec<u8> {
         let mut line = Vec::new(self.alloc);
         let time = self.time(rt);
@@ -146,7 +149,7 @@ impl AccessLog {
 }
 
 impl Queue {
-    /// Keeps a line, and says whether there was room.
+    /// Adds a line. Returns whether there was room.
     fn keeps(&mut self, line: &[u8]) -> bool
         ensures kept { self.new.bytes.items
             ≡ (if result then self.old.bytes.items ++ line.now else self.old.bytes.items) }

@@ -6,35 +6,37 @@ use serde_json::Error;
 use std::alloc::Global;
 use std::borrow::CowStr;
 
-/// What is logged of a connection. Its keys stand in the line in this order; what isn't known is null.
+/// What is logged of a connection. The line has these keys in this order. The value of a key that is
+/// `None` is null.
 #[derive(Drop)]
 pub struct Entry<'a> {
     /// When the connection ended, as `AccessLog::time` gives it.
     pub time: Option<TimeText>,
     /// `active` or `preview`.
     pub service: &'static str,
-    /// The number of the revision that the request was given.
+    /// The number of the revision to which the request was assigned.
     pub revision: Option<u64>,
-    /// The number that the request was given.
+    /// The number of the request.
     pub request: Option<u64>,
     /// The port of the endpoint.
     pub port: Option<u16>,
     pub method: Option<CowStr<'a>>,
-    /// The request target, of which 1,024 bytes are kept.
+    /// The request target. The program gives at most its first 1,024 bytes.
     pub target: Option<CowStr<'a>>,
-    /// What the client was answered.
+    /// The status code of the response or refusal.
     pub status: Option<u16>,
     /// How the connection ended: `answered`, `refused`, `closed`, `read_failed` or `write_failed`.
     pub end: &'static str,
-    /// Why the request was refused, or failed.
+    /// Why the client was refused.
     pub reason: Option<&'static str>,
-    /// How many bytes of the client were read.
+    /// The number of bytes of the request that the worker read.
     pub request_bytes: u64,
-    /// How many bytes were written to the client.
+    /// The number of bytes that the worker gave for the client. They may not be written yet.
     pub response_bytes: u64,
-    /// How many milliseconds passed from the accept to the end.
+    /// The number of milliseconds from the accept until the worker ended the connection, without the time
+    /// for which the request was paused.
     pub duration_ms: u64,
-    /// How many milliseconds passed from the whole request to the first byte of the response.
+    /// The number of milliseconds from when a worker got the connection to the first bytes of the response.
     pub upstream_ms: Option<u64>,
 }
 

@@ -6,11 +6,11 @@ use itoa::Buffer;
 use serde_json::Error;
 use std::alloc::{AllocError, Global};
 
-/// Most lines need no more room.
+/// The number of bytes that most lines do not exceed.
 const USUAL_LENGTH: usize = 512;
 
-/// A line that is being written. Its members are written by hand, since a derived writer looks at each
-/// byte of each key once more for each line.
+/// A line that is being written. Its members are written by hand, because a derived writer examines each
+/// byte of each key again for each line.
 #[derive(Drop)]
 pub(crate) struct Line {
     alloc: Global,
@@ -71,7 +71,7 @@ impl Line {
     }
 }
 
-/// Whether text stands in a string of JSON as it is.
+/// Whether a text needs no escapes in a string of JSON.
 fn is_plain(text: &str) -> bool {
     text.as_bytes().iter().all(|byte| matches!(*byte, b' '..=b'~')
         && *byte != b'"'

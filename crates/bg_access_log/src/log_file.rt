@@ -1,4 +1,4 @@
-//! The file that the log is written to.
+//! The file of the log.
 
 use libc::{O_APPEND, O_CLOEXEC, O_CREAT, O_NOCTTY, O_WRONLY, STDERR_FILENO};
 use os::FromRawFd;
@@ -6,17 +6,17 @@ use std::alloc::Global;
 use std::io;
 use std::os::fd::{AsRawFd, OwnedFd, RawFd};
 
-/// Who may read and write a new file; the process's umask narrows it.
+/// The permissions of a new file; the process's umask can remove some.
 const MODE: u32 = 0o640;
 
-/// A file that is appended to, and what it hasn't taken yet.
+/// A file to which bytes are appended, and the bytes that it has not taken yet.
 #[derive(Drop)]
 pub(crate) struct LogFile {
-    /// None for standard error.
+    /// `None` for standard error.
     path: Option<String>,
     file: Option<OwnedFd>,
     rest: Vec<u8>,
-    /// How many bytes of the rest were written.
+    /// The number of bytes of the rest that were written.
     written: usize,
 }
 
@@ -37,8 +37,8 @@ impl LogFile {
         Ok(log)
     }
 
-    /// Opens the path once more, so that a file that was renamed isn't written to any longer. Where that
-    /// fails, the file stays as it is.
+    /// Opens the path again, so that a file that was renamed gets no further bytes. If that fails, the
+    /// previous file stays open.
     pub(crate) fn open_anew(&mut self) {
         if let Some(path) = &self.path
             && let Ok(file) = open_to_append(path.as_str())
@@ -47,15 +47,15 @@ impl LogFile {
         }
     }
 
-    /// Writes bytes. Whether the file took all; else the rest is kept. All of the bytes before have to be
-    /// written.
+    /// Writes bytes, and keeps the rest of them. Returns whether the file took all. All earlier bytes have
+    /// to be written before.
     pub(crate) fn write(&mut self, bytes: Vec<u8>) -> bool {
         self.rest = bytes;
         self.written = 0;
         self.write_rest()
     }
 
-    /// Writes what the file hasn't taken yet. Whether it took all.
+    /// Writes the bytes that the file has not taken yet. Returns whether it took all.
     pub(crate) fn write_rest(&mut self) -> bool {
         let file = self.descriptor();
         for _ in 0..self.rest.len() {
@@ -82,7 +82,7 @@ impl LogFile {
     }
 }
 
-/// Opens a file to append to, which is made where it is missing.
+/// Opens a file to append to it, and creates it if it is missing.
 fn open_to_append(path: &str) -> io::Result<OwnedFd> {
     let flags = O_WRONLY | O_APPEND | O_CREAT | O_NOCTTY | O_CLOEXEC;
     let file = os::open_with(path.as_bytes(), flags, MODE);

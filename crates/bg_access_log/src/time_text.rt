@@ -6,7 +6,7 @@ use std::alloc::Global;
 use std::str;
 use std::time::{Clock, SystemTime};
 
-/// How many bytes a time has, and where the digits of its milliseconds stand.
+/// The number of bytes of a time, and the positions of the digits of its milliseconds.
 const LENGTH: usize = 24;
 
 const HUNDREDS: usize = 20;
@@ -15,15 +15,16 @@ const TENS: usize = 21;
 
 const ONES: usize = 22;
 
-/// A time of day in RFC 3339's form with milliseconds, as `2026-11-26T01:02:03.456Z`.
+/// A time of day in UTC, in the format of RFC 3339 with milliseconds, for example
+/// `2026-11-26T01:02:03.456Z`.
 #[derive(Clone, Copy, Drop)]
 pub struct TimeText {
     bytes: [u8; LENGTH],
 }
 
 impl TimeText {
-    /// The text of a second that is counted from 1970. None where it has another length, or memory is
-    /// refused.
+    /// The text of a second, which is counted from 1970. `None` if the text does not have 24 bytes, or if an
+    /// allocation fails.
     fn of_second(alloc: Global, second: u64) -> Option<TimeText> {
         let time = Timestamp::from_second(i64::try_from(second).ok()?).ok()?;
         let text = format!(in alloc; "{time:.3}").ok()?;
@@ -42,7 +43,7 @@ impl TimeText {
         self
     }
 
-    /// The text.
+    /// The text, 24 bytes.
     pub fn as_str(&self) -> &str {
         str::from_utf8(&self.bytes).unwrap_or("")
     }
@@ -55,20 +56,21 @@ fn digit(number: u32) -> u8
     b'0' + (number % 10) as u8
 }
 
-/// Tells the time of day. A second's text is made once, since that takes as long as all else of a line.
+/// Gives the time of day. The text of a second is made once, because that takes as long as the rest of a
+/// line.
 #[derive(Drop)]
 pub(crate) struct TimeTexts {
-    /// The last second that was told, counted from 1970, and its text.
+    /// The last second that was given, counted from 1970, and its text.
     last: Option<(u64, TimeText)>,
 }
 
 impl TimeTexts {
-    /// No time was told yet.
+    /// No time was given yet.
     pub(crate) fn new() -> TimeTexts {
         TimeTexts { last: None }
     }
 
-    /// The time now. None where the clock fails, or memory is refused.
+    /// The time now. `None` if the clock fails, if it is before 1970, or if an allocation fails.
     pub(crate) fn now<C: Clock>(&mut self, clock: &C, alloc: Global) -> Option<TimeText> {
         let now = SystemTime::now(clock).ok()?;
         let passed = now.duration_since(SystemTime::UNIX_EPOCH).ok()?;

@@ -1,6 +1,7 @@
 //! The audit of a history: whether each of its entries was allowed and no allowed outcome is left undone.
 //!
-//! The audit uses only the definitions. It doesn't depend on the crates that make histories.
+//! The audit shares definitions and laws with the crates that make histories. Of code, it shares the list of
+//! entries and the checks of a name and of ports.
 #![tactic(auto)]
 
 mod allowed;

@@ -21,7 +21,7 @@ use std::alloc::AllocError;
 pub enum MarkKind {
     /// It left the active service.
     Left,
-    /// A deploy took its place before it was active.
+    /// A deploy took its place while it was neither active nor stable.
     Superseded,
     /// Its attempt was halted, and it will be scaled down after the delay.
     Aborted,

@@ -125,7 +125,8 @@ impl<N: Names> Book<N> {
 
     /// Compacts the history: drops the entries of each closed request, counts the request for its seat, and drops each
     /// tick that another tick directly follows. Gives the number of dropped entries. The call allocates nothing. All
-    /// other readers of the book give the same answers as before ([`crate::laws::compacted`]).
+    /// readers of the book give the same answers as before ([`crate::laws::compacted`]), except [`Book::history`] and
+    /// [`Book::entries_used`].
     pub fn compact(&mut self) -> u64
         ensures new { self.new ≡ with_compacted self.old }
         ensures dropped { result + length self.new.past ≡ length self.old.past }

@@ -24,9 +24,12 @@ const CLOSING_MILLIS: u64 = 60_000;
 /// share the port.
 ///
 /// A worker is given a connection only after its request is over: the request is complete or faulty,
-/// the client has ended it, or its timeout has passed. Before that, and after the worker has ended
-/// the connection, the event loop reads and writes it and checks its timeouts. Each accepted
-/// connection is given to a worker exactly once.
+/// the client has ended it, its timeout has passed, or the port has closed the connection to make room
+/// or to shut down. If more than 8 MiB of a request came, or an allocation for it failed, a worker is
+/// given the connection earlier and reads the rest. Before that, and after the worker has ended the
+/// connection, the event loop reads and writes it and checks its timeouts. Each accepted connection is
+/// given to a worker exactly once. If an allocation fails, an error of [`ClientPort::next`] can take its
+/// place.
 #[derive(Drop)]
 pub struct ClientPort {
     pub(crate) alloc: Global,
@@ -52,11 +55,12 @@ pub struct ClientPort {
 }
 
 impl ClientPort {
-    /// A port that has this many workers and accepts this many connections in all (`None`: no limit). A
-    /// request may take this many seconds from the accept of its connection. The call changes the
-    /// listener's modes.
+    /// A port that has this many workers and accepts this many connections in all, at least 1 (`None`: no
+    /// limit). A request may take this many seconds from the accept of its connection. The time for which
+    /// the port pauses a large request does not count. The call makes the listener non-blocking, and
+    /// changes its timeouts and its backlog.
     ///
-    /// An error where the system or an allocation fails.
+    /// An error if a system call, the clock or an allocation fails.
     pub fn new<R: Clock>(
         rt: &R,
         alloc: Global,
@@ -91,8 +95,8 @@ impl ClientPort {
     }
 
     /// Begins a graceful shutdown. The port refuses new clients from now on and closes connections
-    /// that sent nothing. Requests that are arriving or being served, and their responses, are
-    /// completed within 60 seconds in all.
+    /// that sent nothing. For 60 seconds requests may still arrive, and pending responses are written;
+    /// after that the event loop drops them. It does not end a request that a worker serves.
     pub fn close<R: Clock + Wait>(&self, rt: &R) {
         let until = self.clock.now(rt).saturating_add(CLOSING_MILLIS);
         self.closing_until.fetch_min(until, Ordering::SeqCst);
@@ -106,8 +110,8 @@ impl ClientPort {
         self.watch.set.wake_up();
     }
 
-    /// The maximum number of workers that were at work at once. A worker is at work from its first call
-    /// of `next` on.
+    /// The maximum number of workers that were at work at once. A worker is at work from a call of `next`
+    /// until it ends the connection, or until the call gives none.
     pub fn workers_begun(&self) -> usize {
         self.workers_begun.load(Ordering::SeqCst)
     }
@@ -118,13 +122,13 @@ impl ClientPort {
     }
 
     /// Whether the port accepts no further connection, because it was closed or has accepted its
-    /// number of connections.
+    /// number of connections. A failed accept that [`ClientPort::next`] gave as an error counts as one.
     pub fn is_closed(&self) -> bool {
         self.listener.is_closed()
     }
 
-    /// Whether accepts failed, for example because no descriptor is free. Each failure is reported
-    /// once.
+    /// Whether an accept has failed, for example because no descriptor is free. Gives true at most once,
+    /// even if accepts fail again later.
     pub fn take_accept_failure(&self) -> bool {
         self.accept_failed.load(Ordering::SeqCst) && !self.told_failure.swap(true, Ordering::SeqCst)
     }

@@ -18,9 +18,13 @@ use std::time::{Clock, Duration};
 /// The minimum number of milliseconds before the system is asked again whether a client has gone.
 const ASK_MILLIS: u64 = 900;
 
-/// The connection of a client whose request is over. The request is read from memory. The part of the
-/// response that the system does not take at once is buffered; the event loop writes it after the
-/// worker has ended the connection.
+/// The connection of a client whose request is over. The request is read from memory, except the rest of
+/// a request of which more than 8 MiB came. The part of the response that the system does not take within
+/// 10 milliseconds is buffered; the event loop writes it after the worker has ended the connection.
+///
+/// After the buffered bytes, a read gives 0 bytes if the client ended its input. It fails with
+/// `ConnectionReset` if the port could not read the request, and with `TimedOut` if the port gave the
+/// request up. A write fails with the system's error, or if the allocation for the buffer fails.
 #[derive(Drop)]
 pub struct Connection<'a, R: Clock> {
     port: &'a ClientPort,
@@ -67,8 +71,8 @@ impl<'a, R: Clock> Connection<'a, R> {
     /// Whether the client has closed or reset its connection. A client that has only shut its writing
     /// side has not gone, and is answered (RFC 9112 section 9.6).
     ///
-    /// Asks the system at most once a second, and for the first time about a second after the first
-    /// call. Until then it gives false.
+    /// Asks the system at most once in 900 milliseconds, and for the first time at least 900 milliseconds
+    /// after the first call. A call that does not ask gives false.
     pub fn has_gone(&mut self) -> bool {
         let now = self.port.clock.now(self.rt);
         let Some(last) = self.asked else {
@@ -86,7 +90,7 @@ impl<'a, R: Clock> Connection<'a, R> {
         }
     }
 
-    /// The bytes of the request that were buffered.
+    /// The bytes of the request that were buffered; none if the port gave the request up.
     pub fn first_bytes(&self) -> &[u8] {
         self.request.request.bytes.as_slice()
     }
@@ -101,12 +105,13 @@ impl<'a, R: Clock> Connection<'a, R> {
         self.read_unbuffered.saturating_add(self.read as u64)
     }
 
-    /// The number of bytes of the response that came. They may not be written yet.
+    /// The number of bytes that the worker gave for the client. They may not be written yet.
     pub fn response_bytes(&self) -> u64 {
         self.response_bytes
     }
 
-    /// The number of milliseconds since the connection was accepted.
+    /// The number of milliseconds since the connection was accepted, without the time for which its request
+    /// was paused.
     pub fn duration_millis(&self) -> u64 {
         let accepted = match self.request.until {
             Some(until) => self
@@ -205,7 +210,7 @@ impl<R: Clock + Wait> Connection<'_, R> {
     /// otherwise the client may still be sending it. The event loop writes the rest of the response. It
     /// stops if the client takes nothing for 30 seconds, and after 600 seconds in all. If bytes of the
     /// client are unread or may still come, a lingering close discards them for 10 seconds, up to 16
-    /// MiB.
+    /// MiB. If the port needs room, or shuts down, the event loop stops earlier.
     pub fn end(self, whole: bool) {
         let Connection {
             port,

@@ -23,7 +23,8 @@ const OF_A_PORT: usize = 4;
 /// the connection to an endpoint.
 const OF_A_WORKER: usize = 3;
 
-/// The number of descriptors that this process may have open.
+/// The number of descriptors that this process may have open: its limit, but at most 1,048,576. If the
+/// limit cannot be read, 1,024.
 pub fn most_descriptors() -> usize {
     let mut limit = rlimit {
         rlim_cur: 0,

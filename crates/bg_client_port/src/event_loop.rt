@@ -15,8 +15,9 @@ const LONGEST_WAIT_MILLIS: i32 = 500;
 
 impl ClientPort {
     /// Handles the pending connections: reads requests, writes responses, and closes each connection
-    /// whose timeout has passed. It returns when the port is closed and no connection is left, at most
-    /// 60 seconds after [`ClientPort::close`]. It closes the connections that are left then.
+    /// whose timeout has passed. It returns when the port is closed, no connection is pending, and no
+    /// worker has one. It returns about 60 seconds after the first call of [`ClientPort::close`] in any
+    /// case. It closes the connections that are pending then.
     pub fn run_event_loop<R: Clock + Wait>(&self, rt: &R) {
         self.event_loop_begun.store(true, Ordering::SeqCst);
         let mut keys = [0; MOST_EVENTS];

@@ -1,7 +1,8 @@
 //! A client port: a listener, an event loop, and connections that are given to workers.
 //!
 //! Request buffering: a worker is given a connection only after its request is over, so that no
-//! worker waits for a client that sends slowly. Response buffering: the event loop writes what a
+//! worker waits for a client that sends slowly. There is one exception: a worker reads the rest of a
+//! request if more than 8 MiB of it came. Response buffering: the event loop writes what a
 //! client does not take at once, and does the lingering close. What may be pending at a port is
 //! bounded ([`Bounds`]).
 #![tactic(auto)]

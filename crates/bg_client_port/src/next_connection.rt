@@ -37,9 +37,12 @@ enum Step {
 
 impl ClientPort {
     /// Waits for a connection whose request is over. `None` if no further connection comes: the port is
-    /// closed, and each connection that it accepted was given to a worker. An error counts as a
-    /// connection. It comes if accepts failed for a second and the number of connections is limited, if
-    /// an allocation failed, or if more workers are at work than the port has.
+    /// closed, and no request is pending. Another worker may still handle a connection that it accepted.
+    ///
+    /// The error is `ResourceBusy` if more workers are at work than the port has. Any other error counts
+    /// as a connection. It is `OutOfMemory` if a connection was lost because an allocation failed. It is
+    /// the error of an accept if ten accepts of this call failed in a row, with pauses of up to 100
+    /// milliseconds between them, and the number of connections is limited.
     pub fn next<'a, R: Clock + Wait>(&'a self, rt: &'a R) -> io::Result<Option<Connection<'a, R>>> {
         let Some(set) = self.take_wait_set(rt) else {
             return Err(io::Error::from(ErrorKind::ResourceBusy));

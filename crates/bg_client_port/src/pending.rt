@@ -110,7 +110,7 @@ impl Pending {
         self.connections.is_empty()
     }
 
-    /// Whether the port has its maximum number of pending connections.
+    /// Whether the port has as many pending connections as the bound, or more.
     pub(crate) fn is_full(&self) -> bool {
         self.count() >= self.bounds.connections
     }
@@ -120,7 +120,8 @@ impl Pending {
         self.totals.response_bytes > self.bounds.response_bytes
     }
 
-    /// Whether responses take twice the memory of the bound, so that no further request is served.
+    /// Whether responses take more than twice the memory of the bound, so that the port accepts no further
+    /// connection.
     pub(crate) fn is_held_up(&self) -> bool {
         self.totals.response_bytes / 2 > self.bounds.response_bytes
     }
@@ -251,7 +252,7 @@ impl Pending {
     }
 
     /// If responses take too much memory, closes slow connections until they take at most three
-    /// quarters of the bound.
+    /// quarters of the bound, or until no slow one is left.
     pub(crate) fn free_responses(&mut self, now: u64, watch: &Watch) {
         if !self.is_over_bound() {
             return;
@@ -268,9 +269,9 @@ impl Pending {
         }
     }
 
-    /// Closes the slow connection that made no progress for the longest time. If the port serves no
-    /// further request because of responses, closes slow connections with responses. Returns whether there
-    /// is room then.
+    /// Closes the slow connection that made no progress for the longest time, and returns whether there was
+    /// one. If responses take more than twice the memory of the bound, closes slow connections with
+    /// responses instead, and returns whether that helped.
     pub(crate) fn make_room(&mut self, now: u64, watch: &Watch) -> bool {
         if self.is_held_up() {
             self.free_responses(now, watch);
@@ -302,7 +303,7 @@ impl Pending {
     }
 
     /// Pauses all large requests except the oldest ones while requests take too much memory, so that
-    /// some are completed. They continue when requests take at most three quarters of the bound.
+    /// some are completed. They continue when requests take less than three quarters of the bound.
     fn regulate(&mut self, now: u64, watch: &Watch) {
         let most = self.bounds.request_bytes;
         let taken = self.totals.request_bytes;

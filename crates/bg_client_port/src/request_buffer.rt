@@ -18,9 +18,9 @@ const FIRST_PIECE: usize = 2048;
 /// The number of reads in a row before other connections have their turn.
 const READS_A_TURN: u32 = 4;
 
-/// The maximum number of bytes of a request that are buffered, as they came. Chunks may have lines of
-/// 1,024 bytes each, so a valid body of 1,048,576 bytes may take a thousand times as many. The worker
-/// reads what exceeds this.
+/// The number of bytes of a request, as they came, after which no further read is buffered. Chunks may
+/// have lines of 1,024 bytes each, so a valid body of 1,048,576 bytes may take a thousand times as many.
+/// The worker reads the rest.
 const MOST_BUFFERED: usize = 1 << 23;
 
 /// Why a request is over.
@@ -32,7 +32,7 @@ pub(crate) enum Ending {
     Ended,
     /// A read failed.
     Failed,
-    /// The client took too long, or its connection had to make room for others.
+    /// The client took too long, its connection had to make room for others, or the port shuts down.
     LetGo,
     /// It is not over, but no more of it is buffered. The worker reads the rest.
     Unbuffered,

@@ -15,7 +15,7 @@ use std::os::fd::{AsRawFd, OwnedFd, RawFd};
 /// The longest wait, in milliseconds.
 const LONGEST_WAIT_MILLIS: i32 = 1_000;
 
-/// An event wakes one of the waiting sets alone (`EPOLLEXCLUSIVE` of epoll_ctl(2)).
+/// An event wakes at least one of the waiting sets, and not always all (`EPOLLEXCLUSIVE` of epoll_ctl(2)).
 const EXCLUSIVE: u32 = 1 << 28;
 
 /// The sources of the events of a worker's set.

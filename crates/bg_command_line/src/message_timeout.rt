@@ -38,7 +38,8 @@ impl MessageTimeout {
         }
     }
 
-    /// The timeout that the text of the variable gives.
+    /// The timeout that the text of the variable gives: `Given` if it is a number from 1 to 3,600, and
+    /// otherwise `Unusable`.
     pub fn of_text(text: &str) -> MessageTimeout
         ensures value { IsTimeoutIn text.now result }
         ensures range { IsBetween 1 3600 (seconds_of result) }

@@ -17,8 +17,8 @@ const DEFAULT_SEATS: u8 = 4;
 /// P] --control P --workers N` with ports from 1 to 65535 and N from 1 to 7, and either `--count K`
 /// with K from 1 to 1,000,000 or `--forever`.
 ///
-/// The error is `Words` only if `clap` refuses the words, if they ask for help, or if both `--count`
-/// and `--forever` are given. It is `OutOfMemory` if an allocation fails.
+/// The error is `Words` only if `clap` refuses the words, if they ask for help or for the version, or if
+/// both `--count` and `--forever` are given. It is `OutOfMemory` if an allocation fails.
 pub fn order(alloc: Global, words: &[&str]) -> Result<Order, OrderFault>
     ensures ok { IfOk result (IsOrderIn (map (λ w. w.now) words.now)) }
     ensures fault { IfErr result (IsFaultIn (map (λ w. w.now) words.now)) }

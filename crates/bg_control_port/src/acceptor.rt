@@ -11,7 +11,7 @@ const PAUSE_MILLIS: u64 = 100;
 #[derive(Drop)]
 pub enum Accepted {
     Stream(TcpStream),
-    /// No connection waits.
+    /// No connection waits, or its peer has given it up.
     Nothing,
     /// The accept failed. It is tried again after a pause.
     Failed(io::Error),

@@ -11,8 +11,8 @@ use std::sync::Wait;
 use std::sync::atomic::{AtomicBool, AtomicU64, Ordering};
 use std::time::Clock;
 
-/// The maximum number of bytes of a read. The lines among them are answered before the time of the turn
-/// is checked again.
+/// The maximum number of bytes of a read. The lines among them are answered before the next read, which
+/// checks the time of the turn.
 const MOST_BYTES: usize = 1_024;
 
 /// The maximum number of ready sockets that are handled before each read.
@@ -24,8 +24,8 @@ const MOST_EVENTS: u32 = 256;
 /// While no other connection has a whole line, reads and writes have no timeout. While another one has a
 /// whole line, they fail with `TimedOut` after a second without a whole line or without progress of an
 /// answer, and after ten seconds of the turn. Both times count from the moment when the other connection had
-/// its line, at the earliest. After such a failure the connection must not be used. Its reads and writes also
-/// handle the waiting connections.
+/// its line, at the earliest. Such a failure ends the connection, which must not be used after it. Each read
+/// also handles the waiting connections, and so does a write that has to wait.
 #[derive(Drop)]
 pub struct ControlConnection<'a, R: Clock + Wait, E: ControlEvents> {
     port: &'a ControlPort,
@@ -41,7 +41,7 @@ pub struct ControlConnection<'a, R: Clock + Wait, E: ControlEvents> {
 }
 
 impl<'a, R: Clock + Wait, E: ControlEvents> ControlConnection<'a, R, E> {
-    /// A turn that begins now. Makes the stream non-blocking.
+    /// A turn that begins now. The stream has to be non-blocking.
     pub(crate) fn new(
         port: &'a ControlPort,
         rt: &'a R,

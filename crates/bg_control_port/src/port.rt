@@ -50,8 +50,8 @@ struct News {
 
 impl ControlPort {
     /// The port of a listener. Allocates the memory for 1,024 waiting connections. An error if this
-    /// allocation fails, if the system cannot create an epoll set, or if the listener cannot be made
-    /// non-blocking.
+    /// allocation or the clock fails, if the system cannot create an epoll set or watch the listener, or if
+    /// the listener cannot be made non-blocking.
     pub fn new<R: Net + Clock>(
         rt: &R,
         alloc: Global,
@@ -74,10 +74,11 @@ impl ControlPort {
     /// Waits for the connection that has the next turn: the one whose whole line arrived first. Bytes
     /// without a line break are a line if the input has ended, or if they are more than a line may have.
     ///
-    /// At most 1,024 connections wait, and at most a quarter of the process's file descriptors. If more
-    /// come, the port closes the connection that has made no progress for the longest time, provided that
-    /// this is two seconds or more and that no whole line of it has arrived. Otherwise it accepts no further
-    /// connection. A failed accept is tried again every 100 milliseconds.
+    /// At most 1,024 connections wait, and at most a quarter of the number of file descriptors that the
+    /// process may have open. If more come, or if an accept fails, the port closes the connection that has
+    /// made no progress for the longest time, provided that this is two seconds or more and that no whole
+    /// line of it has arrived. If there is none, and more come, it accepts no further connection. A failed
+    /// accept is tried again every 100 milliseconds.
     ///
     /// The previous connection has to be ended before this call.
     pub fn next<'a, R: Clock + Wait, E: ControlEvents>(
@@ -94,8 +95,8 @@ impl ControlPort {
         unreachable!()
     }
 
-    /// Closes the listener and all connections that wait. [`ControlPort::next`] gives `None` from then
-    /// on.
+    /// Closes the listener and all connections that wait. From then on no connection comes, so a call of
+    /// [`ControlPort::next`] does not return.
     pub fn close<R: Wait>(&self, rt: &R) {
         let mut state = self.state.lock(rt);
         state.acceptor = None;

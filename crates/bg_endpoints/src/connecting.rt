@@ -23,8 +23,9 @@ const SOCKET_TRIES: u32 = 50;
 
 const SOCKET_PAUSE_MILLIS: u64 = 20;
 
-/// A connection to a port of 127.0.0.1. The connect fails after `write_wait`. A later write waits at
-/// most `write_wait`, and a read at most `read_wait`.
+/// A connection to a port of 127.0.0.1. If no descriptor is free, waits for one for about a second. The
+/// connect fails with `TimedOut` after `write_wait`. If a signal interrupts it, it may take this time
+/// again, up to 8 times in all. A later write waits at most `write_wait`, and a read at most `read_wait`.
 ///
 /// Linux limits a connect by the timeout of writes, so this needs one system call fewer than std's
 /// `connect_timeout` with its `poll`.
@@ -41,7 +42,7 @@ pub(crate) fn connect<C: Clock>(
     Ok(stream)
 }
 
-/// A TCP socket that is not connected. If no descriptor is free, waits for one for a second.
+/// A TCP socket that is not connected. If no descriptor is free, waits for one for about a second.
 fn new_socket<C: Clock>(clock: &C) -> io::Result<OwnedFd> {
     for _ in 1..SOCKET_TRIES {
         if let Some(socket) = try_socket() {

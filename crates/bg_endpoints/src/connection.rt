@@ -21,9 +21,10 @@ const TURN_SECONDS: u64 = 1;
 /// The connection to an endpoint. After the response timeout, each read and each write fails with
 /// `TimedOut`.
 ///
-/// A read waits for at most a second, and is `Interrupted` if nothing came, so that the reader can check whether it
-/// still needs the response. If nothing has come for too long, it fails. A write that sends no byte in 30 seconds
-/// fails. The timeouts cost two system calls for each connection.
+/// A read waits for at most a second, and is `Interrupted` if nothing came, so that the reader can check
+/// whether it still needs the response. If nothing has come for [`ResponseTimeout::silent_seconds`], it
+/// fails with `TimedOut`. A write that sends no byte in 30 seconds fails with `TimedOut`. The timeouts cost
+/// two system calls for each connection.
 #[derive(Drop)]
 pub struct Connection<'a, C: Clock> {
     stream: TcpStream,
@@ -39,8 +40,8 @@ pub struct Connection<'a, C: Clock> {
 }
 
 impl<'a, C: Clock> Connection<'a, C> {
-    /// Connects to a port of 127.0.0.1. The connect takes at most 5 seconds. The response timeout begins
-    /// before the connect.
+    /// Connects to a port of 127.0.0.1. The timeout of the connect is 5 seconds, or the response timeout if
+    /// that is shorter. The response timeout begins before the connect.
     pub(crate) fn open(
         clock: &'a C,
         port: u16,

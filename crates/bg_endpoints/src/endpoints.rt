@@ -28,8 +28,10 @@ impl<'a, R: Net + Clock> Endpoints<'a, R> {
 impl<'a, R: Net + Clock> Dial for Endpoints<'a, R> {
     type Stream = Connection<'a, R>;
 
-    /// Connects to an endpoint. The connect takes at most 5 seconds. A port of the switch itself is
-    /// refused with `InvalidInput`, without a connection.
+    /// Connects to an endpoint. A port of the switch itself is refused with `InvalidInput`, without a
+    /// connection. The connect fails with `TimedOut` after 5 seconds, or after the response timeout if that
+    /// is shorter. If no descriptor is free, the call waits for one before, for about a second. Any other
+    /// error is the system's.
     fn dial(&self, port: u16) -> io::Result<Connection<'a, R>> {
         if self.own.is_own(port) {
             return Err(io::Error::from(ErrorKind::InvalidInput));

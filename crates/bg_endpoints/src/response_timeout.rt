@@ -8,7 +8,7 @@ const SILENT_SECONDS: u64 = 30;
 /// The timeout of an endpoint's response.
 #[derive(Clone, Copy, Debug, Drop, PartialEq, Eq)]
 pub struct ResponseTimeout {
-    /// The maximum number of seconds from the start of a connect to the end of the response.
+    /// The maximum number of seconds from the start of a connect to the end of the response, at least 1.
     pub seconds: u64,
     /// Whether the user of the switch set the seconds. If not, they are the default.
     pub is_given: bool,

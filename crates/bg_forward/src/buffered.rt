@@ -11,8 +11,8 @@ use std::io::{ErrorKind, Write};
 /// The size of the buffer in bytes.
 const ROOM: usize = 4096;
 
-/// A stream whose writes are buffered, up to 4,096 bytes. The buffer is written when it is full, or
-/// at `flush`, so a message head that fits goes out in one write. Buffered bytes are lost when this
+/// A stream whose writes are buffered, up to 4,096 bytes. The buffer is written before bytes that do
+/// not fit, and at `flush`, so a message head that fits goes out in one write. Buffered bytes are lost when this
 /// is dropped.
 ///
 /// std's `BufWriter` drops its writer if an allocation fails. Here each write then goes to the

@@ -67,7 +67,8 @@ impl Reason {
         }
     }
 
-    /// The reason's name in an access log.
+    /// The reason's name. For `Malformed` it is `head`, although the fault can be one of the body or of
+    /// the trailers.
     pub fn name(&self) -> &'static str
         ensures { result.now ≡ reason_name self.now }
     {

@@ -4,7 +4,8 @@ use Rattle.bg_history.specs.declared.entry.Entry.{Entry}
 use Rattle.bg_history.specs.declared.entry.Entry.TheVariants.{Deploy, Available, Retry, Outcome}
 use Rattle.bg_history.specs.declared.entry.Outcome.TheVariants.{Resumed, ScaledDown, Removed}
 
--- the entry adds, resizes and removes no revision
+-- the entry adds and removes no revision, and changes neither how many endpoints of one are desired nor how many are
+-- available
 abbrev pub resizes_none : Entry → Bool
 resizes_none (Deploy r name ports) = false
 resizes_none (Available r n) = false

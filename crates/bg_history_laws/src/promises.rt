@@ -68,9 +68,9 @@ pub fn drained_is_scaled_down()
 
 /// A switch loses no request. An open request stays open at its revision and its port until it leaves, and until then
 /// its revision exists, is scaled and keeps its ports. This holds regardless of the entries that follow (`served`), at
-/// each step of another event (`stepped`, which requires nothing of the past), and after compaction (`compacted`). It
-/// holds for every open request (`every`). A Leave takes the request that its own seat holds, and no other open
-/// request has that number (`own`).
+/// each step of another event (`stepped`, which requires of the past only that the request is served there), and after
+/// compaction (`compacted`). It holds for every open request (`every`). A Leave takes the open request of its number,
+/// which is one of its own seat and revision (`own`).
 pub fn keeps_requests()
     ensures every { (s : Strategy) (o : Opening) (closed : List ℕ) (past : List Entry) (q : Request)
         → IsLegal s o closed past → open_request q.number past ≡ Some q

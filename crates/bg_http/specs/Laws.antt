@@ -13,7 +13,7 @@ StaysHere fields name =
     (has_field name (kept_in_request fields) ≡ false)
     × (has_field name (kept_in_response fields) ≡ false)
 
--- a request that is accepted is framed by at most one field
+-- a request that is accepted never has both Transfer-Encoding and Content-Length
 abbrev pub IsFramedOnce : RequestHead → Framing → Type 0
 IsFramedOnce head framing =
     request_framing head ≡ Ok framing

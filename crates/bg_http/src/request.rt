@@ -29,6 +29,6 @@ pub struct Request {
     pub minor: u8,
     /// The fields as they were received. Their values have no spaces and tabs at either end.
     pub fields: Fields,
-    /// The body; `None` if the head gives no length.
+    /// The body; `None` if the head has neither Content-Length nor Transfer-Encoding.
     pub body: Option<Bytes>,
 }

@@ -22,8 +22,8 @@ pub enum RequestFault {
     /// The input ended before the end of the request.
     #[error("the connection was closed")]
     Closed,
-    /// The request asks for something that is not supported: `CONNECT`, or a coding other than
-    /// `chunked`.
+    /// The request asks for something that is not supported: `CONNECT`, or a coding before the last
+    /// one, which is `chunked`.
     #[error("the request is not supported")]
     NotDone,
     /// The body is longer than the limit.

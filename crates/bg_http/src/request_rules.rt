@@ -17,7 +17,7 @@ use crate::request_fault::RequestFault;
 /// The framing of a message's body (RFC 9112 section 6.3).
 #[derive(Clone, Copy, PartialEq, Eq, Debug, Drop)]
 pub enum Framing {
-    /// There is no body: no length was given.
+    /// There is no body: the head has neither Content-Length nor Transfer-Encoding.
     NoBody,
     /// The body is chunked.
     Chunks,

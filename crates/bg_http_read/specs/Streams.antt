@@ -11,8 +11,8 @@ use Rattle.bg_http_read.specs.declared.intake.Intake.{Intake}
 abbrev pub waiting : Intake → List ℕ
 waiting intake = drop intake.taken intake.bytes.items
 
--- if the bytes that were to come and those that are still to come are known, this relation holds
--- between them
+-- if the bytes that were to come are known, those that are still to come are known too, and this
+-- relation holds between them
 abbrev pub Leaves : (List ℕ → List ℕ → Type 0) → Option (List ℕ) → Option (List ℕ) → Type 0
 Leaves P None after = ⊤
 Leaves P (Some input) None = ⊥

@@ -18,7 +18,7 @@ fn from_line_end(bytes: &[u8]) -> &[u8]
 }
 
 /// The position that the bytes of a head reach. A head ends at the first empty line after a line
-/// that is not empty, so nothing is parsed before that line.
+/// that is not empty, so bytes that follow others are not parsed before that line.
 #[derive(Clone, Copy, PartialEq, Eq, Debug, Drop)]
 pub(crate) enum HeadEnd {
     /// Only empty lines came.

@@ -6,7 +6,8 @@ use crate::request_read::read_request;
 use bg_http::{MemoryStream, Request, RequestFault};
 use std::alloc::Global;
 
-/// Reads the request at the front of bytes, as `read_request` does. Writes no `100 Continue`.
+/// Reads the request at the front of bytes, as `read_request` does. A `100 Continue` goes to memory
+/// and is dropped; the fault is WriteFailed if the allocation for it fails.
 pub fn request_in(alloc: Global, bytes: &[u8]) -> Result<Request, RequestFault>
     ensures request { IfOk result (λ request.
         (rest : List ℕ) × ReadsRequest bytes.now request rest) }

@@ -69,8 +69,8 @@ impl RequestParser {
     /// at most once, and before the first step that concerns the body.
     ///
     /// The faults are those of `read_request` that no further bytes can repair, and OutOfMemory,
-    /// which may come before another fault. A fault of the head is reported after an empty line,
-    /// after 16,384 bytes, or at the end. After a request or a fault, the caller neither feeds nor
+    /// which may come before another fault. A fault of the head is reported when its bytes are
+    /// parsed: at the first call, after an empty line, after 16,384 bytes, or at the end. After a request or a fault, the caller neither feeds nor
     /// ends the parser.
     pub fn feed(&mut self, bytes: &[u8]) -> Result<RequestStep, RequestFault>
         requires { IsTrue self.old.is_open }

@@ -69,8 +69,8 @@ impl<'a> ResponseParser<'a> {
     /// the end of the input are needed. Bytes after the response are dropped.
     ///
     /// The faults are those of `read_response` that no further bytes can repair, and OutOfMemory,
-    /// which may come before another fault. A fault of the head is reported after an empty line,
-    /// after 16,384 bytes, or at the end. After a response or a fault, the caller neither feeds nor
+    /// which may come before another fault. A fault of the head is reported when its bytes are
+    /// parsed: at the first call, after an empty line, after 16,384 bytes, or at the end. After a response or a fault, the caller neither feeds nor
     /// ends the parser.
     pub fn feed(&mut self, bytes: &[u8]) -> Result<Option<Response>, ResponseFault>
         requires { IsTrue self.old.is_open }

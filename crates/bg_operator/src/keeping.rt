@@ -29,7 +29,7 @@ impl<R: Read> Keeping<R> {
     }
 
     /// Gives the bytes that were kept, and keeps nothing from then on. `None` if an allocation
-    /// failed.
+    /// failed, or if the bytes were taken before.
     pub fn take_kept(&mut self) -> Option<Vec<u8>>
         ensures { keeping_remaining R.remaining self.new ≡ keeping_remaining R.remaining self.old }
     {

@@ -36,7 +36,7 @@ pub record Core : Type 0 where
   pub attempt : Attempt
   -- the revision that the active service selects
   pub active : ℕ
-  -- the revision that was last promoted
+  -- the revision that was last promoted; 1 before the first promotion
   pub stable : ℕ
-  -- the revision that was last deployed
+  -- the revision that was last deployed; 1 before the first deploy
   pub newest : ℕ

@@ -19,7 +19,7 @@ use std::marker::Model;
 
 /// The part of a rollout's state that promotes a new revision.
 ///
-/// A core represents a past if each of its fields is what the past says (`specs/PartsRepresent.antt`). The contract of each
+/// A core represents a past if each of its fields is what the past says (`specs/Represents.antt`). The contract of each
 /// call holds for every past that the core represents. No call allocates. A caller can try a command on a copy of the
 /// core to learn its answer.
 #[derive(Clone, Copy, Drop, Debug)]

@@ -13,7 +13,8 @@ pub struct Revision {
     pub ports: Ports,
     /// The number of endpoints that the revision wants; 0 if it is scaled down.
     pub desired: u32,
-    /// The number of available endpoints by the last report. A report has at most the number wanted at that time.
+    /// The number of available endpoints by the last report since the revision was scaled down, else 0. A report has
+    /// at most the number wanted at that time.
     pub available: u32,
 }
 
@@ -33,8 +34,8 @@ pub struct Selectors {
     pub active: u64,
     /// The revision that the preview service selects.
     pub preview: u64,
-    /// The revision that was last promoted.
+    /// The revision that was last promoted; 1 before the first promotion.
     pub stable: u64,
-    /// The revision that was last deployed.
+    /// The revision that was last deployed; 1 before the first deploy.
     pub newest: u64,
 }

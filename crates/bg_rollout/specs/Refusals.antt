@@ -143,8 +143,8 @@ abbrev pub AnswersBy : {A F : Type 0} → Option F → F → Result A F → Type
 AnswersBy refusal out_of_memory (Ok a) = refusal ≡ None
 AnswersBy refusal out_of_memory (Err e) = IsRefusedBy refusal out_of_memory e
 
--- the ticket of a request that enters at a service: the next number, the selected revision, and one of that
--- revision's ports in turn
+-- the ticket of a request that enters at a service: the next number, the selected revision, and the port that this
+-- number chooses among the available ones of that revision
 pub record IsTicket (b : Routing) (service : Service) (t : Ticket) : Type 0 where
   pub number_is : t.number ≡ given b.closed b.past + 1
   pub revision_is : selection b.strategy service b.past ≡ Some t.revision

@@ -6,7 +6,7 @@ ghost use Rattle.bg_rollout.specs.Refusals.{usual_limits};
 /// outcomes after it.
 pub const PLACES_OF_A_REQUEST: u64 = 3;
 
-/// The greatest number of entries that an event makes: its own and 140 outcomes.
+/// A bound on the entries that an event makes: its own and at most 140 outcomes.
 pub const MOST_ENTRIES: u64 = 141;
 
 /// The greatest number of entries in a history, and the greatest number of requests that get a number.

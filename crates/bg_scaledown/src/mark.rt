@@ -7,7 +7,7 @@ ghost use Rattle.bg_scaledown.specs.Due.{has_left};
 pub enum Cause {
     /// The active service no longer selects it: it stays scaled for the delay.
     Left,
-    /// A deploy took its place before it was active: it may be scaled down at once.
+    /// A deploy took its place while it was neither active nor stable: it may be scaled down at once.
     Superseded,
     /// Its attempt was halted: it stays scaled for the delay of an aborted revision.
     Aborted,

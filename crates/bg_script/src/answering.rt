@@ -51,8 +51,8 @@ fn open<N: Names>(
     )
 }
 
-/// Carries out a line while no book is open. `open` gives the book or is refused; every other line
-/// is refused.
+/// Carries out a line while no book is open. `open` gives the book or is refused; every other
+/// command is refused. A line that gives no command is answered with its fault.
 pub fn begin<N: Names>(
     terms: &Terms,
     read: &Result<Command, LineFault>,

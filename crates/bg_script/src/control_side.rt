@@ -58,8 +58,8 @@ pub enum ControlEnd {
 /// If a line gives no command and is a request line or a field line of HTTP
 /// ([`OperatorLines::speaks_http`]), the answer is its fault, and no line after it is read. A browser
 /// sends such lines before the lines of a request's body, which no operator has written. The answer to
-/// `enter` and `leave` is `refused NotHere`, to other calls `refused NotOpen`, and to a line that gives
-/// no command its fault. A `RunEnd` comes if a read, a write or the allocation for a line fails, and
+/// `enter` and `leave` is `refused NotHere`, to other commands `refused NotOpen`, and to a line that
+/// gives no command its fault. A `RunEnd` comes if a read, a write or the allocation for a line fails, and
 /// after 2^24 lines.
 pub fn answer_before_open<B: BufRead, W: Write>(
     lines: &mut OperatorLines,
@@ -107,10 +107,11 @@ fn opening(read: Result<Command, LineFault>) -> Result<FirstRevision, Answer>
 ///
 /// If a line gives no command and is a request line or a field line of HTTP, the answer is its fault, and no
 /// line after it is read. The answer to an event is that of [`Desk::control`]; if that is `HistoryFull`, the
-/// history is compacted and the desk is asked again. The answer to `report` is the report, to `compact` the
-/// number of entries that were dropped, to `open` `refused AlreadyOpen`, to `enter` and `leave`
-/// `refused NotHere`, and to a line that gives no command its fault. Nothing is written while the desk is locked. A
-/// `RunEnd` comes if a read, a write or the allocation for a line fails, and after 2^24 lines.
+/// history is compacted and the desk is asked again. The answer to `report` is the report, or
+/// `refused OutOfMemory` if the allocation for it fails. The answer to `compact` is the number of entries that
+/// were dropped, to `open` `refused AlreadyOpen`, to `enter` and `leave` `refused NotHere`, and to a line that
+/// gives no command its fault. Nothing is written while the desk is locked. A `RunEnd` comes if a read, a write
+/// or the allocation for a line fails, and after 2^24 lines.
 ///
 /// Each event whose answer is `refused HistoryFull` adds 1 to `refused_for_room`.
 pub fn answer_at_desk<N: Names, R: Wait, B: BufRead, W: Write>(

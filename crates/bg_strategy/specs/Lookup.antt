@@ -47,7 +47,7 @@ found_in place key kind d =
 abbrev pub found_by_rule : FieldRule → Data → Option Data
 found_by_rule e d = found_in e.place e.key e.kind d
 
--- the value that a document gives for a field; null and a service name with no bytes count as absent
+-- the value that a document gives for a field; null in it and a service name with no bytes count as absent
 abbrev pub found : Field → Data → Option Data
 found f d = found_by_rule (field_rule f) d
 

@@ -10,7 +10,8 @@ use thiserror::Error;
 /// The reason why `read` gives no strategy.
 #[derive(Clone, Copy, Debug, Drop, PartialEq, Eq, Error)]
 pub enum StrategyFault {
-    /// The bytes are not a JSON text.
+    /// The bytes are not a JSON text, or one that `serde_json` refuses: nested more than 127 levels deep, or with a
+    /// number that is too large for a float.
     #[error("the input is not JSON")]
     NotJson,
     /// A required field is absent or null, or it is a service name with no bytes.

@@ -18,8 +18,8 @@ use std::alloc::{AllocError, Global};
 /// Reads the strategy of a Rollout from its JSON text, in the form that `kubectl get -o json` writes
 /// (Argo Rollouts, "Rollout Specification" and "BlueGreen Deployment Strategy").
 ///
-/// A field that is null counts as absent, and so does a service name with no bytes. Unknown fields are
-/// ignored. The error is the first fault in this order: `NotJson`, `Missing`, `WrongType`, `OutOfRange`,
+/// A field that is null counts as absent, and so does a service name with no bytes. A document that is
+/// null has the wrong type. Unknown fields are ignored. The error is the first fault in this order: `NotJson`, `Missing`, `WrongType`, `OutOfRange`,
 /// `SameService`. Of several fields with the same kind of fault, it names the first in the order of
 /// `Field`. The error is `OutOfMemory` if an allocation fails, even if the document has another fault.
 pub fn read(alloc: Global, bytes: &[u8]) -> Result<Strategy, StrategyFault>

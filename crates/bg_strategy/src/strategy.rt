@@ -19,18 +19,21 @@ pub struct Strategy {
     pub preview_replicas: u32,
     /// Whether a new revision is promoted without an operator: `autoPromotionEnabled`.
     pub auto_promotion: bool,
-    /// The length of the pause before that promotion, in seconds: `autoPromotionSeconds`; 0 means no pause.
+    /// The length of the pause before that promotion, in seconds: `autoPromotionSeconds`; 0 means no pause. Without
+    /// `auto_promotion`, a pause lasts until an operator ends it.
     pub auto_seconds: u32,
     /// Whether the switch waits for an analysis: `prePromotionAnalysis`.
     pub pre: bool,
     /// Whether an analysis follows the switch: `postPromotionAnalysis`.
     pub post: bool,
-    /// How long an old revision stays scaled after the switch, in seconds: `scaleDownDelaySeconds`.
+    /// How long a revision stays scaled after it left the active service, in seconds: `scaleDownDelaySeconds`. It is
+    /// due earlier if `revision_limit` is reached, and stays longer while it has open requests.
     pub delay: u32,
-    /// How many old revisions may stay scaled: `scaleDownDelayRevisionLimit`; `None` means no limit.
+    /// How many revisions that left the active service may stay scaled: `scaleDownDelayRevisionLimit`; `None` means
+    /// no limit.
     pub revision_limit: Option<u32>,
     /// How long an aborted revision stays scaled, in seconds: `abortScaleDownDelaySeconds`; 0 means
-    /// without limit.
+    /// without limit. A deploy of another revision makes it due at once.
     pub abort_delay: u32,
     /// How long the open requests of a draining revision may last after its deadline, in seconds:
     /// `drainLimitSeconds`; `None` means without limit. Argo Rollouts has no such field.

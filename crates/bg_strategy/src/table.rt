@@ -25,7 +25,8 @@ pub enum Field {
     ActiveService,
     /// `previewService` of `blueGreen`: the name of a service.
     PreviewService,
-    /// `previewReplicaCount` of `blueGreen`: at least 1. `replicas` is the default and the maximum.
+    /// `previewReplicaCount` of `blueGreen`: at least 1. The default is `replicas`, and a greater number counts as
+    /// `replicas`.
     PreviewReplicaCount,
     /// `autoPromotionEnabled` of `blueGreen`; the default is true.
     AutoPromotionEnabled,

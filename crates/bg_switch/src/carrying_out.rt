@@ -10,7 +10,8 @@ use std::alloc::Global;
 use std::io::{BufWriter, Read, Write};
 
 /// [`check`] over a writer to which it adds a buffer. Returns the exit status, and the writer after
-/// all is written.
+/// all is written. The errors are those of [`check`], `OutOfMemory` if the allocation for the buffer fails,
+/// and `WriteFailed` if the last write fails.
 pub fn check_buffered<R: Read, W: Write + Drop>(
     alloc: Global,
     reader: &mut R,
@@ -25,7 +26,8 @@ pub fn check_buffered<R: Read, W: Write + Drop>(
 }
 
 /// [`replay`] over a writer to which it adds a buffer. Returns the exit status, and the writer after
-/// all is written.
+/// all is written. The errors are those of [`replay`], `OutOfMemory` if the allocation for the buffer fails,
+/// and `WriteFailed` if the last write fails.
 pub fn replay_buffered<R: Read, W: Write + Drop>(
     alloc: Global,
     seats: u8,

@@ -149,8 +149,8 @@ fn add_to_log<R: Clock + Wait>(
     );
 }
 
-/// The name of a reason. A fault that is told of a request whose head has none is one of its body, or of
-/// the trailers behind that.
+/// The name of a reason in the log. If a request is malformed or too large although its head has no fault,
+/// the fault is in its body or in its trailers, and the name is `body`.
 fn reason_name<R: Clock>(
     reason: Option<Reason>,
     connection: &Connection<R>,

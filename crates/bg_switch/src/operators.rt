@@ -47,7 +47,8 @@ impl<'c, 't, R: Clock + Wait> Operator<'c, 't, R> {
         answer_before_open(&mut self.lines, &mut self.reader, &mut self.writer)
     }
 
-    /// Answers lines by the book of a desk. Those that are refused since the history is full are told.
+    /// Answers lines by the book of a desk. Counts, for `telling`, those that are refused because the history
+    /// is full.
     pub fn at_desk<N: Names>(
         &mut self,
         rt: &R,

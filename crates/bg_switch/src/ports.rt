@@ -14,7 +14,7 @@ use std::{fmt, io};
 /// The number of descriptors that are kept free for operators and for the control port itself.
 const CONTROL_DESCRIPTORS: usize = 6;
 
-/// The port that cannot be bound, and the system's reason.
+/// The port that cannot be bound or set up, and the reason.
 #[derive(Debug, Drop)]
 pub struct BindFault {
     /// The word of the command line that gives the port.
@@ -46,7 +46,8 @@ pub struct Ports {
 
 impl Ports {
     /// Listens at the ports of a site, which are bound in the order active, preview, control.
-    /// `request_seconds` is the timeout of a client's request.
+    /// `request_seconds` is the timeout of a client's request. The error names the first port that cannot be
+    /// bound. If all are bound, it names the first one for which another system call or an allocation fails.
     pub fn bind<R: Net<Listener = TcpListener, Stream = TcpStream> + Clock>(
         rt: &R,
         alloc: Global,

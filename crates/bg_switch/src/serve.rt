@@ -16,17 +16,19 @@ use std::sync::Wait;
 use std::thread::Threads;
 use std::time::Clock;
 
-/// Reads the whole input as the JSON text of a strategy, and serves clients by this strategy and by the lines of
-/// operators. A request and a response each have to be complete within the timeout. If there is a log, each ended
-/// connection is logged. Returns the exit status: 1 if the strategy has a fault or a port cannot be bound, for which it
-/// writes a line, and otherwise 0.
+/// Reads the whole input as the JSON text of a strategy, and serves clients by this strategy and by the
+/// lines of operators. A request and a response each have to be complete within the timeout. If there is a
+/// log, each ended connection is logged. Returns the exit status: 1 if the strategy has a fault or a port
+/// cannot be bound, for which it writes a line, and otherwise 0. The error is `ReadFailed` or `OutOfMemory`
+/// if the strategy cannot be read, and `WriteFailed` if a write to `output` fails.
 ///
 /// Writes `listening` after the ports are bound. An `open` of an operator opens the book. Each worker
 /// then takes its connections, and operators are answered up to `quit`. When all are done, it writes
 /// the report and the number of the workers' calls. It writes nothing more if no book was opened.
 ///
-/// To `errors` it writes why the strategy is not valid JSON, which of its keys look misspelt, and
-/// which port cannot be bound and why. A failed write to `errors` changes nothing else.
+/// To `errors` it writes why the strategy is not valid JSON, which of its keys look misspelt, that a
+/// preview port has no effect, and which port cannot be bound and why. A failed write to `errors` changes
+/// nothing else.
 pub fn serve<R, I: Read, W: Write, E: Write>(
     rt: &R,
     alloc: Global,

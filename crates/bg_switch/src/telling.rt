@@ -40,7 +40,8 @@ enum Notice<'a> {
         used: u64,
         most: u64,
     },
-    /// So many lines and requests were refused since the history is full, since that was told last.
+    /// The numbers of lines and requests that were refused because the history is full, since the last such
+    /// notice.
     HistoryFull {
         lines: u64,
         requests: u64,
@@ -99,8 +100,10 @@ impl Told {
 
 /// Writes notices to standard error while the ports are open: fewer threads than ordered, failed
 /// accepts, a port that is closed because its workers have taken all their connections, a history that is
-/// nearly full, and lines and requests that are refused because it is full. Each is written once, except the
-/// last: it is written each second in which something was refused. A failed write changes nothing else.
+/// nearly full, and lines and requests that are refused because it is full. Each is written once, or once
+/// for each client port, with two exceptions. Failed accepts at the control port are told once for each
+/// series of failures. The last notice is written each second in which something was refused. A failed
+/// write changes nothing else.
 #[derive(Drop)]
 pub struct Telling<'p> {
     alloc: Global,
@@ -113,9 +116,9 @@ pub struct Telling<'p> {
     /// The number of seconds since the book was opened.
     open_seconds: AtomicU64,
     nearly_full: AtomicBool,
-    /// How many lines were refused since the history is full, of which nothing was told yet.
+    /// The number of lines that were refused because the history is full, since the last notice about that.
     refused_lines: AtomicU64,
-    /// How many requests were.
+    /// The number of such requests.
     refused_requests: AtomicU64,
 }
 
@@ -141,7 +144,8 @@ impl<'p> Telling<'p> {
         self.is_open.store(true, Ordering::SeqCst);
     }
 
-    /// Notes that the history holds this many entries.
+    /// Notes that the history holds this many entries. Writes the notice if that is at least nine tenths of
+    /// its maximum.
     pub fn note_entries(&self, used: u64) {
         let most = Limits::usual().entries;
         if used >= most / 10 * 9 {
@@ -149,7 +153,7 @@ impl<'p> Telling<'p> {
         }
     }
 
-    /// Counts the lines that are refused because the history is full.
+    /// The counter of the lines that are refused because the history is full.
     pub fn refused_lines(&self) -> &AtomicU64 {
         &self.refused_lines
     }

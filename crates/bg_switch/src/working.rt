@@ -164,7 +164,7 @@ where
     );
 }
 
-/// Runs the event loops of the client ports until the ports are closed and nothing is pending.
+/// Runs the event loops of the client ports. Returns when both have ended.
 fn run_event_loops<R: Threads + Wait + Clock + Sync>(rt: &R, ports: &Ports) {
     join_mut(
         rt,

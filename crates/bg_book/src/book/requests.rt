@@ -20,7 +20,8 @@ use bg_rollout::{EnterFault, GoOn, Left, PLACES_OF_A_REQUEST, Ticket, laws as ro
 
 impl<N: Names> Book<N> {
     /// Records that a request enters at a service. The request gets the next number, from 1, the revision that the
-    /// service selects, and one of that revision's available ports in turn.
+    /// service selects, and the port of that revision's available ones at the place that is the request's number
+    /// modulo how many are available. Both services share the numbers.
     ///
     /// An error changes nothing. It is the first of these that applies: `NoPreview` if the service is the preview
     /// service and none is set; `NoEndpoints` if the revision has no endpoint available; `NumbersSpent` if all numbers

@@ -20,10 +20,11 @@ impl Deadlines {
     /// the newest revision was scaled before it, and `now` is the moment, in seconds from the start. If every entry of
     /// a history is recorded, the marks are those that the history makes.
     ///
-    /// There must be room for each revision that the entry may mark: it has a mark already, or fewer than 64 revisions
-    /// have one. An entry marks at most one revision, with two exceptions, which mark two: a deploy of the stable
-    /// revision that supersedes the newest one while a third is active, and the halt of an attempt while an older
-    /// revision than its own is active and not stable.
+    /// There must be room for each revision that the entry may mark (`may_mark`): those of them that have no mark yet
+    /// and the existing marks are at most 64 together. An entry marks at most one revision, with two exceptions, which
+    /// mark two: a deploy of the stable revision that supersedes the newest one while a third is active, and the halt
+    /// of an attempt while an older revision than its own is active and not stable. For every halt there must be room
+    /// for the newest and the active revision.
     pub fn record(&mut self, entry: &Entry, selectors: Selectors, newest_is_scaled: bool, now: u64)
         requires room { has_room_for (may_mark entry.now selectors) self.old.marks ≡ true }
         requires moment { now ≤ 2 ^ 53 }
