@@ -1,6 +1,7 @@
 """The tools, by their names. bin/operator, bin/controller, bin/analysis and bin/dashboard start them, and so does the one file
 that `make tools` makes."""
 import contextlib
+import io
 import os
 import sys
 
@@ -11,7 +12,21 @@ TOOLS = {"operator": operator_command.main, "controller": controller_command.mai
          "dashboard": dashboard_command.main}
 
 
+def prepare_streams() -> None:
+    """Opens each standard stream that was closed, so that no file or socket takes its place. A path that is not UTF-8 can be
+    printed."""
+    while (opened := os.open(os.devnull, os.O_RDWR)) <= 2:
+        pass
+    os.close(opened)
+    sys.stdin = sys.stdin or open(os.devnull, encoding="utf-8")
+    sys.stdout = sys.stdout or open(os.devnull, "w", encoding="utf-8")
+    sys.stderr = sys.stderr or open(os.devnull, "w", encoding="utf-8")
+    if isinstance(sys.stdout, io.TextIOWrapper) and sys.stdout.errors == "strict":
+        sys.stdout.reconfigure(errors="backslashreplace")
+
+
 def main() -> int:
+    prepare_streams()
     if len(sys.argv) < 2 or sys.argv[1] not in TOOLS:
         print("operator, controller, analysis or dashboard is wanted, and the words of that tool after it", file=sys.stderr)
         return 2

@@ -242,23 +242,9 @@ def cut_in_answer(client: socket.socket, _: Asked, __: Endpoints) -> tuple[bool,
 ENDS = {"silent": close, "part": close, "silent_reset": cut, "part_reset": cut, "given_up": give_up, "cut_in_answer": cut_in_answer}
 
 
-class Line(NamedTuple):
-    """What a line of the log says, but for times and the number of the request."""
-    service: str
-    revision: int | None
-    port: int | None
-    method: str | None
-    target: str | None
-    status: int | None
-    end: str
-    reason: str | None
-    request_bytes: int | None
-    response_bytes: int | None
-
-
-def line_of(entry: Entry) -> Line:
-    return Line(entry.service, entry.revision, entry.port, entry.method, entry.target, entry.status, entry.end, entry.reason,
-                entry.request_bytes, entry.response_bytes)
+def without_times(entry: Entry) -> Entry:
+    """The entry without times and without the number of its request, which a client can't tell."""
+    return entry._replace(time=0, request=None, duration_ms=0, upstream_ms=None)
 
 
 def shown(asked: Asked) -> tuple[str | None, str | None]:
@@ -272,26 +258,29 @@ def shown(asked: Asked) -> tuple[str | None, str | None]:
 REASONS = {"malformed": "response_malformed", "too_large": "response_too_large", "timeout": "response_timeout"}
 
 
-def wanted_line(seen: Seen, served: Served | None, dead: int) -> Line:
-    """What the log has to say of a connection."""
+def wanted_entry(seen: Seen, served: Served | None, dead: int) -> Entry:
+    """What the log has to say of a connection, without times and numbers."""
     asked, answer = seen.asked, seen.answer
-    line = Line(asked.service, None, None, *shown(asked), status_of(answer), "refused", None, len(asked.text), len(answer))
+    method, target = shown(asked)
+    entry = Entry(time=0, service=asked.service, revision=None, request=None, port=None, method=method, target=target,
+                  status=status_of(answer), end="refused", reason=None, request_bytes=len(asked.text),
+                  response_bytes=len(answer), duration_ms=0, upstream_ms=None)
     if asked.kind.startswith(("silent", "part")):
-        return line._replace(end="read_failed" if asked.kind.endswith("reset") else "closed")
+        return entry._replace(end="read_failed" if asked.kind.endswith("reset") else "closed")
     if asked.kind in ("head", "body"):
-        return line._replace(status=asked.status, reason=asked.kind)
+        return entry._replace(status=asked.status, reason=asked.kind)
     if asked.kind in ("no_preview", "no_endpoint"):
-        return line._replace(status=503, reason=asked.kind)
-    line = line._replace(revision=1, port=served.port if served else dead)
+        return entry._replace(status=503, reason=asked.kind)
+    entry = entry._replace(revision=1, port=served.port if served else dead)
     if served is None:
-        return line._replace(reason="connect_failed")
+        return entry._replace(reason="connect_failed")
     if asked.kind == "given_up":
-        return line._replace(status=None, end="write_failed", reason="given_up", response_bytes=len(UNAVAILABLE))
+        return entry._replace(status=None, end="write_failed", reason="given_up", response_bytes=len(UNAVAILABLE))
     if asked.kind == "cut_in_answer":
-        return line._replace(status=200, end="answered", response_bytes=len(answer_of(BIG)))
+        return entry._replace(status=200, end="answered", response_bytes=len(answer_of(BIG)))
     if asked.kind == "answered":
-        return line._replace(end="answered")
-    return line._replace(reason=REASONS[asked.kind])
+        return entry._replace(end="answered")
+    return entry._replace(reason=REASONS[asked.kind])
 
 
 def status_of(answer: bytes) -> int | None:
@@ -299,15 +288,15 @@ def status_of(answer: bytes) -> int | None:
     return int(answer[9:12]) if answer else None
 
 
-def fits(line: Line, wanted: Line, kind: str) -> bool:
-    """Whether a line says what it has to. How far a request with a fault was read isn't fixed, nor whether an answer was handed over
+def fits(entry: Entry, wanted: Entry, kind: str) -> bool:
+    """Whether an entry says what it has to. How far a request with a fault was read isn't fixed, nor whether an answer was handed over
     before its client went."""
     if wanted.reason in ("head", "body"):
-        most, count = wanted.request_bytes or 0, line.request_bytes or 0
-        return 0 < count <= most and line._replace(request_bytes=most) == wanted
-    if kind == "cut_in_answer" and line.end == "write_failed":
-        return line == wanted._replace(status=None, end="write_failed", response_bytes=line.response_bytes)
-    return line == wanted
+        most, count = wanted.request_bytes or 0, entry.request_bytes or 0
+        return 0 < count <= most and entry._replace(request_bytes=most) == wanted
+    if kind == "cut_in_answer" and entry.end == "write_failed":
+        return entry == wanted._replace(status=None, end="write_failed", response_bytes=entry.response_bytes)
+    return entry == wanted
 
 
 def fits_times(entry: Entry, seen: Seen, served: Served | None) -> bool:
@@ -373,16 +362,16 @@ def check_log(the_scene: Scene, number: int, seen: Sequence[Seen]) -> None:
     check("the numbers of the requests", numbers, list(range(1, len(numbers) + 1)))
     check("requests that entered", [entry.request is None for entry in entries], [entry.revision is None for entry in entries])
     by_target = {entry.target: entry for entry in entries if entry.target is not None}
-    rest = collections.Counter(line_of(entry) for entry in entries if entry.target is None)
+    rest = collections.Counter(without_times(entry) for entry in entries if entry.target is None)
     faults: dict[str, list[object]] = {"lines": [], "times": []}
     for one in seen:
         served = the_scene.endpoints.served.get(one.asked.target)
-        wanted = wanted_line(one, served, the_scene.dead)
+        wanted = wanted_entry(one, served, the_scene.dead)
         entry = by_target.pop(wanted.target, None) if wanted.target is not None else None
         if wanted.target is None:
             rest[wanted] -= 1
-        elif entry is None or not fits(line_of(entry), wanted, one.asked.kind):
-            faults["lines"].append((one.asked.kind, entry and line_of(entry), wanted))
+        elif entry is None or not fits(without_times(entry), wanted, one.asked.kind):
+            faults["lines"].append((one.asked.kind, entry and without_times(entry), wanted))
         elif not fits_times(entry, one, served):
             faults["times"].append((one.asked.kind, entry, one.ended - one.begun, served))
     for name, found in faults.items():

@@ -3,6 +3,7 @@ import json
 import pathlib
 import tempfile
 import unittest
+from collections.abc import Callable
 from unittest import mock
 
 from bg_switch_tools import access_log
@@ -40,7 +41,10 @@ class Lines(unittest.TestCase):
                     read_line(json.dumps(told).encode())
         for told in (b"", b"{}", b"[]", LINE[:-1], LINE.replace(b"active", b"both"), LINE.replace(b"answered", b"gone"),
                      LINE.replace(b"4.25", b"NaN"), LINE.replace(b"4.25", b"1e999"), LINE.replace(b"4.25", b"-1"),
-                     LINE.replace(b".042Z", b""), b'{"time": "now", "lost": 1}', b"\xff", b"[" * 100000):
+                     LINE.replace(b".042Z", b""), b'{"time": "now", "lost": 1}', LINE.replace(b"4.25", b"1" * 400),
+                     LINE.replace(b"4.25", b"1.7e308"), LINE.replace(b'"upstream_ms":3', b'"upstream_ms":1e999'),
+                     LINE.replace(b'"response_bytes":5', b'"response_bytes":' + b"5" * 400),
+                     b'{"time": "2026-11-25T18:03:12Z", "lost": ' + b"1" * 400 + b"}", b"\xff", b"[" * 100000):
             with self.subTest(line=told[:80]), self.assertRaises(NoEntry):
                 read_line(told)
 
@@ -79,6 +83,23 @@ class Files(unittest.TestCase):
         self.assertEqual(self.numbers(follower), [1, 2, 3, 4, 5])
         self.assertFalse(follower.is_behind)
 
+    def test_nothing_is_from_before_once_the_file_is_replaced_or_cut(self) -> None:
+        """Also where the new file is smaller than the one that was followed first."""
+        def cut() -> None:
+            self.log.path.write_bytes(b"")
+        changes: tuple[Callable[[], object], ...] = (self.log.rename, cut)
+        for change in changes:
+            cut()
+            self.log.add(self.told[:50])
+            follower = self.follow(1 << 20)
+            self.assertEqual((len(self.numbers(follower)), follower.is_behind), (50, False))
+            change()
+            self.log.add(self.told[50:])
+            self.assertEqual((self.numbers(follower), follower.is_behind), (list(range(51, 61)), False))
+            with mock.patch.object(access_log, "READ_ON_SECONDS", 0.0):
+                follower.read()
+            self.assertEqual((len(follower.files), follower.is_behind), (1, False))
+
     def test_a_line_that_comes_in_pieces(self) -> None:
         line = written(self.told[0])
         for cut in (1, 40, len(line) - 1):
@@ -102,6 +123,14 @@ class Files(unittest.TestCase):
         self.log.add(self.told[8:9])
         self.assertEqual(self.numbers(follower), [8, 9])
         self.assertEqual(follower.fault, "")
+
+    def test_a_file_that_is_moved_away_and_back(self) -> None:
+        follower = self.follow()
+        moved = self.log.rename()
+        self.assertEqual((self.numbers(follower), follower.fault), ([], "No such file or directory"))
+        moved.rename(self.log.path)
+        self.log.add(self.told[:2])
+        self.assertEqual((self.numbers(follower), follower.fault), ([1, 2], ""))
 
     def test_a_replaced_file_is_closed_after_a_while(self) -> None:
         follower = self.follow()
@@ -137,8 +166,11 @@ class Files(unittest.TestCase):
     def test_a_large_file_is_read_in_pieces(self) -> None:
         follower = self.follow()
         self.log.add(self.told)
+        seen: list[int | None] = []
         with mock.patch.object(access_log, "PIECE", 1000):
-            seen = [number for _ in range(40) for number in self.numbers(follower)]
+            seen += self.numbers(follower)
+            while follower.has_more:
+                seen += self.numbers(follower)
         self.assertEqual(seen, list(range(1, 61)))
 
     def test_a_file_that_cannot_be_read(self) -> None:

@@ -6,14 +6,16 @@ import os
 import pathlib
 import tempfile
 import threading
+import time
 import unittest
 from collections.abc import Callable, Sequence
 from typing import NamedTuple
 from unittest import mock
 
-from bg_switch_tools.access_log import Entry
+from bg_switch_tools import access_log, analysis_command
+from bg_switch_tools.access_log import Entry, written
 from bg_switch_tools.analysis_command import main
-from bg_switch_tools.measuring import Analyser, Limits, measure, quantile
+from bg_switch_tools.measuring import Analyser, Limits, measure, quantile, request_of
 from bg_switch_tools.words import count_of, milliseconds_of, port_of, seconds_of, share_of
 from tests.fake_switch import FakeSwitch
 from tests.synthetic_log import ANSWERED, GrowingLog, Part, entries
@@ -42,12 +44,14 @@ class Measured(unittest.TestCase):
                 (requests(100, 9, 301), Limits(0.05, 300, 1, 0), ("errors are above 5%", "p99 is above 300 ms")),
                 (requests(100, 0, 999, 299), Limits(None, 300, 1, 0, True), ()),
                 (requests(100, 0, 9, 301), Limits(None, 300, 1, 0, True), ("p99 is above 300 ms",)),
-                (requests(100, 100, 9, None), Limits(None, 300, 1, 0, True), ())):
-            self.assertEqual(measure(told, limits).problems, wanted)
+                (requests(100, 100, 9, None), Limits(None, 300, 1, 0, True), ("no endpoint has answered",)),
+                (requests(100, 0, 9, None), Limits(0.01, None, 1, 0, True), ())):
+            self.assertEqual(measure([request_of(entry, limits) for entry in told], limits).problems, wanted)
 
     def test_requests_without_an_answer_are_errors(self) -> None:
         unanswered = [ANSWERED._replace(status=None, end="write_failed")] * 2
-        self.assertEqual(measure(requests(98) + unanswered, LIMITS).errors, 2)
+        told = [request_of(entry, LIMITS) for entry in requests(98) + unanswered]
+        self.assertEqual(measure(told, LIMITS).errors, 2)
 
     def test_few_requests_wait_for_more(self) -> None:
         analyser = Analyser(LIMITS)
@@ -68,6 +72,15 @@ class Measured(unittest.TestCase):
         assert measured is not None
         self.assertEqual((measured.requests, measured.errors, analyser.has_failed), (80, 20, True))
 
+    def test_the_last_measurement_fails_once(self) -> None:
+        """Also where it is made again with the rest."""
+        analyser = Analyser(LIMITS._replace(failures=1))
+        analyser.take(requests(60, 10))
+        analyser.measure()
+        analyser.take(requests(3))
+        self.assertIsNotNone(analyser.measure_rest())
+        self.assertEqual((analyser.failed, analyser.has_failed), (1, False))
+
     def test_too_few_in_all(self) -> None:
         analyser = Analyser(LIMITS)
         analyser.take(requests(49))
@@ -85,6 +98,8 @@ class Measured(unittest.TestCase):
 class Words(unittest.TestCase):
     def test_what_is_read(self) -> None:
         self.assertEqual((share_of("1%"), share_of("0.5%"), share_of("100%")), (0.01, 0.005, 1.0))
+        for tenths in range(1001):
+            self.assertEqual(share_of(f"{tenths / 10:g}%"), tenths / 1000, tenths)
         self.assertEqual((milliseconds_of("300ms"), milliseconds_of("1.5s"), milliseconds_of("0ms")), (300, 1500, 0))
         self.assertEqual((count_of("50"), port_of("8082"), seconds_of("2.5")), (50, 8082, 2.5))
 
@@ -93,7 +108,7 @@ class Words(unittest.TestCase):
             (share_of, ("1", "", "%", "101%", "-1%", "nan%", "x%")),
             (milliseconds_of, ("300", "ms", "s", "-1ms", "1m", "infs", "nans")),
             (count_of, ("", "-1", "1.5", "x", "1" * 10)),
-            (port_of, ("0", "65536", "x", "")),
+            (port_of, ("0", "65536", "x", "", "0000080829999")),
             (seconds_of, ("-1", "nan", "86401", "x")))
         for read, texts in wrong:
             for text in texts:
@@ -165,6 +180,47 @@ class Runs(unittest.TestCase):
         ended = self.analysis("--revision", "2", *FAST, *limit)
         self.assertEqual((ended.status, "No such file" in ended.printed), (2, True), ended.printed)
 
+    def test_a_log_that_cannot_be_read_at_the_end(self) -> None:
+        """Another one stands at its path that can't be read, as after a wrong `create` of logrotate."""
+        def replace() -> None:
+            self.log.rename()
+            self.log.path.mkdir()
+        self.write_later(Part(2, 100))
+        timer = threading.Timer(0.3, replace)
+        timer.start()
+        with mock.patch.object(analysis_command, "CATCH_UP", 0.3):
+            ended = self.analysis("--revision", "2", *FAST, "--errors-at-most", "1%")
+        timer.join()
+        self.assertEqual((ended.status, "it is no regular file" in ended.printed), (2, True), ended.printed)
+
+    def test_a_log_that_is_made_anew_after_a_while(self) -> None:
+        """A file that is missing at the end of the analysis is waited for: the switch makes it within a second."""
+        self.write_later(Part(2, 100))
+        changes: Sequence[tuple[float, Callable[[], object]]] = ((0.4, self.log.rename), (1.0, self.log.path.touch))
+        for after, change in changes:
+            timer = threading.Timer(after, change)
+            timer.start()
+            self.addCleanup(timer.join)
+        ended = self.analysis("--revision", "2", *FAST, "--errors-at-most", "1%")
+        self.assertEqual(ended.status, 0, ended.printed)
+
+    def test_a_log_that_grows_faster_than_it_is_read(self) -> None:
+        told, is_over = b"".join(map(written, entries([Part(2, 1000)]))), threading.Event()
+
+        def write() -> None:
+            while not is_over.wait(0.001):
+                self.log.add_bytes(told)
+        thread = threading.Thread(target=write, daemon=True)
+        thread.start()
+        begun = time.monotonic()
+        with mock.patch.object(access_log, "PIECE", 300), mock.patch.object(analysis_command, "CATCH_UP", 0.3):
+            ended = self.analysis("--revision", "2", *FAST, "--errors-at-most", "1%")
+        longest = time.monotonic() - begun
+        is_over.set()
+        thread.join()
+        self.assertEqual((ended.status, "it grows faster than it is read" in ended.printed), (2, True), ended.printed)
+        self.assertLess(longest, 5)
+
     def test_a_rename_meanwhile(self) -> None:
         self.write_later(Part(2, 100))
         moving = threading.Timer(0.15, self.log.rename)
@@ -184,7 +240,8 @@ class Runs(unittest.TestCase):
         other = {"BG_REVISION": "web-v1", "BG_REVISION_NUMBER": "1"}
         cases: Sequence[tuple[Sequence[str], dict[str, str]]] = (
             ((), told), (("--revision", "web-v2"), told), (("--revision", "web-v2", *control), {}), (("--revision", "2"), other),
-            (("--revision", "web-v2", *control), other))
+            (("--revision", "web-v2", *control), other),
+            (("--revision", "2026"), {"BG_REVISION": "2026", "BG_REVISION_NUMBER": "2"}))
         for words, environment in cases:
             self.write_later(Part(2, 10), Part(1, 10, 1.0))
             ended = self.analysis(*words, "--seconds", "0.3", *limit, environment=environment)

@@ -187,6 +187,46 @@ class Openings(Turns):
         self.some_turns()
         self.assertEqual(self.switch.orders(), ["available 1 2"])
 
+    def test_an_opening_whose_reply_is_lost(self) -> None:
+        """The attempt that ran is begun again all the same."""
+        self.v3_is_paused()
+        self.switch.kill()
+        self.switch.lines.clear()
+        self.switch.start()
+        answer = self.switch.book.answer
+        lost: list[str] = []
+
+        def loses(line: str) -> Sequence[str] | None:
+            reply = answer(line)
+            if line.startswith("open ") and not lost:
+                lost.append(line)
+                return None
+            return reply
+        self.switch.control.answer = loses
+        self.await_book("paused", 2)
+        self.assertEqual(lost, [f"open {self.words('web-v2')}"])
+        self.await_log("the attempt of web-v3, which ran, is begun again")
+        self.assertEqual(self.switch.orders().count(f"deploy {self.words('web-v3')}"), 1)
+
+    def test_a_switch_that_ends_right_after_a_deploy(self) -> None:
+        """No report has shown the attempt, and it is begun again."""
+        self.write("web-v1")
+        self.start()
+        self.await_book("steady", 1)
+        answer = self.switch.book.answer
+        deployed: list[str] = []
+
+        def ends(line: str) -> Sequence[str] | None:
+            reply = None if deployed else answer(line)
+            deployed.extend([line] if line.startswith("deploy ") else [])
+            return reply
+        self.switch.control.answer = ends
+        self.write("web-v1", "web-v2")
+        self.assertTrue(comes(lambda: deployed and "deploy web-v2" in self.log()), self.log())
+        self.restart_switch()
+        self.await_book("paused", 2)
+        self.await_log("the attempt of web-v2, which ran, is begun again")
+
     def test_a_plan_that_does_not_fit_the_switch(self) -> None:
         self.plan.write([("web-v1", [1])])
         runner = self.start()
@@ -319,6 +359,15 @@ class Analyses(Turns):
                 for name in os.listdir(self.folder):
                     os.remove(os.path.join(self.folder, name))
 
+    def test_why_it_is_an_error_is_told_once(self) -> None:
+        """Also where its verdict is refused again and again."""
+        self.write_with("exit 3")
+        self.switch.book.refusals["verdict"] = "HistoryFull"
+        self.start()
+        self.await_log("verdict pre error => refused HistoryFull")
+        self.some_turns()
+        self.assertEqual(self.log().count("analysis pre of web-v2: its exit status is 3"), 1)
+
     def test_a_command_that_is_not_there(self) -> None:
         self.write(*NAMES[:2], analyses={"pre": ["./no_such_file"]})
         self.start()
@@ -385,7 +434,7 @@ class Logs(Turns):
         self.start()
         self.await_book("steady", 1)
         self.switch.book.refusals["tick"] = "HistoryFull"
-        self.await_log("=> refused HistoryFull: the history has no room left; compact makes room")
+        self.await_log("=> refused HistoryFull: the history has no room left; upgrade to a second switch (docs/OPERATING.md)")
         self.some_turns()
         self.assertEqual(self.log().count("HistoryFull"), 1)
 

@@ -2,6 +2,7 @@
 import contextlib
 import http.client
 import json
+import os
 import pathlib
 import re
 import shutil
@@ -198,6 +199,14 @@ class Pages(Dashboard):
             status, errors = self.end()
             self.assertEqual((status, errors, time.monotonic() - begun < 5), (0, "", True))
 
+    def test_malformed_requests_are_not_told(self) -> None:
+        for text in (b"GET /\x01 HTTP/1.1\r\nHost: localhost\r\n\r\n", b"\x16\x03\x01\r\n\r\n", b"GET / HTTP/1.1\r\nA\x00: b\r\n\r\n"):
+            with socket.create_connection(("127.0.0.1", self.port), timeout=WAIT) as client:
+                client.sendall(text)
+                self.assertRegex(client.recv(99), rb"^HTTP/1\.[01] 40[03] ")
+        self.assertEqual(self.get("/").status, 200)
+        self.assertEqual(self.end(), (0, ""))
+
     def test_a_switch_that_gives_no_answer(self) -> None:
         self.switch.kill()
         self.assertTrue(comes(lambda: '"answers": false' in self.get("/api/state").body))
@@ -215,6 +224,16 @@ class Pages(Dashboard):
         except OSError:
             return False
         return True
+
+
+class Streams(unittest.TestCase):
+    def test_a_listener_that_reads_nothing_and_one_that_comes_after_an_order(self) -> None:
+        if not HAS_LIBRARIES:
+            self.skipTest(MISSING)
+        run = subprocess.run([PYTHON, "-B", "-m", "tests.streams_of_a_server", str(free_port())], cwd=TOP, capture_output=True,
+                             text=True, timeout=WAIT, check=False, env={**os.environ, "PYTHONPATH": "lib:scripts"})
+        wanted = "orders in the state and the update: 1, 0\nstreams 0, connections 0\n"
+        self.assertEqual((run.stdout, run.returncode), (wanted, 0), run.stderr)
 
 
 class Metrics(Dashboard):
@@ -280,6 +299,7 @@ class Ordered(Dashboard):
         self.check_refused(self.order(line="quit"), 400, "one of promote")
         self.check_refused(self.order(line="promote" + " " * 5000), 413, "")
         self.check_refused(self.get("/api/order"), 405, "")
+        self.assertEqual(self.get("/api/events", "HEAD").status, 405)
 
     def test_nothing_is_read_by_another_name(self) -> None:
         for path in ("/", "/api/state", "/api/events", "/metrics", "/dashboard.js"):

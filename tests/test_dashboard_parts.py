@@ -61,7 +61,19 @@ class Slots(unittest.TestCase):
             durations.add(number / 10)
         for share, wanted in ((0.5, 500), (0.99, 990), (0.01, 10)):
             self.assertLess(abs(durations.quantile(share) / wanted - 1), 0.06, share)
-        self.assertEqual((Durations().quantile(0.5), traffic.class_of(None), traffic.class_of(503)), (0.0, "none", "5xx"))
+        self.assertEqual(Durations().quantile(0.5), 0.0)
+
+    def test_classes(self) -> None:
+        for status, wanted in ((None, "none"), (100, "1xx"), (204, "2xx"), (404, "4xx"), (503, "5xx"), (600, "5xx"), (999, "5xx")):
+            self.assertEqual(traffic.class_of(status), wanted)
+
+    def test_a_clock_that_is_set_back(self) -> None:
+        told = Traffic()
+        for entry in entries([Part(1, 700)], BEGIN, 700.0):
+            told.add(entry, "a")
+        told.forget(BEGIN + 100)
+        self.assertLessEqual(max(told.slots), BEGIN + 100 + traffic.SLOT)
+        self.assertEqual(len(told.take_changed()), len(told.slots))
 
     def test_the_last_seconds(self) -> None:
         told = Traffic()
@@ -187,6 +199,17 @@ class Boards(unittest.TestCase):
         self.assertEqual((self.board.name(1), self.board.name(2)), ("other", "revision-2"))
         self.board.take_report(None)
         self.assertEqual(self.board.name(1), "revision-1")
+
+    def test_a_switch_that_was_started_again_between_two_reports(self) -> None:
+        """No event of a rollout is counted, and the page is told of no switch."""
+        for report in reports(*PAUSED, "promote", "verdict post successful", "tick 50"):
+            self.board.take_report(report)
+        before = dict(self.board.totals.events)
+        for moment in (0, 60):  # a controller ticks on from the moment before
+            self.board.take_report(reports("open web-v2 3 4", "available 1 2", f"tick {moment}")[-1])
+            self.assertEqual(self.texts()[-2:], ["the book is gone: the switch was started again", "the book was opened"])
+            self.assertEqual((dict(self.board.totals.events), self.board.name(2)), (before, "revision-2"))
+            self.board.take_report(reports(*PAUSED, "promote", "verdict post successful", "tick 50")[-1])
 
     def test_updates_have_what_is_new(self) -> None:
         self.board.take_report(reports(*OPENED)[-1])

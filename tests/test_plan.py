@@ -1,8 +1,10 @@
 """A plan is judged as a whole, with the place of each problem."""
 import json
+import time
 import unittest
 
 from bg_switch_tools.plan import Health, PlannedRevision, Progress
+from bg_switch_tools.plan_file import PlanFile
 from bg_switch_tools.plan_reading import WrongPlan, read_plan
 
 GOOD: dict[str, object] = {
@@ -134,6 +136,15 @@ class Judged(unittest.TestCase):
     def test_a_key_that_stands_twice(self) -> None:
         self.assertEqual(problems('{"control": 1, "control": 2, "revisions": [{"name": "a", "ports": [1]}]}'),
                          ["control: stands there more than once"])
+
+    def test_a_large_plan_is_judged_soon(self) -> None:
+        text, begun = json.dumps({"control": {str(number): 0 for number in range(30000)}}), time.process_time()
+        self.assertEqual(len(problems(text)), 2)
+        self.assertLess(time.process_time() - begun, 10)
+
+    def test_a_file_without_end(self) -> None:
+        with self.assertRaisesRegex(WrongPlan, "it has more than 1048576 bytes"):
+            PlanFile("/dev/zero").read()
 
     def test_no_problem_holds_more_than_a_line(self) -> None:
         for wrong in ({"x\ny": 1}, with_keys(control="a\nb"), with_revision(name="x" * 100000), {"\u2028" * 9999: 1}):

@@ -39,6 +39,16 @@ class Answers(unittest.TestCase):
             with self.subTest(response=whole[:40]):
                 self.assertIs(answered(whole), False)
 
+    def test_a_head_without_end(self) -> None:
+        """Its fields are not kept up to the limit of time."""
+        fields = [b"f%d: x\r\n" % number for number in range(100)]
+        endpoint, begun = Endpoint(), time.monotonic()
+        self.addCleanup(endpoint.stop)
+        endpoint.pieces, endpoint.pause = (b"HTTP/1.1 200 OK\r\n" + b"".join(fields), b"more"), 20.0
+        self.assertIs(asyncio.run(is_up(endpoint.port, Health("/", 1, 10, 2))), False)
+        self.assertLess(time.monotonic() - begun, 5)
+        self.assertIs(answered(b"HTTP/1.1 200 OK\r\n" + b"".join(fields[:63]) + b"Content-Length: 0\r\n\r\n"), True)
+
     def test_nothing_listens(self) -> None:
         self.assertIs(asyncio.run(is_up(free_port(), HEALTH)), False)
 

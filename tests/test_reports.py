@@ -31,7 +31,8 @@ class Reading(unittest.TestCase):
             for wrong in (line.split()[0], line.replace("1", "x").replace("0", "x").replace("steady", "x"), ""):
                 with self.subTest(line=wrong), self.assertRaises(NoReport):
                     read_report([*REPORT[:place], wrong, *REPORT[place + 1:]])
-        wrong_ones: list[list[str]] = [[], ["HTTP/1.1 400 Bad Request"], list(REPORT[:5]), ["ok 0"]]
+        wrong_ones: list[list[str]] = [[], ["HTTP/1.1 400 Bad Request"], list(REPORT[:5]), ["ok 0"],
+                                       ["moment 1" + "0" * 400, *REPORT[1:]], ["moment -1", *REPORT[1:]]]
         for lines in wrong_ones:
             with self.subTest(lines=lines), self.assertRaises(NoReport):
                 read_report(lines)

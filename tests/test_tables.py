@@ -48,9 +48,16 @@ class Changed(unittest.TestCase):
             "revision 2 web-v2: available 1 -> 2"])
 
     def test_a_deploy_and_a_removal(self) -> None:
-        alone = report(1, "steady", (2, 2, 2, 2), NEW.format(2))
+        alone = report(11, "steady", (2, 2, 2, 2), NEW.format(2))
         self.assertEqual(changes(AFTER, alone), ["revision 1 web-v1: removed"])
         self.assertEqual(changes(alone, AFTER), ["revision 1 web-v1: deployed, desired 2"])
+
+    def test_another_book_is_no_change_of_the_one_before(self) -> None:
+        """The switch was started again between two reports: its moment lies before, or a number has another name."""
+        opened = ["the book is gone: the switch was started again", "the book was opened"]
+        for moment, name in ((3, "web-v1"), (12, "web-v2")):
+            fresh = report(moment, "steady", (1, 1, 1, 1), f"revision 1 {name} desired 2 available 0 open 0 deadline none")
+            self.assertEqual(changes(AFTER, fresh), opened)
 
     def test_a_scale_down(self) -> None:
         def old(rest: str) -> Report:

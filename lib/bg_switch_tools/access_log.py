@@ -5,7 +5,6 @@ where N lines could not be written before it.
 """
 import datetime
 import json
-import math
 import os
 import stat
 import time
@@ -18,6 +17,7 @@ LONGEST_LINE = 65536  # bytes; a target is cut at 1,024 before it is escaped
 PIECE = 1 << 22  # bytes that are read at a time
 READ_ON_SECONDS = 10.0  # seconds for which a file is read on after another one has taken its place
 SERVER_ERROR = 500
+GREATEST = 1 << 64  # no number of the switch is as large, and each up to it can be counted and written as a float
 
 TEXT, COUNT, NUMBER, NOTHING = (str,), (int,), (int, float), type(None)
 # The members of a line, each with the types that it can have. `bool` is none of them, though it is an `int`.
@@ -84,30 +84,33 @@ def _refuse(name: str) -> object:
     raise ValueError(f"{name} is no value of JSON")
 
 
+DECODER = json.JSONDecoder(parse_constant=_refuse)  # `json.loads` would make one for each line
+
+
 def _judged(told: Mapping[str, object], name: str) -> object:
     """The value of a member. `NoEntry` where it is missing, or of a wrong type."""
     value = told.get(name)
     if type(value) not in MEMBERS[name] or name not in told:
         raise NoEntry(f"its {name} is none that a line can have")
-    if isinstance(value, (int, float)) and value < 0:
-        raise NoEntry(f"its {name} is below 0")
+    if isinstance(value, (int, float)) and not 0 <= value < GREATEST:
+        raise NoEntry(f"its {name} is below 0, or too large")
     return value
 
 
 def read_line(line: bytes) -> Entry | Lost:
     """The values of a line, without its end. `NoEntry` where it is none of an access log; further members are passed over."""
     try:
-        told = json.loads(line, parse_constant=_refuse)
+        told = DECODER.decode(line.decode())
     except (ValueError, RecursionError):
         raise NoEntry("it is no JSON") from None
     if not isinstance(told, dict):
         raise NoEntry("it is no object")
     ended = seconds_of(told.get("time"))
-    if type(told.get("lost")) is int and told["lost"] >= 0:
+    if type(told.get("lost")) is int and 0 <= told["lost"] < GREATEST:
         return Lost(ended, told["lost"])
     entry = Entry(ended, *(_judged(told, name) for name in MEMBERS))  # type: ignore[arg-type]
-    if entry.service not in CLIENT_SERVICES or entry.end not in ENDS or not math.isfinite(entry.duration_ms):
-        raise NoEntry("its service, end or duration is none that a line can have")
+    if entry.service not in CLIENT_SERVICES or entry.end not in ENDS:
+        raise NoEntry("its service or end is none that a line can have")
     return entry
 
 
@@ -148,6 +151,7 @@ class OpenLog:
         self.place = place
         self.part = b""  # of a line whose end has not come
         self.unreadable = 0
+        self.has_more = False  # whether the last look gave a whole piece, so that more is likely to be there
         self.replaced_at: float | None = None
 
     def begin_before(self) -> None:
@@ -162,6 +166,7 @@ class OpenLog:
             self.place, self.part = 0, b""  # the file was cut
         piece = os.pread(self.file.fileno(), PIECE, self.place)
         self.place += len(piece)
+        self.has_more = len(piece) == PIECE
         *lines, self.part = (self.part + piece).split(b"\n")
         if len(self.part) > LONGEST_LINE:
             self.part, self.unreadable = b"", self.unreadable + 1
@@ -186,6 +191,7 @@ class Follower:
         self.files: list[OpenLog] = []
         self.fault = ""
         self.begun_at = 0  # the size of the file when it was opened first
+        self.is_behind = False  # whether what comes next stood in the file before it was followed
         self._open(backlog)
 
     def _open(self, backlog: int | None) -> None:
@@ -196,7 +202,7 @@ class Follower:
                 self.fault = "it is no regular file"
                 return
             if self.files and self.files[-1].identity == identity(found):
-                self.files[-1].replaced_at = None
+                self.files[-1].replaced_at, self.fault = None, ""
                 return
             opened = OpenLog(open(self.path, "rb", buffering=0), 0)
         except OSError as error:
@@ -207,14 +213,15 @@ class Follower:
             self.begun_at = os.fstat(opened.file.fileno()).st_size
             opened.place = max(self.begun_at - backlog, 0)
             opened.begin_before()
+            self.is_behind = opened.place < self.begun_at
         for earlier in self.files:
             earlier.replaced_at = earlier.replaced_at or time.monotonic()
         self.files.append(opened)
 
     @property
-    def is_behind(self) -> bool:
-        """Whether what comes next stood in the file before it was followed."""
-        return len(self.files) == 1 and self.files[0].place < self.begun_at
+    def has_more(self) -> bool:
+        """Whether more is likely to be there than was read the last time."""
+        return any(file.has_more for file in self.files)
 
     def _close_earlier(self) -> int:
         """Closes files that were replaced a while ago. Gives how many of them end within a line."""
@@ -229,13 +236,15 @@ class Follower:
     def read(self) -> Batch:
         """What has come since the last time, up to a piece of each file."""
         self._open(None)
-        lines, unreadable = [], 0
+        lines, unreadable, before = [], 0, self.files[0].place if self.files else 0
         for file in self.files:
             try:
                 lines += file.lines()
             except OSError as error:
                 self.fault = error.strerror or "it can't be read"
             unreadable += file.take_unreadable()
+        # a file that was cut, or another one that has taken its place, has nothing from before
+        self.is_behind = self.is_behind and len(self.files) == 1 and before < self.files[0].place < self.begun_at
         return read_lines(lines, unreadable + self._close_earlier())
 
     def close(self) -> None:

@@ -26,6 +26,7 @@ class Analysis:
         self.seconds = seconds
         self.end = time.monotonic() + seconds
         self.fault = ""
+        self.is_fault_told = False
         self.process: subprocess.Popen[bytes] | None = None
         told = {"BG_REVISION": revision.name, "BG_REVISION_NUMBER": str(number), "BG_PORTS": " ".join(map(str, revision.ports))}
         try:
@@ -56,7 +57,7 @@ class Analysis:
         return VERDICTS.get(status, "error")
 
     def stop(self) -> None:
-        """Ends the command and what it started, where they still run."""
+        """Ends the command and what it started, where the command still runs."""
         if self.process is None or self.process.poll() is not None:
             return
         with contextlib.suppress(ProcessLookupError, PermissionError):

@@ -1,5 +1,6 @@
 """bin/analysis: judges a revision by its requests in the access log of the switch."""
 import argparse
+import contextlib
 import os
 import time
 from collections.abc import Sequence
@@ -27,10 +28,18 @@ can't be judged: too few requests came, the log can't be read, or the words are 
 """
 LOOK = 0.25  # seconds between two looks into the log
 WAIT = 10.0  # seconds for the switch to answer
+CATCH_UP = 3.0  # seconds at the end for what stands in the log: the switch makes a log that was renamed anew within one
+INTERRUPTED = 130
 
 
 class NotJudged(Exception):
     """The revision can't be judged. The text says why."""
+
+
+def tell(text: str) -> None:
+    """Prints a line. Where nobody takes it any more, the exit status still tells the verdict."""
+    with contextlib.suppress(OSError):
+        print(text, flush=True)
 
 
 def parser() -> argparse.ArgumentParser:
@@ -53,10 +62,10 @@ def parser() -> argparse.ArgumentParser:
 def number_of_revision(told: str, control: int | None) -> int:
     """The number of the revision to be judged. `NotJudged` where it can't be known."""
     name, number = os.environ.get("BG_REVISION"), os.environ.get("BG_REVISION_NUMBER", "")
-    if told.isascii() and told.isdigit():
-        return int(told)
     if told in ("", name) and number.isdigit():
         return int(number)
+    if told.isascii() and told.isdigit():
+        return int(told)
     if not told:
         raise NotJudged("no revision is told: --revision names it, where no controller runs this")
     if control is None:
@@ -80,18 +89,30 @@ class Run:
         self.title = title
         self.analyser = Analyser(limits)
 
-    def look(self) -> None:
-        """Takes in what has come into the log."""
+    def look(self, deadline: float) -> None:
+        """Takes in what has come into the log, up to a time: a log can grow faster than it is read."""
         while True:
             batch = self.follower.read()
             self.analyser.take([entry for entry in batch.entries if entry.revision == self.number])
             if batch.lost or batch.unreadable:
                 self.tell(f"{batch.lost} lines were lost by the switch, {batch.unreadable} can't be read")
-            if not batch.entries:
+            if not self.follower.has_more or time.monotonic() >= deadline:
                 return
 
+    def look_at_the_rest(self) -> None:
+        """Takes in what stands in the log at the end. `NotJudged` where it can't be read, or grows faster than it is read."""
+        deadline = time.monotonic() + CATCH_UP
+        while True:
+            self.look(deadline)
+            fault = self.follower.fault or ("it grows faster than it is read" if self.follower.has_more else "")
+            if not fault:
+                return
+            if time.monotonic() >= deadline:
+                raise NotJudged(f"the log {self.follower.path}: {fault}")
+            time.sleep(LOOK)
+
     def tell(self, text: str) -> None:
-        print(f"analysis of {self.title}: {text}", flush=True)
+        tell(f"analysis of {self.title}: {text}")
 
     def tell_measurement(self, seconds: float, measurement: Measurement | None) -> None:
         if measurement is None:
@@ -103,7 +124,7 @@ class Run:
         """Takes in what comes up to a time."""
         while (left := deadline - time.monotonic()) > 0:
             time.sleep(min(left, LOOK))
-            self.look()
+            self.look(deadline)
 
     def judge(self, seconds: float, every: float) -> int:
         """Measures to the end, or up to the failure that is one too many. Gives the exit status."""
@@ -112,6 +133,8 @@ class Run:
             at = min(at + every, seconds)
             self.until(begun + at)
             is_last = at >= seconds
+            if is_last:
+                self.look_at_the_rest()
             measurement = self.analyser.measure_rest() if is_last else self.analyser.measure()
             if measurement or self.analyser.waiting or not is_last:
                 self.tell_measurement(at, measurement)
@@ -120,12 +143,9 @@ class Run:
                 return FAILED
         if not self.analyser.has_judged:
             raise NotJudged(f"{len(self.analyser.waiting)} requests came in {seconds:g} seconds, and "
-                            f"{self.analyser.limits.requests} are needed{self.unread()}")
+                            f"{self.analyser.limits.requests} are needed")
         self.tell("the limits held to the end")
         return SUCCESSFUL
-
-    def unread(self) -> str:
-        return f"; the log {self.follower.path}: {self.follower.fault}" if self.follower.fault else ""
 
 
 def run(given: argparse.Namespace) -> int:
@@ -149,5 +169,7 @@ def main(words: Sequence[str]) -> int:
     try:
         return run(given)
     except NotJudged as reason:
-        print(f"analysis: it can't be judged: {reason}", flush=True)
+        tell(f"analysis: it can't be judged: {reason}")
         return NOT_JUDGED
+    except KeyboardInterrupt:
+        return INTERRUPTED

@@ -1,7 +1,7 @@
 """The book of a switch, as a controller reads and moves it over one connection after the other."""
 import time
 
-from bg_switch_tools.changes import changes
+from bg_switch_tools.changes import changes, is_another_book
 from bg_switch_tools.connection import Connection, Unreachable
 from bg_switch_tools.log import Log
 from bg_switch_tools.meanings import was_carried_out
@@ -24,7 +24,7 @@ class Book:
         """The report, or None where no book is open."""
         report = read_report(connection.answer(b"report"))
         self.has_ordered = False
-        if self.latest and (report is None or report.moment < self.latest.moment):
+        if self.latest and (report is None or is_another_book(self.latest, report)):
             self.log.say("switch", "the switch was started again: the book that was open is gone")
             self.leave()
             self.was_lost = True

@@ -22,12 +22,21 @@ def _revision_changes(before: Revision, now: Revision) -> Iterator[str]:
         yield f"{title}: past its drain limit, {now.open} open"
 
 
+def is_another_book(before: Report, now: Report) -> bool:
+    """Whether the later report is of a book that was opened after the one of the report before: its moment lies before, or a
+    number has another name."""
+    both = before.revisions.keys() & now.revisions.keys()
+    return now.moment < before.moment or any(before.revisions[number].name != now.revisions[number].name for number in both)
+
+
 def changes(before: Report | None, now: Report | None) -> list[str]:
     """What has moved from where to where, a text each. The moment and numbers of open requests alone are no change."""
     if now is None:
         return [] if before is None else ["the book is gone: the switch was started again"]
     if before is None:
         return ["the book was opened"]
+    if is_another_book(before, now):
+        return ["the book is gone: the switch was started again", "the book was opened"]
     found = [f"phase: {before.phase} -> {now.phase}"] if before.phase != now.phase else []
     for service in SERVICES:
         if before.selected[service] != now.selected[service]:

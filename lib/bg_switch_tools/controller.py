@@ -1,4 +1,5 @@
 """The turns of a controller: it ticks, reports availability, runs analyses, and deploys by its plan."""
+import contextlib
 import os
 import sys
 import time
@@ -34,6 +35,7 @@ class Controller:
         self.memory = Memory(path, plan, log)
         self.book = Book(log)
         self.analysis: Analysis | None = None
+        self.opening: PlannedRevision | None = None  # with which an opening was sent whose reply has not come
         self.progress = ProgressClock()
         self.begun = time.monotonic()
         self.start = self.begun - self.memory.state.moment  # the time at which the moment was 0
@@ -52,6 +54,7 @@ class Controller:
         if plan.control != self.plan.control:
             self.book.leave()
             self._forget_book()
+            self.opening = None
         self.plan, self.next_open, self.next_deploy = plan, 0.0, 0.0
         self._watch_endpoints()
 
@@ -60,6 +63,10 @@ class Controller:
         report = self.book.report(connection)
         if self.book.was_lost:
             self._forget_book()
+        if report is not None and self.opening:
+            if report.stable.name == self.opening.name:
+                self._take_opened(self.opening)  # it was carried out, and its reply was lost
+            self.opening = None
         if report is None:
             if not self._open(connection):
                 return SOON if time.monotonic() < self.begun + FIRST_PROBE else TURN
@@ -101,18 +108,24 @@ class Controller:
         why = "which was stable" if self.memory.state.stable else "the plan's first revision"
         self.log.say("switch", f"no book is open: it is opened with {revision.name}, {why}")
         lines = [f"open {revision.words}", *([f"available 1 {up}"] if up else [])]
+        self.opening = revision
         # In one piece: clients that wait for the opening find its endpoints.
         replies = connection.answers([line.encode("ascii") for line in lines])
         for line, reply in zip(lines, replies):
             self.book.note(line, reply[0])
+        self.opening = None
         if was_carried_out(replies[0][0]):
-            self._begin_again(revision)
-            self.memory.set_opened(revision)
+            self._take_opened(revision)
             return True
         if not self.has_had_book:
             raise Unfit(f"the switch can't be opened with {revision.name}: {lines[0]} => {with_meaning(replies[0][0])}")
         self.next_open = now + AGAIN
         return False
+
+    def _take_opened(self, revision: PlannedRevision) -> None:
+        """The book was opened with this revision."""
+        self._begin_again(revision)
+        self.memory.set_opened(revision)
 
     def _begin_again(self, opened: PlannedRevision) -> None:
         """The plan's last revision is deployed again after an opening where its attempt ran and nobody had undone it."""
@@ -129,7 +142,8 @@ class Controller:
         if not self.has_had_book and ports != replicas:
             text = f"the number of ports of each revision of the plan is {ports}, and the switch wants one for each of {replicas} replicas"
             self.log.say("plan", text)
-            print(f"controller: {text}", file=sys.stderr, flush=True)
+            with contextlib.suppress(OSError):  # as in the log
+                print(f"controller: {text}", file=sys.stderr, flush=True)
         self.has_had_book = True
 
     def _tick(self, connection: Connection, moment: int) -> None:
@@ -171,7 +185,8 @@ class Controller:
         elif self.analysis is None:
             self._begin_analysis(name, newest)
         elif (verdict := self.analysis.verdict()) is not None:
-            if self.analysis.fault:
+            if self.analysis.fault and not self.analysis.is_fault_told:
+                self.analysis.is_fault_told = True
                 self.log.say("analysis", f"{self.analysis.title()}: {self.analysis.fault}")
             if was_carried_out(self.book.order(connection, f"verdict {name} {verdict}")):
                 self.end_analysis("")
@@ -214,7 +229,9 @@ class Controller:
             self.memory.set_deployed(last)
             return
         reply = self.book.order(connection, f"deploy {last.words}")
-        if was_carried_out(reply) or reply == "refused SameTemplate":
+        if was_carried_out(reply):
+            self.memory.set_begun(last)
+        elif reply == "refused SameTemplate":
             self.memory.set_deployed(last)
         else:
             self.next_deploy = now + AGAIN

@@ -1,4 +1,5 @@
 """Values of JSON, judged one by one. What is wrong with one is noted with its place, and the reading goes on."""
+import collections
 import difflib
 import json
 import os
@@ -21,15 +22,17 @@ class JsonObject(dict[str, object]):
 
     def __init__(self, pairs: Sequence[tuple[str, object]]) -> None:
         super().__init__(pairs)
-        keys = [key for key, _ in pairs]
-        self.repeated = sorted({key for key in keys if keys.count(key) > 1})
+        self.repeated = sorted(key for key, count in collections.Counter(key for key, _ in pairs).items() if count > 1)
 
 
-def decoded(text: str) -> object:
-    """The value of a text of JSON. `ValueError` or `RecursionError` where it is none."""
+def decoded(text: bytes) -> object:
+    """The value of a text of JSON in UTF-8. `ValueError` where it is none, or nested too deep."""
     def refuse(name: str) -> object:
         raise ValueError(f"{name} is no value of JSON")
-    value: object = json.loads(text, object_pairs_hook=JsonObject, parse_constant=refuse)
+    try:
+        value: object = json.loads(text.decode("utf-8"), object_pairs_hook=JsonObject, parse_constant=refuse)
+    except RecursionError as error:
+        raise ValueError(str(error)) from None
     return value
 
 

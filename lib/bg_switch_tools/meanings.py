@@ -74,7 +74,7 @@ FAULTS = {
 # What an operator can do next, or may rely on.
 HINTS = {
     "Aborted": "retry begins it again",
-    "HistoryFull": "compact makes room",
+    "HistoryFull": "upgrade to a second switch (docs/OPERATING.md)",
     "NotOpen": "open NAME PORT.. opens one",
     "OutOfMemory": "nothing has changed",
     "UnknownWord": "help lists the lines",

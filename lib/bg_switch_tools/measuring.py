@@ -18,6 +18,16 @@ class Limits(NamedTuple):
     by_endpoint: bool = False  # whether durations are those of the endpoint, and not of the whole request
 
 
+class Request(NamedTuple):
+    """What an analysis keeps of a request: many of them can wait. `duration` is None where it has none that is to be judged."""
+    is_error: bool
+    duration: float | None
+
+
+def request_of(entry: Entry, limits: Limits) -> Request:
+    return Request(entry.is_error, entry.upstream_ms if limits.by_endpoint else entry.duration_ms)
+
+
 def quantile(values: Sequence[float], share: float) -> float:
     """The smallest of these sorted values which so large a share of them does not exceed."""
     return values[max(math.ceil(share * len(values)), 1) - 1]
@@ -35,18 +45,17 @@ class Measurement(NamedTuple):
         return f"{self.requests} requests, {self.errors} errors ({self.errors / self.requests:.2%}){p99}"
 
 
-def measure(entries: Sequence[Entry], limits: Limits) -> Measurement:
+def measure(requests: Sequence[Request], limits: Limits) -> Measurement:
     """The measurement of these requests, of which there is one or more."""
-    errors = sum(entry.is_error for entry in entries)
-    told = [entry.upstream_ms if limits.by_endpoint else entry.duration_ms for entry in entries]
-    durations = sorted(duration for duration in told if duration is not None)
+    errors = sum(request.is_error for request in requests)
+    durations = sorted(request.duration for request in requests if request.duration is not None)
     p99 = quantile(durations, 0.99) if durations else None
     problems = []
-    if limits.errors is not None and errors / len(entries) > limits.errors:
+    if limits.errors is not None and errors / len(requests) > limits.errors:
         problems.append(f"errors are above {limits.errors * 100:g}%")
-    if limits.p99 is not None and p99 is not None and p99 > limits.p99:
-        problems.append(f"p99 is above {limits.p99:g} ms")
-    return Measurement(len(entries), errors, p99, tuple(problems))
+    if limits.p99 is not None and (p99 is None or p99 > limits.p99):
+        problems.append("no endpoint has answered" if p99 is None else f"p99 is above {limits.p99:g} ms")
+    return Measurement(len(requests), errors, p99, tuple(problems))
 
 
 class Analyser:
@@ -55,18 +64,19 @@ class Analyser:
 
     def __init__(self, limits: Limits) -> None:
         self.limits = limits
-        self.waiting: list[Entry] = []  # not judged yet
-        self.judged: list[Entry] = []  # by the last measurement
+        self.waiting: list[Request] = []  # not judged yet
+        self.judged: list[Request] = []  # by the last measurement
+        self.has_last_failed = False
         self.failed = 0
 
     def take(self, entries: Sequence[Entry]) -> None:
-        self.waiting += entries
+        self.waiting += [request_of(entry, self.limits) for entry in entries]
 
     def measure(self) -> Measurement | None:
         """A measurement of what waits, or None where that is too little."""
         if len(self.waiting) < max(self.limits.requests, 1):
             return None
-        self.judged, self.waiting = self.waiting, []
+        self.judged, self.waiting, self.has_last_failed = self.waiting, [], False
         return self._counted(measure(self.judged, self.limits))
 
     def measure_rest(self) -> Measurement | None:
@@ -77,7 +87,9 @@ class Analyser:
         return self._counted(measure(self.judged, self.limits))
 
     def _counted(self, measurement: Measurement) -> Measurement:
-        self.failed += bool(measurement.problems)
+        """Counts a measurement that has failed; the last one is counted once, also where it is made again with the rest."""
+        self.failed += bool(measurement.problems) and not self.has_last_failed
+        self.has_last_failed = bool(measurement.problems)
         return measurement
 
     @property

@@ -59,6 +59,11 @@ class Memory:
         self.is_fresh = False
         self._keep(dataclasses.replace(self.state, deployed=revision))
 
+    def set_begun(self, revision: PlannedRevision) -> None:
+        """Remembers that this revision was deployed, and that its attempt runs: the switch may end before a report shows it."""
+        self.is_fresh = False
+        self._keep(dataclasses.replace(self.state, deployed=revision, attempt=revision))
+
     def set_opened(self, revision: PlannedRevision) -> None:
         """Remembers that a book was opened with this revision. Its ports are those of the plan, where that names it."""
         self.is_fresh = False

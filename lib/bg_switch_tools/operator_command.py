@@ -198,14 +198,18 @@ def main(words: Sequence[str]) -> int:
     if hasattr(sys.stdout, "reconfigure"):
         sys.stdout.reconfigure(errors="replace")
     try:
-        return run(given)
+        status = run(given)
+        sys.stdout.flush()
+        return status
     except (Unreachable, NoReport) as reason:
         print(f"operator: {reason}", file=sys.stderr)
         return 2
     except KeyboardInterrupt:
         print()
         return INTERRUPTED
-    except BrokenPipeError:
-        # nobody reads the replies any more
+    except OSError as error:
+        # where nobody reads the replies any more, that is no news
+        if not isinstance(error, BrokenPipeError):
+            print(f"operator: the input or the output fails: {error.strerror}", file=sys.stderr)
         os.dup2(os.open(os.devnull, os.O_WRONLY), sys.stdout.fileno())
         return 1

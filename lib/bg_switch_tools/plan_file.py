@@ -1,6 +1,6 @@
 """The file of a plan, which is read again while a controller runs."""
 from bg_switch_tools.plan import Plan
-from bg_switch_tools.plan_reading import WrongPlan, read_plan
+from bg_switch_tools.plan_reading import LARGEST, WrongPlan, read_plan
 
 
 class PlanFile:
@@ -15,7 +15,7 @@ class PlanFile:
         """The plan, or None where the file is as it was at the last read. `WrongPlan` where it is no plan any more."""
         try:
             with open(self.path, "rb") as file:
-                text = file.read()
+                text = file.read(LARGEST + 1)
         except OSError as error:
             if not self.was_readable:
                 return None

@@ -75,8 +75,8 @@ def read_plan(text: bytes) -> Plan:
     if len(text) > LARGEST:
         raise WrongPlan([f"it has more than {LARGEST} bytes"])
     try:
-        told = decoded(text.decode("utf-8"))
-    except (ValueError, RecursionError) as error:
+        told = decoded(text)
+    except ValueError as error:
         raise WrongPlan([f"it is no JSON: {error}"]) from None
     members = judge.members(told, "", ("control", "health", "analyses", "progress", "revisions"), ("control", "revisions"))
     plan = Plan(

@@ -8,6 +8,7 @@ from bg_switch_tools.connection import HOST
 from bg_switch_tools.plan import Health
 
 LONGEST_FIELD = 65536  # bytes of a line of a response's head
+MOST_FIELDS = 64  # of a head, as in the switch, which answers 502 for a response with more
 PIECE = 65536  # bytes of a body that are read at a time, and dropped
 # Where the controller itself has no descriptor or memory left, a probe says nothing of its endpoint.
 OWN_WANTS = (errno.EMFILE, errno.ENFILE, errno.ENOBUFS, errno.ENOMEM)
@@ -26,6 +27,8 @@ async def _head(reader: asyncio.StreamReader) -> tuple[int, dict[str, str]]:
     while (line := (await reader.readuntil(b"\n")).strip()):
         name, _, value = line.decode("latin-1").partition(":")
         fields[name.lower()] = value.strip()
+        if len(fields) > MOST_FIELDS:
+            raise Malformed
     return int(words[1]), fields
 
 

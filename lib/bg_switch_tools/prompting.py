@@ -25,8 +25,13 @@ def show_at_terminal(reply: Reply) -> None:
 
 
 def confirm_shutdown(port: int) -> bool:
-    """Whether the operator wants the switch to be shut down."""
-    return input(f"Shut the switch at port {port} down? No operator is answered any more. [y/N] ").strip() in ("y", "Y", "yes")
+    """Whether the operator wants the switch to be shut down. The end of the input is no."""
+    try:
+        told = input(f"Shut the switch at port {port} down? No operator is answered any more. [y/N] ")
+    except EOFError:
+        print()
+        return False
+    return told.strip() in ("y", "Y", "yes")
 
 
 class Prompt:

@@ -63,13 +63,20 @@ class Report:
         return self.revisions[number].title() if number in self.revisions else f"revision {number}"
 
 
+def _number(word: str) -> int:
+    """A number as a line has it: 1 to 20 digits."""
+    if not (word.isascii() and word.isdigit() and len(word) <= 20):
+        raise NoReport(f"{word[:20]} is no number")
+    return int(word)
+
+
 def _read_revision(words: Sequence[str]) -> Revision:
     """A line `revision R NAME desired D available A open O deadline T [draining [cut]]`."""
     if [words[place] for place in (3, 5, 7, 9)] != ["desired", "available", "open", "deadline"]:
         raise NoReport(" ".join(words))
-    deadline = None if words[10] == "none" else int(words[10])
-    return Revision(int(words[1]), words[2], int(words[4]), int(words[6]), int(words[8]), deadline,
-                    "draining" in words[11:], "cut" in words[11:])
+    number, desired, available, opened = (_number(words[place]) for place in (1, 4, 6, 8))
+    deadline = None if words[10] == "none" else _number(words[10])
+    return Revision(number, words[2], desired, available, opened, deadline, "draining" in words[11:], "cut" in words[11:])
 
 
 def _read_values(lines: Sequence[str]) -> Report:
@@ -82,10 +89,10 @@ def _read_values(lines: Sequence[str]) -> Report:
             revisions[revision.number] = revision
         else:
             values[words[0]] = words[1]
-    selected = {service: int(values[service]) for service in SERVICES}
+    selected = {service: _number(values[service]) for service in SERVICES}
     if not all(number in revisions for number in selected.values()) or values["phase"] not in PHASES:
         raise NoReport("a service or the phase is none that a report can have")
-    return Report(int(values["moment"]), values["phase"], selected, revisions)
+    return Report(_number(values["moment"]), values["phase"], selected, revisions)
 
 
 def read_report(lines: Sequence[str]) -> Report | None:

@@ -53,8 +53,8 @@ def read_state(text: bytes) -> State:
     """The state of a file's bytes. `NoState` where they are cut, or are none: a name and ports of it are those of a plan."""
     judge = Judge()
     try:
-        told = decoded(text.decode("ascii"))
-    except (ValueError, RecursionError):
+        told = decoded(text)
+    except ValueError:
         raise NoState("it is cut, or no state file") from None
     keys = ("moment", "stable", "deployed", "attempt")
     members = judge.members(told, "", keys, keys)

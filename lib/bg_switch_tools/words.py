@@ -1,5 +1,6 @@
 """Words of a command line, read into values. `argparse` shows the message of each that is none."""
 import argparse
+import decimal
 import math
 
 from bg_switch_tools.judging import GREATEST_PORT
@@ -12,7 +13,7 @@ def port_of(text: str) -> int:
 
 
 def numbered_port(text: str, title: str) -> int:
-    if not text.isascii() or not text.isdigit() or not 1 <= int(text[:9]) <= GREATEST_PORT:
+    if not text.isascii() or not text.isdigit() or len(text) > 9 or not 1 <= int(text) <= GREATEST_PORT:
         raise argparse.ArgumentTypeError(f"{title} is wanted, a number from 1 to {GREATEST_PORT}, and not {text!r}")
     return int(text)
 
@@ -34,11 +35,11 @@ def seconds_of(text: str) -> float:
 
 
 def share_of(text: str) -> float:
-    """The share that a text such as `1%` tells."""
-    percent = number_of(text.removesuffix("%"))
-    if not text.endswith("%") or not 0 <= percent <= 100:
+    """The share that a text such as `1%` tells: the float that is nearest, as 7 / 1000 is for 0.7%."""
+    told = text.removesuffix("%")
+    if not text.endswith("%") or not 0 <= number_of(told) <= 100:
         raise argparse.ArgumentTypeError(f"a percentage is wanted, such as 1%, and not {text!r}")
-    return percent / 100
+    return float(decimal.Decimal(told) / 100)
 
 
 def milliseconds_of(text: str) -> float:

@@ -85,7 +85,11 @@ def run(name: str, parts: Sequence[Part], at_once: int = 1, by_hand: Sequence[Pa
     if sys.argv[1:] == ["--by-hand"]:
         parts = by_hand
     elif sys.argv[1:]:
-        parts = [part for part in (*parts, *by_hand) if part.__name__ in sys.argv[1:]]
+        known = {part.__name__: part for part in (*parts, *by_hand)}
+        if unknown := [word for word in sys.argv[1:] if word not in known]:
+            print(f"{name}: there is no part {' '.join(unknown)}, but {' '.join(known)}", file=sys.stderr)
+            sys.exit(2)
+        parts = [known[word] for word in sys.argv[1:]]
     with concurrent.futures.ThreadPoolExecutor(at_once) as pool:
         list(pool.map(run_part, parts))
     print(f"{name}: {COUNTS.passed} passed, {COUNTS.failed} failed", flush=True)

@@ -5,7 +5,7 @@ from collections.abc import Sequence
 from typing import TypedDict
 
 from bg_switch_tools.access_log import Batch, Entry
-from bg_switch_tools.changes import changes
+from bg_switch_tools.changes import changes, is_another_book
 from bg_switch_tools.dashboard.steps import Attempt, orders, steps
 from bg_switch_tools.dashboard.totals import Totals
 from bg_switch_tools.dashboard.traffic import KEPT, SLOT, Traffic
@@ -63,11 +63,12 @@ class Board:
             self.say("answer", f"the switch answers: {in_one_line(report)}")
             self.fault, self.since = "", time.time()
         before, self.report = self.report, report
-        if report is None or (before and report.moment < before.moment):
+        is_another = before is not None and report is not None and is_another_book(before, report)
+        if report is None or is_another:
             self.names = {}
         if report is not None:
             self.names.update({number: revision.name for number, revision in report.revisions.items()})
-            self.totals.take_changes(before, report)
+            self.totals.take_changes(None if is_another else before, report)
             self.attempt.take(report)
         is_first, self.has_asked = not self.has_asked, True
         for change in changes(before, report) if not is_first else []:

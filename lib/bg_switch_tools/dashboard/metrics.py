@@ -92,7 +92,7 @@ class Collector:
         events = [([reason], count) for reason, count in totals.events.items()]
         yield _counter("rollout_events", "Changes, by the reason of the event of Argo Rollouts.", ["reason"], events)
         yield _counter("nginx_http_requests", "Requests that ended.", LABELS, totals.requests.items())
-        yield _counter("bg_switch_response_bytes", "Bytes of the bodies that were answered.", LABELS, totals.bytes.items())
+        yield _counter("bg_switch_response_bytes", "Bytes of responses.", LABELS, totals.bytes.items())
         yield _histogram("nginx_ingress_controller_request_duration_seconds", "From the connection of a client to its end.",
                          totals.durations)
         yield _histogram("nginx_ingress_controller_response_duration_seconds", "From the dial of an endpoint to its response.",

@@ -28,8 +28,8 @@ def read_order(text: bytes) -> Order:
     """The order of a body of JSON: `{"order": "promote", "revision": 2}`."""
     judge = Judge()
     try:
-        told = decoded(text.decode("utf-8"))
-    except (ValueError, RecursionError):
+        told = decoded(text)
+    except ValueError:
         raise WrongOrder("it is no JSON") from None
     members = judge.members(told, "the order", ("order", "revision"), ("order", "revision"))
     line = str(members.get("order"))

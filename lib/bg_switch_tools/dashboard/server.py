@@ -4,10 +4,11 @@ import contextlib
 import html
 import importlib.resources
 import json
+import logging
 import secrets
 from collections.abc import AsyncIterator, Awaitable, Callable
 
-from aiohttp import web
+from aiohttp import http_exceptions, web
 
 from bg_switch_tools.access_log import Batch, Follower
 from bg_switch_tools.connection import HOST, Unreachable, ask
@@ -18,7 +19,7 @@ from bg_switch_tools.meanings import meaning_of, was_carried_out
 from bg_switch_tools.reports import NoReport, Report, read_report
 
 PAUSE = 0.5  # seconds between two reports
-SOON = 0.01  # seconds, while the log is read from before the dashboard's begin
+SOON = 0.01  # seconds, while more of the log is there than was read
 ANSWER = 1.5  # seconds for the switch to answer
 BACKLOG = 1 << 25  # bytes of the log that are read when the dashboard begins
 MOST_WAITING = 100  # updates that a listener may be behind
@@ -70,7 +71,7 @@ class Server:
         self.registry = metrics.registry_of(board)
         self.page = page_file("index.html").replace("{{token}}", html.escape("" if board.is_read_only else self.token))
         self.files = {name: page_file(name) for name in FILES}
-        self.listeners: set[asyncio.Queue[bytes]] = set()
+        self.listeners: dict[asyncio.Queue[bytes], asyncio.Transport | None] = {}
         self.soon = asyncio.Event()
 
     def application(self) -> web.Application:
@@ -78,7 +79,7 @@ class Server:
         made.router.add_get("/", self.show_page)
         made.router.add_get("/metrics", self.show_metrics)
         made.router.add_get("/api/state", self.show_state)
-        made.router.add_get("/api/events", self.show_events)
+        made.router.add_get("/api/events", self.show_events, allow_head=False)
         made.router.add_post("/api/order", self.order)
         made.router.add_get("/{name}", self.show_file)
         made.cleanup_ctx.append(self.looking)
@@ -97,7 +98,7 @@ class Server:
             is_counted = not (self.follower and self.follower.is_behind)
             self.take(*await asyncio.to_thread(self.look), is_counted)
             with contextlib.suppress(TimeoutError):
-                await asyncio.wait_for(self.soon.wait(), SOON if self.follower and self.follower.is_behind else PAUSE)
+                await asyncio.wait_for(self.soon.wait(), SOON if self.follower and self.follower.has_more else PAUSE)
             self.soon.clear()
 
     def look(self) -> tuple[Batch | None, Report | None | str]:
@@ -117,12 +118,18 @@ class Server:
             self.board.take_report(seen)
         if batch and self.follower:
             self.board.take_batch(batch, self.follower.fault, is_counted)
+        self.tell()
+
+    def tell(self) -> None:
+        """Tells what is new to all who listen."""
         told = event("update", self.board.update())
-        for listener in list(self.listeners):
-            if listener.full():
-                self.listeners.discard(listener)  # it reads too slowly: its stream ends, and it begins anew
-            else:
+        for listener, transport in list(self.listeners.items()):
+            if not listener.full():
                 listener.put_nowait(told)
+                continue
+            del self.listeners[listener]  # it reads too slowly: its connection ends, and it begins anew
+            if transport is not None:
+                transport.abort()
 
     async def show_page(self, _: web.Request) -> web.Response:
         return web.Response(text=self.page, content_type="text/html", charset="utf-8")
@@ -146,7 +153,7 @@ class Server:
         stream = web.StreamResponse(headers={**guard.HEADERS, "Content-Type": "text/event-stream; charset=utf-8"})
         listener: asyncio.Queue[bytes] = asyncio.Queue(MOST_WAITING)
         await stream.prepare(request)
-        self.listeners.add(listener)
+        self.listeners[listener] = request.transport
         try:
             await stream.write(event("state", self.board.state()))
             while listener in self.listeners:
@@ -154,7 +161,7 @@ class Server:
         except ConnectionError:
             pass
         finally:
-            self.listeners.discard(listener)
+            self.listeners.pop(listener, None)
         return stream
 
     async def order(self, request: web.Request) -> web.Response:
@@ -176,9 +183,15 @@ class Server:
         except (Unreachable, NoReport) as reason:
             return refusal(503, str(reason))
         self.board.note_order(order.line, reply)
+        self.tell()  # at once: a page that is opened later finds the order in its state, and not in an update as well
         self.soon.set()
         return web.json_response({"line": order.line, "reply": reply, "carried_out": was_carried_out(reply),
                                   "meaning": meaning_of(reply)})
+
+
+def is_worth_telling(record: logging.LogRecord) -> bool:
+    """Whether this is no request that is malformed, of which each peer can send any number."""
+    return not (record.exc_info and isinstance(record.exc_info[1], http_exceptions.HttpProcessingError))
 
 
 def run(board: Board, listen: int) -> None:
@@ -190,4 +203,5 @@ def run(board: Board, listen: int) -> None:
             print(f"dashboard: http://{HOST}:{listen}/", flush=True)
         application.on_startup.append(tell)
         return application
+    logging.getLogger("aiohttp.server").addFilter(is_worth_telling)
     web.run_app(made(), host=HOST, port=listen, print=lambda *_: None, access_log=None, shutdown_timeout=LAST_SECOND)

@@ -15,8 +15,11 @@ ERRORS = ("5xx", NO_ANSWER)
 
 
 def class_of(status: int | None) -> str:
-    """The class of a status, as `5xx`; `none` where there was no answer."""
-    return NO_ANSWER if status is None else f"{status // 100}xx"
+    """The class of a status, as `5xx`; `none` where there was no answer. One outside 100 to 599, which has no class, counts as
+    `5xx` (RFC 9110, section 15)."""
+    if status is None:
+        return NO_ANSWER
+    return f"{status // 100}xx" if 100 <= status <= 599 else "5xx"
 
 
 class Durations:
@@ -92,8 +95,8 @@ class Traffic:
         self.changed.add(begins)
 
     def forget(self, now: float) -> None:
-        """Drops the slots that are older than ten minutes."""
-        for begins in [begins for begins in self.slots if begins < now - KEPT - SLOT]:
+        """Drops the slots that are older than ten minutes, and those that lie ahead, since the clock was set back."""
+        for begins in [begins for begins in self.slots if not now - KEPT - SLOT <= begins <= now + SLOT]:
             del self.slots[begins]
             self.changed.discard(begins)
 

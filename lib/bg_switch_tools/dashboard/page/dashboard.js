@@ -63,7 +63,9 @@ function listen() {
   source = new EventSource("api/events");
   const taken = (take) => (event) => {
     lastEvent = Date.now();
-    take(JSON.parse(event.data));
+    const told = JSON.parse(event.data);
+    Object.setPrototypeOf(told.recent, null);  // a revision may have the name `constructor`
+    take(told);
   };
   source.addEventListener("state", taken(takeState));
   source.addEventListener("update", taken(takeUpdate));

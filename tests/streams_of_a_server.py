@@ -1,0 +1,69 @@
+"""The dashboard's server in this process, whose looks are given by hand: python3 -m tests.streams_of_a_server PORT
+
+Prints what is left of a stream whose client reads nothing, and where a page that is opened after an order finds it."""
+import asyncio
+import json
+import socket
+import sys
+from unittest import mock
+
+from aiohttp import ClientSession, web
+
+from bg_switch_tools.dashboard import server
+from bg_switch_tools.dashboard.board import Board
+from tests.fake_switch import FakeSwitch
+
+GREATEST_WAIT = 10.0  # seconds
+PAUSED = ("open web-v1 1 2", "available 1 2", "deploy web-v2 3 4", "available 2 2")
+
+
+async def read_nothing(looked_at: server.Server, port: int) -> socket.socket:
+    """A stream whose client reads nothing is ended, once it is too far behind. Gives the client's end."""
+    client = socket.create_connection(("127.0.0.1", port))
+    client.sendall(b"GET /api/events HTTP/1.1\r\nHost: localhost\r\n\r\n")
+    while not looked_at.listeners:
+        await asyncio.sleep(0.01)
+    while looked_at.listeners:
+        looked_at.board.say("change", "x" * 100000)
+        looked_at.take(None, None, False)
+        await asyncio.sleep(0.001)
+    return client
+
+
+async def order(looked_at: server.Server, port: int) -> str:
+    """A page is opened after an order: it finds it in its state, or in the update that follows."""
+    address = f"http://localhost:{port}"
+    async with ClientSession() as session:
+        told = await session.post(f"{address}/api/order", data='{"order": "promote", "revision": 2}',
+                                  headers={"Origin": address, "X-Token": looked_at.token})
+        assert told.status == 200, await told.text()
+        stream = await session.get(f"{address}/api/events")
+        seen = []
+        for _ in range(2):
+            await stream.content.readline()
+            event = json.loads((await stream.content.readline()).removeprefix(b"data: "))
+            seen.append(sum(each["kind"] == "order" for each in event["happened"]))
+            await stream.content.readline()
+            looked_at.take(None, None, False)
+    return f"orders in the state and the update: {seen[0]}, {seen[1]}"
+
+
+async def main(port: int) -> None:
+    switch = FakeSwitch("pause")
+    for line in PAUSED:
+        switch.book.answer(line)
+    looked_at = server.Server(Board(switch.port, "", False))
+    with mock.patch.object(looked_at, "look_always", lambda: asyncio.sleep(GREATEST_WAIT)):
+        runner = web.AppRunner(looked_at.application(), access_log=None)
+        await runner.setup()
+    await web.TCPSite(runner, "127.0.0.1", port).start()
+    print(await asyncio.wait_for(order(looked_at, port), GREATEST_WAIT))
+    with await asyncio.wait_for(read_nothing(looked_at, port), GREATEST_WAIT):
+        await asyncio.sleep(0.5)
+        assert runner.server is not None
+        print(f"streams {len(looked_at.listeners)}, connections {len(runner.server.connections)}")
+
+
+if __name__ == "__main__":
+    asyncio.run(main(int(sys.argv[1])))
+    sys.exit(0)
