@@ -298,13 +298,14 @@ def tricks(browser: Browser) -> None:
 
 
 def hostile_names(browser: Browser) -> None:
-    """A name of a revision that no switch would take is text as well."""
+    """A name of a revision that no switch would take is text as well, and each object of JavaScript has a `constructor`."""
     lines = ["moment 1", "phase paused", "active 1", "preview 2", "stable 1", "newest 2",
-             "revision 1 web-v1 desired 2 available 2 open 0 deadline none",
+             "revision 1 constructor desired 2 available 2 open 0 deadline none",
              f"revision 2 {HOSTILE_NAME} desired 2 available 2 open 0 deadline none", "end"]
     with FakePort(lambda _: lines, free_port()) as control, showing(control.port, free_port()) as address:
         open_page(browser, address)
         check_shown("a name with a script, as text", browser, "#revisions", HOSTILE_NAME)
+        check_shown("a revision named constructor, without requests", browser, "[data-revision=constructor]", "constructor", "–")
         browser.click("[data-order=abort]")
         check_shown("and in a question", browser, "#question-title", HOSTILE_NAME)
         check_no_element(browser)
