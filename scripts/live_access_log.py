@@ -6,11 +6,12 @@ import pathlib
 import tempfile
 import time
 from collections.abc import Iterator
+from functools import partial
 
 from support.checks import check, check_within, comes, run
 from support.clients import at_once, connect, get, reset, timed
 from support.endpoints import Endpoint, by_target
-from support.messages import NO_PREVIEW, head_of, request
+from support.messages import NO_PREVIEW, answer, head_of, request
 from support.switch import Switch
 from support.traffic import ACCESS_LOG
 
@@ -269,6 +270,34 @@ def check_lost_lines(lines: list[bytes], count: int) -> None:
     check("no line is lost before the queue is full", sum(len(line) + 1 for line in lines) > QUEUE - max(map(len, lines)), True)
 
 
+def has_ended(switch: Switch) -> bool:
+    return switch.process.poll() is not None
+
+
+def unread_fifo() -> None:
+    """A FIFO as the log, whose reader has gone or stands still, doesn't keep the switch from its end."""
+    for has_gone in (True, False):
+        with tempfile.TemporaryDirectory() as folder:
+            path = pathlib.Path(folder) / "log"
+            os.mkfifo(path)
+            reader = os.open(path, os.O_RDONLY | os.O_NONBLOCK)
+            endpoint = Endpoint(by_target(b"one"))
+            switch = Switch(NO_PREVIEW, preview=False, variables={ACCESS_LOG: str(path)})
+            check("an opening", [switch.order(f"open one {endpoint.port}"), switch.order("available 1 1")], ["ok 0", "ok 0"])
+            if has_gone:
+                os.close(reader)
+                time.sleep(REOPENED)
+            answers = {timed(switch.active, [request(b"/" + b"a" * 1000)]).answer for _ in range(120)}
+            check("answers beside a log that nobody reads", answers, {answer(b"one")})
+            with contextlib.closing(switch.operator()) as operator:
+                operator.order_quit()
+            check(f"an end with a reader that {'has gone' if has_gone else 'stands still'}",
+                  comes(partial(has_ended, switch)), True)
+            switch.kill()
+            if not has_gone:
+                os.close(reader)
+
+
 def no_file() -> None:
     """A log that can't be opened is told, and nothing is served."""
     path = "/nowhere/log"
@@ -299,5 +328,5 @@ def none_ordered() -> None:
 
 
 if __name__ == "__main__":
-    run("live_access_log", (kinds_of_ends, each_field, as_many_lines, renamed_file, full_disk, slow_disk, no_file, no_text,
+    run("live_access_log", (kinds_of_ends, each_field, as_many_lines, renamed_file, full_disk, slow_disk, unread_fifo, no_file, no_text,
                             none_ordered), at_once=3)

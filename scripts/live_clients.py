@@ -330,6 +330,70 @@ def full_port() -> None:
             check("connections that a port keeps", connections_at(switch.active) < 1100, True)
 
 
+def filled(switch: Switch, uploads: list[socket.socket]) -> socket.socket:
+    """Adds uploads until the port is full. Gives the first client that has to wait for an accept."""
+    while True:
+        before = switch.count_descriptors()
+        client = connect(switch.active)
+        time.sleep(0.15)
+        if switch.count_descriptors() == before:
+            return client
+        client.sendall(head_of(MEGABYTE).replace(b"/", b"/slow", 1) + b"x" * 4096)
+        uploads.append(client)
+
+
+def room_is_noticed() -> None:
+    """A client that came while the port was full is accepted by a free worker once there is room, whatever the others do."""
+    def slow(asked: Request, connection: socket.socket) -> None:
+        time.sleep(6 if asked.target == b"/slow" else 0)
+        connection.sendall(response(b"one"))
+
+    for _ in range(4):
+        with serving(Endpoint(slow).port, workers=2, descriptors=64) as switch, contextlib.ExitStack() as stack:
+            uploads: list[socket.socket] = []
+            ended = threading.Event()
+
+            def go_on(clients: list[socket.socket] = uploads, is_over: threading.Event = ended) -> None:
+                while not is_over.wait(0.3):
+                    for client in list(clients):
+                        with contextlib.suppress(OSError):
+                            client.sendall(b"x" * 4096)
+
+            threading.Thread(target=go_on, daemon=True).start()
+            late = filled(switch, uploads)
+            for client in (*uploads, late):
+                stack.enter_context(client)
+            late.sendall(request())
+            uploads[-1].sendall(b"x" * MEGABYTE)
+            start = time.monotonic()
+            check("a client that waited for room", received(late), answer(b"one"))
+            check_within("a client that waited for room while a worker is free", time.monotonic() - start, 4)
+            ended.set()
+
+
+def memory_of_waiting_requests() -> None:
+    """Requests that came whole and wait for a worker count: beyond the bound no further large request is read."""
+    held = Held(b"held")
+    with serving(Endpoint(held).port, timeout=TIMEOUT) as switch, contextlib.ExitStack() as stack:
+        uploads = [stack.enter_context(connect(switch.active)) for _ in range(400)]
+        for client in uploads:
+            client.sendall(head_of(MEGABYTE))
+        before = processes.resident_memory(switch.process.pid)
+        stack.enter_context(connect(switch.active)).sendall(request())
+        held.holds(1)
+        for client in uploads:
+            threading.Thread(target=send_all, args=(client, b"x" * MEGABYTE), daemon=True).start()
+        time.sleep(10)
+        grown = (processes.resident_memory(switch.process.pid) - before) >> 10
+        check("MiB of requests, above 256", max(grown - 256, 0), 0)
+        held.is_free.set()
+
+
+def send_all(client: socket.socket, text: bytes) -> None:
+    with contextlib.suppress(OSError):
+        client.sendall(text)
+
+
 def steady_clients() -> None:
     """Of more clients than a port keeps none is let go whose request goes on."""
     keep_steady(90, 100)
@@ -462,6 +526,6 @@ def gone_while_answered() -> None:
 if __name__ == "__main__":
     checks.run("live_clients", (
         stalled_reader, drips, refusals, long_chunks, served_once, late_requests, continues, slow_readers, many_answers,
-        steady_readers, large_bodies, endless_bodies, uploads, few_descriptors, full_port, steady_clients,
+        steady_readers, large_bodies, endless_bodies, uploads, few_descriptors, full_port, room_is_noticed, memory_of_waiting_requests, steady_clients,
         all_workers_busy, clients_that_close, clients_that_reset, half_closed_client, gone_while_answered), 4, by_hand=(
             two_thousand_uploads, many_steady_clients, ten_thousand_left_open))

@@ -1,6 +1,7 @@
 """The control port of a running `serve`: the order of connections, those that are idle, silent, endless or don't read,
 requests of browsers, and accepts that fail."""
 import contextlib
+import os
 import socket
 import threading
 import time
@@ -237,7 +238,30 @@ def accepts_that_fail() -> None:
         check("accepts that fail are told once", len(told(switch, accepts_fail("control"))), 1)
 
 
+def notices_without_room() -> None:
+    """A notice for which standard error has no room holds no operator up."""
+    reader, writer = os.pipe()
+    os.set_blocking(writer, False)
+    with contextlib.suppress(BlockingIOError):
+        while True:
+            os.write(writer, bytes(4096))
+    os.set_blocking(writer, True)
+    switch = Switch(prepare=lambda: os.dup2(writer, 2))
+    check("an opening beside a full standard error", switch.order("open one 1"), "ok 0")
+    limit = processes.DescriptorLimit(switch.process.pid)
+    limit.refuse()
+    with connect(switch.control):
+        time.sleep(1)
+    limit.lift()
+    with connect(switch.control) as operator:
+        operator.sendall(b"tick 1\n")
+        check("an operator after a notice without room", operator.recv(100), b"ok 0\n")
+    for end in (reader, writer):
+        os.close(end)
+    switch.kill()
+
+
 if __name__ == "__main__":
     checks.run("live_control", (
         endless_connections, idle_connections, silent_connections, connections_that_do_not_read, order_of_lines, lines_of_the_gone,
-        http_before_open, http, http_in_pieces, other_faults, accepts_that_fail), 5)
+        http_before_open, http, http_in_pieces, other_faults, accepts_that_fail, notices_without_room), 5)

@@ -10,7 +10,7 @@ from support.endpoints import Endpoint, by_target, in_pieces
 from support.messages import BAD_GATEWAY, BY_HAND, NO_PREVIEW, answer, request, response
 from support.ports import is_open, is_refused
 from support.processes import DescriptorLimit
-from support.switch import Switch, opened
+from support.switch import Switch, opened, serving
 
 # The C library gives each thread a stack of the limit, and of this size there is none.
 NO_STACK = 1 << 48
@@ -89,6 +89,17 @@ def without_descriptors() -> None:
     switch.check_end_after(operator, "calls, with accepts that failed", 8)
 
 
+def descriptors_of_operators() -> None:
+    """As many idle operators and clients as may wait leave descriptors for the connections to endpoints."""
+    most = 256
+    with serving(Endpoint(by_target(b"one")).port, workers=2, descriptors=most) as switch, contextlib.ExitStack() as stack:
+        for port, count in ((switch.control, most // 4), (switch.active, most // 2), (switch.preview, most // 2)):
+            for _ in range(count):
+                stack.enter_context(clients.connect(port))
+        time.sleep(3)
+        check("a request beside idle operators and clients", clients.timed(switch.active).answer, answer(b"one"))
+
+
 def without_threads() -> None:
     """No thread can be had: the operator is answered up to `quit`, and then the seats are worked in turn."""
     hard = resource.getrlimit(resource.RLIMIT_STACK)[1]
@@ -111,5 +122,5 @@ def without_threads() -> None:
 
 
 if __name__ == "__main__":
-    PARTS = [connections_used_up, a_client_too_many, without_descriptors, without_threads]
+    PARTS = [connections_used_up, a_client_too_many, without_descriptors, descriptors_of_operators, without_threads]
     checks.run("live_resources", PARTS, at_once=4)

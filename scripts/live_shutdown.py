@@ -131,6 +131,56 @@ def waiting_for_workers() -> None:
         check_ends_soon("a shutdown while all workers are busy", switch, 12)
 
 
+def backlog_at_quit() -> None:
+    """Requests that came whole while all workers were busy, and wait in the system for an accept, are answered."""
+    held = Held(b"held")
+    switch, operator = opened(Endpoint(held).port, workers=2)
+    clients = [connect(switch.active) for _ in range(22)]
+    for client in clients:
+        client.sendall(request())
+    held.holds(2)
+    time.sleep(0.5)
+    operator.order_quit()
+    check_ports_closed("a shutdown with clients in the backlog", switch)
+    held.is_free.set()
+    check("requests in the backlog at quit", [received(client) for client in clients], [answer(b"held")] * 22)
+    check_ends_soon("a shutdown with clients in the backlog", switch, 44)
+
+
+def quit_of_the_opener() -> None:
+    """The connection on which the book was opened ends at its quit, though the shutdown waits for a request."""
+    held = Held(b"held")
+    endpoint, switch = Endpoint(held), Switch()
+    with connect(switch.control) as opener, connect(switch.active) as client:
+        opener.sendall(f"open one {endpoint.port}\navailable 1 1\n".encode())
+        client.sendall(request())
+        held.holds(1)
+        opener.sendall(b"quit\n")
+        start = time.monotonic()
+        check("the opener after its quit", received(opener), b"ok 0\nok 0\n")
+        check_within("the opener's connection ends", time.monotonic() - start, SOON)
+        held.is_free.set()
+        check("the request at the quit of the opener", received(client), answer(b"held"))
+    check_ends_soon("a quit of the opener", switch, 2)
+
+
+def waiting_at_the_end() -> None:
+    """Sixty seconds after quit, requests that wait for a worker are dropped: one response's timeout later all is over."""
+    timeout = 15
+    switch, operator = opened(Endpoint(lambda *_: time.sleep(150)).port, timeout=timeout)
+    clients = [connect(switch.active) for _ in range(9)]
+    for client in clients:
+        client.sendall(request()[:-1])
+    time.sleep(1)
+    for client in clients:
+        client.sendall(b"\n")
+    time.sleep(1)
+    operator.order_quit()
+    start = time.monotonic()
+    switch.wait()
+    check_within("a shutdown with requests that wait for a worker", time.monotonic() - start, 60 + timeout + SOON)
+
+
 def at_rest() -> None:
     """With nothing open a switch ends at once, by the operator's tool too."""
     switch, operator = opened(Endpoint(by_target(b"one")).port, workers=2)
@@ -279,5 +329,5 @@ def nothing_to_tell() -> None:
 
 if __name__ == "__main__":
     checks.run("live_shutdown", (
-        graceful, waiting_for_workers, at_rest, before_open, late_at_quit, counted, connections_used_up,
-        too_few_threads, no_threads, accepts_that_fail, nothing_to_tell), 6, by_hand=(sixty_seconds,))
+        graceful, waiting_for_workers, backlog_at_quit, quit_of_the_opener, at_rest, before_open, late_at_quit, counted, connections_used_up,
+        too_few_threads, no_threads, accepts_that_fail, nothing_to_tell), 6, by_hand=(sixty_seconds, waiting_at_the_end))

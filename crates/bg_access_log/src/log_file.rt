@@ -1,6 +1,8 @@
 //! The file of the log.
 
-use libc::{O_APPEND, O_CLOEXEC, O_CREAT, O_NOCTTY, O_WRONLY, STDERR_FILENO};
+use libc::net::{POLLOUT, poll};
+use libc::types::pollfd;
+use libc::{EACCES, O_APPEND, O_CLOEXEC, O_CREAT, O_NOCTTY, O_RDWR, O_WRONLY, STDERR_FILENO};
 use os::FromRawFd;
 use std::alloc::Global;
 use std::io;
@@ -8,6 +10,10 @@ use std::os::fd::{AsRawFd, OwnedFd, RawFd};
 
 /// The permissions of a new file; the process's umask can remove some.
 const MODE: u32 = 0o640;
+
+/// The most bytes of one write to standard error. A pipe that is ready takes as many without waiting
+/// (PIPE_BUF of pipe(7)).
+const PIECE: usize = 4096;
 
 /// A file to which bytes are appended, and the bytes that it has not taken yet.
 #[derive(Drop)]
@@ -65,7 +71,10 @@ impl LogFile {
             if rest.is_empty() {
                 return true;
             }
-            let count = libc::write(file, rest);
+            let count = match &self.file {
+                Some(_) => libc::write(file, rest),
+                None => write_if_ready(file, rest),
+            };
             if count <= 0 {
                 return false;
             }
@@ -82,12 +91,32 @@ impl LogFile {
     }
 }
 
-/// Opens a file to append to it, and creates it if it is missing.
+/// Writes to a descriptor that other processes may share, so it cannot be made non-blocking. Gives -1 if it
+/// takes nothing now.
+fn write_if_ready(file: RawFd, bytes: &[u8]) -> isize {
+    let mut asked = [pollfd {
+        fd: file,
+        events: POLLOUT,
+        revents: 0,
+    }];
+    if poll(&mut asked, 0) < 1 {
+        return -1;
+    }
+    libc::write(file, &bytes[..bytes.len().min(PIECE)])
+}
+
+/// Opens a file to append to it, and creates it if it is missing. Neither this nor a later write waits for
+/// the reader of a FIFO: Linux opens a FIFO at once to read and write (fifo(7)).
 fn open_to_append(path: &str) -> io::Result<OwnedFd> {
-    let flags = O_WRONLY | O_APPEND | O_CREAT | O_NOCTTY | O_CLOEXEC;
-    let file = os::open_with(path.as_bytes(), flags, MODE);
+    let flags = O_APPEND | O_CREAT | O_NOCTTY | O_CLOEXEC;
+    let mut file = os::open_with(path.as_bytes(), O_RDWR | flags, MODE);
+    if file < 0 && os::errno() == EACCES {
+        // it may be written, but not read
+        file = os::open_with(path.as_bytes(), O_WRONLY | flags, MODE);
+    }
     if file < 0 {
         return Err(io::Error::from_raw_os_error(os::errno()));
     }
+    os::set_nonblocking(file, true);
     Ok(unsafe { OwnedFd::from_raw_fd(file) })
 }

@@ -94,12 +94,15 @@ impl ClientPort {
         })
     }
 
-    /// Begins a graceful shutdown. The port refuses new clients from now on and closes connections
-    /// that sent nothing. For 60 seconds requests may still arrive, and pending responses are written;
-    /// after that the event loop drops them. It does not end a request that a worker serves.
+    /// Begins a graceful shutdown. The port first accepts the clients that wait in the backlog, as far as it
+    /// has room, because they may have sent their requests while all workers were busy. It refuses new
+    /// clients from then on, and closes connections that sent nothing. For 60 seconds requests may still
+    /// arrive or wait for a worker, and pending responses are written; after that the event loop drops them.
+    /// It does not end a request that a worker serves.
     pub fn close<R: Clock + Wait>(&self, rt: &R) {
         let until = self.clock.now(rt).saturating_add(CLOSING_MILLIS);
         self.closing_until.fetch_min(until, Ordering::SeqCst);
+        self.accept_backlog(rt);
         self.listener.close();
         {
             let mut pending = self.pending.lock(rt);

@@ -6,6 +6,7 @@ use crate::listener::Accepted;
 use crate::pending::Given;
 use crate::pending_connection::{OverRequest, PendingConnection};
 use crate::request_buffer::RequestBuffer;
+use crate::sockets::is_ready;
 use crate::wait_sets::{Ready, WaitSet};
 use std::io;
 use std::io::ErrorKind;
@@ -25,6 +26,9 @@ const FULL_PAUSE_MILLIS: i32 = 20;
 
 /// The first read of a connection waits only while fewer connections than this are pending.
 const FEW_PENDING: usize = 32;
+
+/// The maximum number of clients of the backlog that are accepted when the port is closed.
+const MOST_OF_BACKLOG: u32 = 1024;
 
 /// The result of a step.
 #[derive(Drop)]
@@ -70,9 +74,9 @@ impl ClientPort {
                 Ready::Listener => self.accept_at(rt, set, &mut failures)?,
                 Ready::Over => {
                     self.watch.over.take();
-                    self.take_over(rt)?
+                    self.take_over_or_accept(rt, set, &mut failures)?
                 }
-                Ready::Nothing => self.take_over(rt)?,
+                Ready::Nothing => self.take_over_or_accept(rt, set, &mut failures)?,
             };
             match step {
                 Step::Given(request) => return Ok(Some(request)),
@@ -101,6 +105,20 @@ impl ClientPort {
                 self.end_one();
                 Err(io::Error::from(ErrorKind::OutOfMemory))
             }
+        }
+    }
+
+    /// Takes a pending connection whose request is over. If there is none, accepts one: the worker that the
+    /// listener's event woke may have taken a pending one instead, and the event wakes no other.
+    fn take_over_or_accept<R: Clock + Wait>(
+        &self,
+        rt: &R,
+        set: &WaitSet,
+        failures: &mut u32,
+    ) -> io::Result<Step> {
+        match self.take_over(rt)? {
+            Step::Nothing if is_ready(self.listener.get()) => self.accept_at(rt, set, failures),
+            step => Ok(step),
         }
     }
 
@@ -148,7 +166,30 @@ impl ClientPort {
         if !has_made_room {
             self.watch.over.wait(millis);
         }
-        self.take_over(rt)
+        let step = self.take_over(rt)?;
+        if matches!(step, Step::Given(_)) {
+            // another worker looks at the listener, whose event woke this one
+            self.watch.over.post();
+        }
+        Ok(step)
+    }
+
+    /// Accepts the clients that wait in the backlog, as long as the port has room. Workers get them as
+    /// they get other pending connections.
+    pub(crate) fn accept_backlog<R: Clock + Wait>(&self, rt: &R) {
+        for _ in 0..MOST_OF_BACKLOG {
+            if self.is_full.load(Ordering::SeqCst) {
+                return;
+            }
+            let Accepted::Stream(stream) = self.listener.accept() else {
+                return;
+            };
+            if let Step::Given(request) = self.begin_request(rt, stream) {
+                let mut pending = self.pending.lock(rt);
+                pending.add_over(request, &self.watch);
+                self.publish(&pending);
+            }
+        }
     }
 
     /// Reads the available bytes of a request. If the request is not over, leaves its connection to

@@ -27,6 +27,8 @@ struct Totals {
     /// The number of connections whose request is still arriving.
     arriving: usize,
     request_bytes: usize,
+    /// The part of `request_bytes` that belongs to requests that are over and wait for workers.
+    over_bytes: usize,
     response_bytes: usize,
 }
 
@@ -90,6 +92,7 @@ impl Pending {
             totals: Totals {
                 arriving: 0,
                 request_bytes: 0,
+                over_bytes: 0,
                 response_bytes: 0,
             },
             last_number: 0,
@@ -193,12 +196,19 @@ impl Pending {
             return;
         };
         connection.forget(&watch.set);
-        let Some(request) = connection.into_over() else {
-            return;
-        };
+        if let Some(request) = connection.into_over() {
+            self.add_over(request, watch);
+        }
+    }
+
+    /// Adds a connection whose request is over, for a worker.
+    pub(crate) fn add_over(&mut self, request: OverRequest, watch: &Watch) {
         let weight = request.weight();
         match self.over.push_back(request) {
-            Ok(()) => self.totals.add(true, weight),
+            Ok(()) => {
+                self.totals.add(true, weight);
+                self.totals.over_bytes = self.totals.over_bytes.saturating_add(weight);
+            }
             Err(_) => self.lost = self.lost.saturating_add(1),
         }
         watch.over.post();
@@ -207,7 +217,9 @@ impl Pending {
     /// Gives a connection whose request is over to a worker.
     pub(crate) fn take_over(&mut self, now: u64, watch: &Watch) -> Given {
         if let Some(request) = self.over.pop_front() {
-            self.totals.remove(true, request.weight());
+            let weight = request.weight();
+            self.totals.remove(true, weight);
+            self.totals.over_bytes = self.totals.over_bytes.saturating_sub(weight);
             self.regulate(now, watch);
             return Given::Request(request);
         }
@@ -303,7 +315,9 @@ impl Pending {
     }
 
     /// Pauses all large requests except the oldest ones while requests take too much memory, so that
-    /// some are completed. They continue when requests take less than three quarters of the bound.
+    /// some are completed. Pauses these too while the requests that wait for workers alone take more than
+    /// half of the bound: further ones would only wait with them. All continue when requests take less than
+    /// three quarters of the bound.
     fn regulate(&mut self, now: u64, watch: &Watch) {
         let most = self.bounds.request_bytes;
         let taken = self.totals.request_bytes;
@@ -316,6 +330,8 @@ impl Pending {
         if taken < most / 4 * 3 {
             self.is_pausing = false;
             self.read_up_to(u64::MAX, now, watch);
+        } else if self.totals.over_bytes > most / 2 {
+            self.read_up_to(0, now, watch);
         } else {
             self.read_up_to(self.last_read_number(), now, watch);
         }
@@ -363,11 +379,23 @@ impl Pending {
         }
     }
 
-    /// Ends: closes each connection, and adds no further one.
+    /// Ends: closes each connection, also those whose request waits for a worker, and adds no further one.
     pub(crate) fn end(&mut self, watch: &Watch) {
         self.has_ended = true;
         for key in 0..self.connections.capacity() {
             self.let_go(key, watch);
+        }
+        for _ in 0..self.over.len() {
+            let Some(mut request) = self.over.pop_front() else {
+                return;
+            };
+            let weight = request.weight();
+            self.totals.remove(true, weight);
+            self.totals.over_bytes = self.totals.over_bytes.saturating_sub(weight);
+            request.let_go();
+            if self.over.push_back(request).is_err() {
+                self.lost = self.lost.saturating_add(1);
+            }
         }
     }
 }

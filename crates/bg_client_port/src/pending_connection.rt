@@ -1,7 +1,7 @@
 //! A pending connection: no worker has it.
 
 use crate::progress::{FIRST_BYTE_PACE, Pace, Progress, REQUEST_PACE, RESPONSE_PACE};
-use crate::request_buffer::{BufferedRequest, RequestBuffer};
+use crate::request_buffer::{BufferedRequest, Ending, RequestBuffer};
 use crate::response_buffer::{ResponseBuffer, Turn};
 use crate::wait_sets::{Interest, LoopSet};
 use std::net::{Shutdown, TcpStream};
@@ -38,6 +38,15 @@ impl OverRequest {
     /// Its memory in bytes.
     pub(crate) fn weight(&self) -> usize {
         self.request.bytes.capacity()
+    }
+
+    /// Gives the request up, and drops its bytes. Its client sees the end at once.
+    pub(crate) fn let_go(&mut self) {
+        self.request.bytes.clear();
+        self.request.bytes.shrink_to_fit();
+        self.request.ending = Ending::LetGo;
+        // the client may have ended it already
+        let _ = self.stream.shutdown(Shutdown::Both);
     }
 }
 

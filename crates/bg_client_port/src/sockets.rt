@@ -3,12 +3,12 @@ ghost use Rattle.std.specs.Prelude.{◌≤◌, IfOk};
 ghost use Rattle.std.specs.Io.{ReadsAtMost, WritesAtMost};
 
 use libc::net::{
-    MSG_DONTWAIT, MSG_NOSIGNAL, MSG_PEEK, POLLERR, POLLHUP, POLLRDHUP, poll, recv, send,
+    MSG_DONTWAIT, MSG_NOSIGNAL, MSG_PEEK, POLLERR, POLLHUP, POLLIN, POLLRDHUP, poll, recv, send,
 };
 use libc::types::pollfd;
 use os::errno;
 use std::io;
-use std::net::TcpStream;
+use std::net::{TcpListener, TcpStream};
 use std::os::fd::AsRawFd;
 
 /// The maximum number of bytes that one read of a connection asks for.
@@ -55,6 +55,17 @@ pub(crate) fn is_drained(stream: &TcpStream) -> bool {
         Ok(count) => count == 0,
         Err(error) => error.kind() == io::ErrorKind::WouldBlock,
     }
+}
+
+/// Whether an accept would find a connection. An accept itself cannot tell: if no descriptor is free, it
+/// fails even if none waits.
+pub(crate) fn is_ready(listener: &TcpListener) -> bool {
+    let mut asked = [pollfd {
+        fd: listener.as_raw_fd(),
+        events: POLLIN,
+        revents: 0,
+    }];
+    poll(&mut asked, 0) > 0
 }
 
 /// What the system knows about the other end of a connection.

@@ -23,8 +23,10 @@ const TURN_SECONDS: u64 = 1;
 ///
 /// A read waits for at most a second, and is `Interrupted` if nothing came, so that the reader can check
 /// whether it still needs the response. If nothing has come for [`ResponseTimeout::silent_seconds`], it
-/// fails with `TimedOut`. A write that sends no byte in 30 seconds fails with `TimedOut`. The timeouts cost
-/// two system calls for each connection.
+/// fails with `TimedOut`. A write that sends no byte in 30 seconds fails with `TimedOut`. An endpoint may
+/// answer before it has read the whole request, and close its connection (RFC 9112 section 9.5). Further
+/// writes then do nothing, and reads give what it has sent. At its end they fail with the error of the
+/// write. The timeouts cost two system calls for each connection.
 #[derive(Drop)]
 pub struct Connection<'a, C: Clock> {
     stream: TcpStream,
@@ -37,6 +39,8 @@ pub struct Connection<'a, C: Clock> {
     turns_left: u64,
     /// The number of turns in a row in which nothing may come.
     turns: u64,
+    /// The error of the write after which the endpoint reads no more of the request.
+    unread: Option<ErrorKind>,
 }
 
 impl<'a, C: Clock> Connection<'a, C> {
@@ -60,6 +64,7 @@ impl<'a, C: Clock> Connection<'a, C> {
             timeout,
             turns_left: turns,
             turns,
+            unread: None,
         })
     }
 
@@ -122,13 +127,29 @@ impl<'a, C: Clock> Connection<'a, C> {
 
 impl<C: Clock> Read for Connection<'_, C> {
     fn read(&mut self, buf: &mut [u8]) -> io::Result<usize> {
-        self.read_in_turn(buf)
+        match (self.read_in_turn(buf)?, self.unread) {
+            (0, Some(kind)) if !buf.is_empty() => Err(io::Error::from(kind)),
+            (count, _) => Ok(count),
+        }
     }
 }
 
 impl<C: Clock> Write for Connection<'_, C> {
     fn write(&mut self, bytes: &[u8]) -> io::Result<usize> {
-        self.write_in_tries(bytes)
+        if self.unread.is_some() {
+            return Ok(bytes.len());
+        }
+        match self.write_in_tries(bytes) {
+            Err(error)
+                if matches!(
+                    error.kind(),
+                    ErrorKind::BrokenPipe | ErrorKind::ConnectionReset
+                ) => {
+                self.unread = Some(error.kind());
+                Ok(bytes.len())
+            }
+            outcome => outcome,
+        }
     }
 
     fn flush(&mut self) -> io::Result<()> {

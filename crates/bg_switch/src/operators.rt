@@ -94,10 +94,11 @@ pub fn answer_operators<'a, N: Names, R: Clock + Wait>(
     telling: &'a Telling,
 ) {
     telling.note_open();
-    if opener.say(Answer::Opened).is_ok() && quits(rt, desk, opener, telling) {
+    let has_quit = opener.say(Answer::Opened).is_ok() && quits(rt, desk, opener, telling);
+    opener.end();
+    if has_quit {
         return;
     }
-    opener.end();
     for _ in rt.forever() {
         telling.note_entries(desk.entries_used(rt));
         let connection = control.next(rt, telling);

@@ -11,8 +11,15 @@ use std::sync::Wait;
 use std::time::Clock;
 use std::{fmt, io};
 
-/// The number of descriptors that are kept free for operators and for the control port itself.
+/// The number of descriptors that are kept free for the control port itself and for the operator that has
+/// its turn.
 const CONTROL_DESCRIPTORS: usize = 6;
+
+/// The waiting operators may have one in this many of the descriptors, and at most `MOST_WAITING`
+/// (`ControlPort::next`).
+const CONTROL_SHARE: usize = 4;
+
+const MOST_WAITING: usize = 1024;
 
 /// The port that cannot be bound or set up, and the reason.
 #[derive(Debug, Drop)]
@@ -153,8 +160,14 @@ impl ClientPorts {
 fn bounds_of(site: &Site) -> Bounds {
     let ports = if site.preview.is_some() { 2 } else { 1 };
     let workers = usize::from(site.workers).saturating_add(1);
-    let reserved = reserved_descriptors(ports, workers, CONTROL_DESCRIPTORS);
-    Bounds::usual(most_descriptors(), reserved, ports)
+    let descriptors = most_descriptors();
+    let waiting = (descriptors / CONTROL_SHARE).min(MOST_WAITING);
+    let others = CONTROL_DESCRIPTORS.saturating_add(waiting);
+    Bounds::usual(
+        descriptors,
+        reserved_descriptors(ports, workers, others),
+        ports,
+    )
 }
 
 /// The address at which a port is bound.

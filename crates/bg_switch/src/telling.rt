@@ -7,6 +7,8 @@ use bg_command_line::Site;
 use bg_control_port::ControlEvents;
 use bg_revisions::Service;
 use libc::STDERR_FILENO;
+use libc::net::{POLLOUT, poll};
+use libc::types::pollfd;
 use std::alloc::Global;
 use std::io::Write;
 use std::sync::atomic::{AtomicBool, AtomicU64, Ordering};
@@ -227,13 +229,24 @@ impl<'p> Telling<'p> {
         }
     }
 
-    /// Writes a line to standard error.
+    /// Writes a line to standard error. If standard error takes nothing now, the line is lost: operators are
+    /// served by this thread, and do not wait for whoever reads it.
     fn tell(&self, notice: &Notice) {
         let mut line = Vec::new(self.alloc);
-        if writeln!(line, "bg_switch: {notice}").is_ok() {
+        if writeln!(line, "bg_switch: {notice}").is_ok() && takes_a_line() {
             let _ = libc::write(STDERR_FILENO, &line);
         }
     }
+}
+
+/// Whether standard error takes a line of up to 4,096 bytes without waiting (PIPE_BUF of pipe(7)).
+fn takes_a_line() -> bool {
+    let mut asked = [pollfd {
+        fd: STDERR_FILENO,
+        events: POLLOUT,
+        revents: 0,
+    }];
+    poll(&mut asked, 0) > 0
 }
 
 impl ControlEvents for Telling<'_> {
