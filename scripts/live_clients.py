@@ -345,7 +345,7 @@ def filled(switch: Switch, uploads: list[socket.socket]) -> socket.socket:
 def room_is_noticed() -> None:
     """A client that came while the port was full is accepted by a free worker once there is room, whatever the others do."""
     def slow(asked: Request, connection: socket.socket) -> None:
-        time.sleep(6 if asked.target == b"/slow" else 0)
+        time.sleep(12 if asked.target == b"/slow" else 0)
         connection.sendall(response(b"one"))
 
     for _ in range(4):
@@ -367,7 +367,7 @@ def room_is_noticed() -> None:
             uploads[-1].sendall(b"x" * MEGABYTE)
             start = time.monotonic()
             check("a client that waited for room", received(late), answer(b"one"))
-            check_within("a client that waited for room while a worker is free", time.monotonic() - start, 4)
+            check_within("a client that waited for room while a worker is free", time.monotonic() - start, POLITE)
             ended.set()
 
 

@@ -19,6 +19,9 @@ PAUSED = ("open web-v1 1 2", "available 1 2", "deploy web-v2 3 4", "available 2 
 
 async def read_nothing(looked_at: server.Server, port: int) -> socket.socket:
     """A stream whose client reads nothing is ended, once it is too far behind. Gives the client's end."""
+    while looked_at.listeners:  # the page of before has gone, which its next update shows
+        looked_at.take(None, None, False)
+        await asyncio.sleep(0.01)
     client = socket.create_connection(("127.0.0.1", port))
     client.sendall(b"GET /api/events HTTP/1.1\r\nHost: localhost\r\n\r\n")
     while not looked_at.listeners:
