@@ -14,7 +14,7 @@ use bg_strategy::{Strategy, is_dns_label};
 use std::alloc::{AllocError, Global};
 
 /// The greatest number of seats of a history.
-const MOST_SEATS: usize = 8;
+const MOST_SEATS: usize = 2048;
 
 /// Whether the history is legal, and no allowed outcome is left undone at its end. The only error is `OutOfMemory`,
 /// after an allocation failure.

@@ -7,7 +7,7 @@ use bg_history::{Entry, History};
 
 /// Whether each request number lies from 1 to the number of given ones, for a history with `seats` seats.
 pub fn are_given(history: &History, seats: u32) -> bool
-    requires few { seats ≤ 8 }
+    requires few { seats ≤ 2048 }
     requires seats { seats ≡ history.now.opening.seats }
     requires closed { length history.now.closed ≡ seats }
     ensures { result ≡ all_given (given history.now.closed history.now.past)
@@ -41,11 +41,11 @@ fn enters(entry: &Entry) -> u64
 
 /// The number of closed requests whose entries were dropped.
 fn closed(history: &History, seats: u32) -> u128
-    requires few { seats ≤ 8 }
+    requires few { seats ≤ 2048 }
     requires seats { seats ≡ history.now.opening.seats }
     requires closed { length history.now.closed ≡ seats }
     ensures sum { result ≡ sum history.now.closed }
-    ensures most { result ≤ 8 * 2 ^ 64 }
+    ensures most { result ≤ 2048 * 2 ^ 64 }
 {
     let mut count: u128 = 0;
     for seat in 0..seats {

@@ -1,7 +1,7 @@
 //! The book: opening it, recording events, and ending it.
 ghost use Rattle.std.specs.Prelude.{◌≡◌, ◌≤◌, true, IfOk, OnErr, ◌+◌, length, ℕ, List, [], IfErr, IsTrue, MatchResult, None, Some, slice_get};
 ghost use Rattle.bg_ledger.specs.Blanks.{AreAllFor};
-ghost use Rattle.bg_rollout.specs.Refusals.{open_refusal, AnswersBy, control_refusal, event_of};
+ghost use Rattle.bg_rollout.specs.Refusals.{open_refusal, many_seats_refusal, AnswersBy, control_refusal, event_of};
 ghost use Rattle.bg_rollout.specs.Changes.{opened, NewSeats, Stepped, with_past};
 ghost use Rattle.bg_rollout.specs.Gathering.{are_all, gather_fault as fault_in};
 ghost use Rattle.bg_rollout.specs.Compaction.{with_compacted};
@@ -31,7 +31,7 @@ use std::marker::Model;
 /// The routing book of one rollout.
 ///
 /// Contracts see its settings, its history, the list of open requests of each revision, and the book's record of
-/// each seat. [`crate::laws::headline`] says what holds between calls. `N` names the ledgers that tie the records to
+/// each seat. [`crate::laws::headline`] says what holds between calls. `N` names the tokens that tie the records to
 /// the seats, so a caller opens and uses a book inside a function that is generic over `N`.
 #[derive(Drop)]
 pub struct Book<N: Names> {
@@ -54,8 +54,8 @@ impl<N: Names> Model for Book<N> {
 impl<N: Names> Book<N> {
     /// Opens a book whose revision 1 has this name and these ports. Revision 1 wants its full size and has no
     /// endpoint available; both services select it. Gives the book, which keeps a copy of the strategy, and its seats
-    /// in order of index, each without a call. `N` sets the number of seats and names the ledgers that `blanks` are
-    /// for. An error drops the blanks.
+    /// in order of index, each without a call. `N` sets the number of seats and the names of the tokens in
+    /// `blanks`. An error drops the blanks.
     ///
     /// The error is the first of these that applies: `BadName` if the name is not a DNS label; `BadPorts` if there are
     /// not exactly `replicas` distinct ports from 1; `BadSeats` if there are not 1 to 8 seats; `BadLimits` if a limit
@@ -79,6 +79,32 @@ impl<N: Names> Book<N> {
         ensures all { IfOk result (λ r. are_all N.seats r.1.items ≡ true) }
     {
         let (rollout, handed_out) = Rollout::open(
+            alloc, strategy, name, ports, seats, limits, blanks,
+        )?;
+        Ok((Book { alloc, rollout }, handed_out))
+    }
+
+    /// Opens a book as [`Book::open`] does, but with up to 2,048 seats: the error is `BadSeats` only if there are not
+    /// 1 to 2,048 seats.
+    pub fn open_with_many_seats(
+        alloc: Global,
+        strategy: &Strategy,
+        name: &str,
+        ports: &[u16],
+        seats: u32,
+        limits: Limits,
+        blanks: Blanks,
+    ) -> Result<(Book<N>, Vec<Seat<N>>), OpenFault>
+        requires blanks { AreAllFor N.Names blanks }
+        requires seats { 1 ≤ seats → seats ≤ 2048 → N.seats ≡ seats }
+        ensures refusal { AnswersBy
+            (many_seats_refusal strategy.now name.now ports.now seats limits) open_fault.OutOfMemory result }
+        ensures book { IfOk result
+            (λ r. r.0 ≡ opened strategy.now name.now ports.now seats limits r.1.items) }
+        ensures seats { IfOk result (λ r. NewSeats seats r.1.items) }
+        ensures all { IfOk result (λ r. are_all N.seats r.1.items ≡ true) }
+    {
+        let (rollout, handed_out) = Rollout::open_with_many_seats(
             alloc, strategy, name, ports, seats, limits, blanks,
         )?;
         Ok((Book { alloc, rollout }, handed_out))

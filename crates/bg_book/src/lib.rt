@@ -1,7 +1,7 @@
 //! The routing book: the revision that each service selects, and the open requests.
 //!
 //! Each event is one call of [`Book::enter`], [`Book::leave`] or [`Book::control`]. After every call, the running
-//! state of the book is what its history says (`specs/`). Ledgers tie the book's record of each seat to the seat
+//! state of the book is what its history says (`specs/`). Tokens tie the book's record of each seat to the seat
 //! (bg_ledger), so what a worker was told stays true of the book. Threads share a book through a [`Desk`].
 #![tactic(auto)]
 

@@ -6,7 +6,7 @@ ghost use Rattle.bg_ledger.specs.declared.holding.Holding.{Holding};
 ghost use Rattle.bg_rollout.specs.Changes.{opened, NewSeats};
 ghost use Rattle.bg_rollout.specs.Compaction.{with_compacted};
 ghost use Rattle.bg_rollout.specs.Gathering.{are_all};
-ghost use Rattle.bg_rollout.specs.Refusals.{open_refusal, AnswersBy};
+ghost use Rattle.bg_rollout.specs.Refusals.{open_refusal, many_seats_refusal, AnswersBy};
 ghost use Rattle.bg_rollout.specs.Routing.{Routing};
 ghost use Rattle.bg_rollout.specs.declared.fault.OpenFault.TheVariants.{OutOfMemory};
 ghost use Rattle.bg_book.specs.Runs.{AreOut, CallStep, LeavesAll, Runs, Unchanged};
@@ -61,6 +61,30 @@ impl<N: Names> OpenBook<N> {
         ensures seats { IfOk result (λ made. NewSeats seats made.seats) }
     {
         let (book, seats) = Book::open(alloc, strategy, name, ports, seats, limits, blanks)?;
+        Ok(OpenBook { book, seats })
+    }
+
+    /// Opens a book as [`Book::open_with_many_seats`] does, with the same errors.
+    pub fn open_with_many_seats(
+        alloc: Global,
+        strategy: &Strategy,
+        name: &str,
+        ports: &[u16],
+        seats: u32,
+        limits: Limits,
+        blanks: Blanks,
+    ) -> Result<OpenBook<N>, OpenFault>
+        requires blanks { AreAllFor N.Names blanks }
+        requires seats { 1 ≤ seats → seats ≤ 2048 → N.seats ≡ seats }
+        ensures refusal { AnswersBy
+            (many_seats_refusal strategy.now name.now ports.now seats limits) OutOfMemory result }
+        ensures book { IfOk result
+            (λ made. made.book ≡ opened strategy.now name.now ports.now seats limits made.seats) }
+        ensures seats { IfOk result (λ made. NewSeats seats made.seats) }
+    {
+        let (book, seats) = Book::open_with_many_seats(
+            alloc, strategy, name, ports, seats, limits, blanks,
+        )?;
         Ok(OpenBook { book, seats })
     }
 

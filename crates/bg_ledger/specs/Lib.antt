@@ -1,4 +1,4 @@
 pub mod Blanks
 pub mod Holdings
 pub mod Picks
-pub mod Sides
+pub mod Tokens

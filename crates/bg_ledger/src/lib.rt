@@ -1,14 +1,15 @@
-//! A worker's seat and the book's record of it, and the proof (ledgers) that the two agree.
+//! A worker's seat and the book's record of it, and the proof (tokens) that the two agree.
 //!
 //! A worker has a `Seat`: the number of its answered calls, and the number, revision and port of the request that
 //! it holds. The book has a `SeatRecord` of each seat, with a copy of the same four quantities. The seat and its
-//! record come together only while the book's lock is held, so no clause of either can refer to the other. A ledger
-//! can: its tokens are split between the two sides, and together they prove that the copies are equal, regardless
-//! of the calls in between. The tokens take no space at run time, and calls on them do nothing at run time.
+//! record come together only while the book's lock is held, so no clause of either can refer to the other. Tokens
+//! can: each side has one, both have the same name, and two tokens of one name always say the same. So the copies are
+//! equal, regardless of the calls in between. The tokens take no space at run time, and calls on them do nothing at
+//! run time.
 //!
-//! A ledger's name is a type. So a caller opens and uses a book inside a function that is generic over `N: Names`.
-//! It calls this function with `Brand` for `N` and with new `Blanks`. The caller's proof picks the names with
-//! `names_of` (`specs/Picks.antt`):
+//! The names of a book's tokens are a ghost member of a type. So a caller opens and uses a book inside a function that
+//! is generic over `N: Names`. It calls this function with `Brand` for `N` and with new `Blanks`. The caller's proof
+//! picks the names with `names_of` (`specs/Picks.antt`):
 //!
 //! ```text
 //! abbrev pub ghosts-work_four_seats : goal.ghosts-work_four_seats
@@ -21,14 +22,12 @@
 
 mod blanks;
 mod holding;
-mod indexed;
 mod names;
-mod quantity;
 mod record;
 mod seat;
-mod side;
+mod tokens;
 
-pub use blanks::{Blanks, SeatBlanks};
+pub use blanks::Blanks;
 pub use holding::Holding;
 pub use names::Names;
 pub use record::{SeatRecord, pair};

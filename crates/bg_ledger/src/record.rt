@@ -1,42 +1,86 @@
 //! The book's side.
-ghost use Rattle.std.specs.Prelude.{◌≡◌, ◌<◌, ◌^◌};
-ghost use Rattle.bg_ledger.specs.Blanks.{AreFor};
-ghost use Rattle.bg_ledger.specs.Holdings.{fresh, after_enter, after_leave};
+ghost use Rattle.std.specs.Prelude.{◌≡◌, ◌+◌, ◌<◌, ◌^◌, drop};
+ghost use Rattle.bg_ledger.specs.Blanks.{AreFrom};
+ghost use Rattle.bg_ledger.specs.Holdings.{IsInBounds, fresh, after_enter, after_leave};
 ghost use Rattle.bg_ledger.specs.declared.holding.Holding.{Holding};
-ghost use Rattle.bg_ledger.specs.Sides.{record_holding};
+ghost use Rattle.bg_ledger.specs.Tokens.{amounts_of};
 
-use crate::blanks::SeatBlanks;
+use crate::blanks::Blanks;
 use crate::holding::Holding;
-use crate::indexed::{RecordSides, exchange, pair_at};
 use crate::names::Names;
 use crate::seat::Seat;
-use std::marker::Model;
+use crate::tokens::{RecordToken, exchange};
+use std::marker::{Model, PhantomData};
 
 /// A book's record of the seat of the same index: the calls that the book answered to it.
 #[derive(Drop)]
 pub struct SeatRecord<N: Names> {
-    side: RecordSides<N>,
+    holding: Holding,
+    token: RecordToken,
+    names: PhantomData<N>,
 }
 
 impl<N: Names> Model for SeatRecord<N> {
     ghost Value = { Holding };
 
-    ghost view = { λ own. record_holding own.side };
+    ghost view = { λ own. own.holding };
+
+    ghost invariant = { λ own. (own.token.name ≡ N.name own.holding.index)
+        × (own.token.amounts ≡ amounts_of own.holding) };
 }
 
-/// Makes the record and the seat of an index below the number of seats, from the blanks of that index. The seat
-/// holds no request and has no answered call. The call allocates nothing.
-pub fn pair<N: Names>(index: u32, blanks: SeatBlanks) -> (SeatRecord<N>, Seat<N>)
+/// Makes the record and the seat of an index below the number of seats, from the first of the blanks. The seat holds
+/// no request and has no answered call. The call allocates nothing.
+pub fn pair<N: Names>(index: u32, blanks: &mut Blanks) -> (SeatRecord<N>, Seat<N>)
     requires index { index < N.seats }
-    requires blanks { AreFor N.Names index blanks }
+    requires blanks { AreFrom N.Names index blanks.old }
     ensures seat { result.1 ≡ fresh index }
     ensures own { result.0 ≡ result.1 }
+    ensures blanks { AreFrom N.Names (index + 1) blanks.new }
 {
-    let (own, side) = pair_at::<N>(index, blanks);
-    (SeatRecord { side: own }, Seat { side })
+    let (own, seat) = blanks.take();
+    let holding = Holding {
+        index,
+        calls: 0,
+        number: 0,
+        revision: 0,
+        port: 0,
+    };
+    let record = SeatRecord {
+        holding,
+        token: own,
+        names: PhantomData,
+    };
+    let seat = Seat {
+        holding,
+        token: seat,
+        names: PhantomData,
+    };
+    (record, seat)
 }
 
 impl<N: Names> SeatRecord<N> {
+    /// Sets both sides to new quantities. It proves that they were equal.
+    fn set(&mut self, seat: &mut Seat<N>, next: Holding)
+        requires index { self.old.index ≡ seat.old.index }
+        requires next { next.index ≡ seat.old.index }
+        requires bounds { IsInBounds N.seats next }
+        ensures equal { self.old ≡ seat.old }
+        ensures seat { seat.new ≡ next }
+        ensures own { self.new ≡ next }
+    {
+        exchange(
+            &mut self.token,
+            &mut seat.token,
+            next.calls,
+            next.number,
+            next.revision,
+            next.port,
+        );
+        self.holding = next;
+        seat.holding = next;
+    }
+
     /// Counts a call by which the seat gets a request, with this number, revision and port.
     pub fn enter(&mut self, seat: &mut Seat<N>, number: u64, revision: u64, port: u16)
         requires index { self.old.index ≡ seat.old.index }
@@ -55,7 +99,7 @@ impl<N: Names> SeatRecord<N> {
             revision,
             port: port as u64,
         };
-        exchange::<N>(&mut self.side, &mut seat.side, next);
+        self.set(seat, next);
     }
 
     /// Counts a call by which the seat's request leaves. Gives the number and the revision of that request.
@@ -75,8 +119,8 @@ impl<N: Names> SeatRecord<N> {
             revision: 0,
             port: 0,
         };
-        let was = exchange::<N>(&mut self.side, &mut seat.side, next);
-        (was.number, was.revision)
+        self.set(seat, next);
+        (before.number, before.revision)
     }
 
     /// Changes nothing. It proves that the seat and the record of the same index are equal, regardless of the calls in
@@ -88,7 +132,7 @@ impl<N: Names> SeatRecord<N> {
         ensures own { self.new ≡ self.old }
     {
         let same = seat.holding();
-        exchange::<N>(&mut self.side, &mut seat.side, same);
+        self.set(seat, same);
     }
 
     /// Ends both sides, and gives the number of answered calls.
@@ -99,10 +143,11 @@ impl<N: Names> SeatRecord<N> {
     {
         self.agree(&mut seat);
         let calls = seat.calls();
-        let Seat { side } = seat;
-        // Each side is dropped by its own call. Dropped here, its eight cases would be proved for each of the other's.
-        drop(side);
-        drop(self);
+        let Seat {
+            holding: _,
+            token: _,
+            names: _,
+        } = seat;
         calls
     }
 }

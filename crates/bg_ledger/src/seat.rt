@@ -2,26 +2,30 @@
 ghost use Rattle.std.specs.Prelude.{◌≡◌, ◌<◌, nat_lt};
 ghost use Rattle.bg_ledger.specs.Holdings.{IsInBounds};
 ghost use Rattle.bg_ledger.specs.declared.holding.Holding.{Holding};
-ghost use Rattle.bg_ledger.specs.Sides.{seat_holding};
+ghost use Rattle.bg_ledger.specs.Tokens.{amounts_of};
 
 use crate::holding::Holding;
-use crate::indexed::{SeatSides, read};
 use crate::names::Names;
-use std::marker::Model;
+use crate::tokens::SeatToken;
+use std::marker::{Model, PhantomData};
 
 /// A worker's share of the book: its answered calls, and the request that it holds. The book has a `SeatRecord` of
 /// the same index, and only the calls of that record change the seat. A seat can't be dropped: `SeatRecord::reunite`
 /// ends it.
 pub struct Seat<N: Names> {
-    pub(crate) side: SeatSides<N>,
+    pub(crate) holding: Holding,
+    pub(crate) token: SeatToken,
+    pub(crate) names: PhantomData<N>,
 }
 
 impl<N: Names> Model for Seat<N> {
     ghost Value = { Holding };
 
-    ghost view = { λ seat. seat_holding seat.side };
+    ghost view = { λ seat. seat.holding };
 
-    ghost invariant = { λ seat. IsInBounds N.seats (seat_holding seat.side) };
+    ghost invariant = { λ seat. IsInBounds N.seats seat.holding
+        × (seat.token.name ≡ N.name seat.holding.index)
+        × (seat.token.amounts ≡ amounts_of seat.holding) };
 }
 
 impl<N: Names> Seat<N> {
@@ -75,6 +79,6 @@ impl<N: Names> Seat<N> {
         ensures all { result ≡ self.now }
         ensures bounds { IsInBounds N.seats self.now }
     {
-        read::<N>(&self.side)
+        self.holding
     }
 }

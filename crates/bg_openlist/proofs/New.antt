@@ -26,7 +26,7 @@ all_free {X = X} n = table_same (λ _. None) (place_among {X = X} (replicate 64 
 -- the block's nodes are empty, and each leads to itself
 pub record IsUnused (s : ℕ) {X Z : Type 0} (v : Vec (Node X) Z) (count : ℕ) : Type 0 where
   pub long : v.len ≡ 64 + count
-  pub room : (1 ≤ count) × (count ≤ 256)
+  pub room : (1 ≤ count) × (count ≤ 2048)
   pub loops : IsLoop s v (64 + count)
   pub none : values v.items ≡ replicate (64 + count) None
 

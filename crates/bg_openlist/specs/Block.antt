@@ -65,7 +65,7 @@ module _ {X Z : Type 0} where
   -- the block holds sixty-four lists with right links and these lengths
   pub record HoldsLists (s : ℕ) (nodes : Vec (Node X) Z) (lens : List ℕ) : Type 0 where
     pub linked : AllLinked s nodes
-    pub size : (65 ≤ nodes.len) × (nodes.len ≤ 320)
+    pub size : (65 ≤ nodes.len) × (nodes.len ≤ 2112)
     pub count : length lens ≡ 64
     pub lists : AreLists (nexts nodes.items) (prevs nodes.items) (tags nodes.items)
         (values nodes.items) (stored_nodes nodes.items lens)

@@ -74,7 +74,7 @@ module _ {X : Type 0} where
 
   -- the invariant of a family of lists
   pub record IsFamily (f : Family X) : Type 0 where
-    pub size : (1 ≤ f.nodes) × (f.nodes ≤ 256)
+    pub size : (1 ≤ f.nodes) × (f.nodes ≤ 2048)
     pub count : (length f.lists ≡ 64) × (length (places f) ≡ f.nodes)
     -- no node occurs twice, in one list or in two
     pub once : Distinct (linked_nodes f.lists)

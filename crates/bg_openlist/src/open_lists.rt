@@ -31,10 +31,10 @@ impl<T> Model for OpenLists<T> {
 }
 
 impl<T: Drop> OpenLists<T> {
-    /// Makes sixty-four empty lists over 1 to 256 free nodes. The only error is an allocation failure. No other call
+    /// Makes sixty-four empty lists over 1 to 2,048 free nodes. The only error is an allocation failure. No other call
     /// allocates.
     pub fn new(alloc: Global, nodes: usize) -> Result<OpenLists<T>, AllocError>
-        requires { (1 ≤ nodes) × (nodes ≤ 256) }
+        requires { (1 ≤ nodes) × (nodes ≤ 2048) }
         ensures empty { IfOk result (λ f. f ≡ empty_family nodes) }
         ensures places { IfOk result (λ f. places f ≡ replicate nodes None) }
         ensures family { IfOk result IsFamily }

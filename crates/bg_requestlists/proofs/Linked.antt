@@ -88,7 +88,7 @@ none_in_replicate (suc n) zero = refl
 none_in_replicate (suc n) (suc l) = none_in_replicate n l
 
 -- only revision 1 has a linked list
-pub holds_first : (c : ℕ) (f : Family ℕ) → 64 ≤ c → f ≡ empty_family 8 → IsFamily f → OwnsLists (record { revision = 1; list = 0 } ∷ []) c f
+pub holds_first : (c : ℕ) (f : Family ℕ) → 64 ≤ c → f ≡ empty_family 2048 → IsFamily f → OwnsLists (record { revision = 1; list = 0 } ∷ []) c f
 holds_first c f room is ok = record {
   room = room;
   distinct = (tt, tt);

@@ -59,4 +59,4 @@ pub record OwnsLists (owned : List OwnList) (capacity : ℕ) (f : Family ℕ) : 
   pub below : list_all (λ o. nat_lt o.list 64) owned ≡ true
   pub rest : (l : ℕ) → is_owned l owned ≡ false → list_at f l ≡ []
   pub family : IsFamily f
-  pub nodes : f.nodes ≡ 8
+  pub nodes : f.nodes ≡ 2048

@@ -8,12 +8,12 @@ use std::alloc::{AllocError, Global};
 use std::marker::Model;
 
 /// The greatest number of seats.
-pub const MOST_SEATS: u32 = 8;
+pub const MOST_SEATS: u32 = 2048;
 
 /// A request that entered and hasn't left.
 #[derive(Clone, Copy, PartialEq, Eq, Debug, Drop)]
 pub struct OpenRequest {
-    /// The index of its seat, 0 to 7.
+    /// The index of its seat, 0 to 255.
     pub seat: u32,
     /// Its number, at least 1.
     pub number: u64,
@@ -85,7 +85,7 @@ impl RequestLists {
     /// nothing.
     pub fn append(&mut self, revision: u64, request: OpenRequest)
         requires revision { IsSome (find (λ l. l.revision == revision) self.old) }
-        requires seat { request.seat < 8 }
+        requires seat { request.seat < 2048 }
         requires free { has_request request.seat self.old ≡ false }
         ensures { self.new ≡ changed revision
             (λ requests. requests ++ request ∷ []) self.old }

@@ -46,13 +46,22 @@ usual_limits = record { entries = 1000000; numbers = 2 ^ 53 }
 abbrev pub is_above_usual : Limits → Bool
 is_above_usual l = nat_lt usual_limits.entries l.entries || nat_lt usual_limits.numbers l.numbers
 
--- the fault of an opening, if it has one
-abbrev pub open_refusal : Strategy → List ℕ → List ℕ → ℕ → Limits → Option opening.OpenFault
-open_refusal s name ports seats limits =
+-- the fault of an opening with at most so many seats, if it has one
+abbrev pub open_refusal_up_to
+    : ℕ → Strategy → List ℕ → List ℕ → ℕ → Limits → Option opening.OpenFault
+open_refusal_up_to most s name ports seats limits =
     fault_if (not (is_label name)) open_fault.BadName
     (fault_if (not (are_ports s.replicas ports)) open_fault.BadPorts
-    (fault_if (not (nat_le 1 seats && nat_le seats 8)) open_fault.BadSeats
+    (fault_if (not (nat_le 1 seats && nat_le seats most)) open_fault.BadSeats
     (fault_if (is_above_usual limits) open_fault.BadLimits None)))
+
+-- the fault of an opening, if it has one
+abbrev pub open_refusal : Strategy → List ℕ → List ℕ → ℕ → Limits → Option opening.OpenFault
+open_refusal s name ports seats limits = open_refusal_up_to 8 s name ports seats limits
+
+-- the fault of an opening with many seats, if it has one
+abbrev pub many_seats_refusal : Strategy → List ℕ → List ℕ → ℕ → Limits → Option opening.OpenFault
+many_seats_refusal s name ports seats limits = open_refusal_up_to 2048 s name ports seats limits
 
 -- the number of open requests
 abbrev pub all_open : List Entry → ℕ

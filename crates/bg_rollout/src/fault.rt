@@ -10,7 +10,7 @@ pub enum OpenFault {
     BadName,
     #[error("a revision has one port for each replica, all distinct and none of them 0")]
     BadPorts,
-    #[error("a book has 1 to 8 seats")]
+    #[error("a book has no such number of seats")]
     BadSeats,
     #[error("a limit is above the usual one")]
     BadLimits,

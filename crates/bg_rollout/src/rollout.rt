@@ -33,7 +33,7 @@ use std::marker::Model;
 /// A rollout, possibly in the middle of a call: its running state is what its history says, but outcomes may still
 /// be to come.
 ///
-/// Contracts see its routing, and the number of places that are reserved in the history. `N` names the ledgers that
+/// Contracts see its routing, and the number of places that are reserved in the history. `N` names the tokens that
 /// tie its records to the seats.
 #[derive(Drop)]
 pub struct Rollout<N: Names> {

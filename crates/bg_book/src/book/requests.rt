@@ -122,8 +122,8 @@ impl<N: Names> Book<N> {
 
     /// Whether the seat's request goes on. The answer is `Cut` if its revision drains and the strategy's
     /// `drainLimitSeconds` have passed since that revision's deadline; else `Keep`. It is `Keep` for a seat without a
-    /// request. The call allocates nothing, can't fail, and changes nothing. It compares the ledgers of the seat with
-    /// those of the book's record, so the history tells what the seat has.
+    /// request. The call allocates nothing, can't fail, and changes nothing. The tokens of the seat and of
+    /// the book's record show that the two agree, so the history tells what the seat has.
     pub fn may_go_on(&mut self, seat: &mut Seat<N>) -> GoOn
         ensures met { Meets self.old seat.old }
         ensures goes_on { result ≡ goes_on self.old.strategy seat.old.index self.old.past }

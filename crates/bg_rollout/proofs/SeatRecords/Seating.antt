@@ -22,10 +22,10 @@ seated_of b seat represents known =
     let within : seat.index < b.opening.seats = omega (arith, slice_get_within b.seats seat.index seat known, represents.seats.count) in
     record { within = within; is = same_Some _ _ (sym (represents.seats.each seat.index within) ∙ known) }
 
--- there are at most 8 seats
-pub few_seats : (b : Routing) → RoutingInvariant b → b.opening.seats ≤ 8
-few_seats b represents = at_most b.opening.seats (and_parts _ (nat_le b.opening.seats 8) represents.legal.opening).1 where
-  at_most : (n : ℕ) → nat_le n 8 ≡ true → n ≤ 8
+-- there are at most 2048 seats
+pub few_seats : (b : Routing) → RoutingInvariant b → b.opening.seats ≤ 2048
+few_seats b represents = at_most b.opening.seats (and_parts _ (nat_le b.opening.seats 2048) represents.legal.opening).1 where
+  at_most : (n : ℕ) → nat_le n 2048 ≡ true → n ≤ 2048
   at_most n h = grind (arith, nat_tests)
 
 pub held_number : (b : Routing) (i : ℕ) (x : Request) → RoutingInvariant b → held_by i b.past ≡ Some x → has_number (given b.closed b.past) x ≡ true

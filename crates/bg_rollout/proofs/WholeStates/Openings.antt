@@ -14,7 +14,7 @@ use Rattle.bg_rollout.specs.declared.limits.Limits.{Limits}
 use Rattle.bg_ledger.specs.declared.holding.Holding.{Holding}
 use Rattle.bg_rollout.specs.declared.fault.OpenFault as opening
 use Rattle.bg_rollout.specs.declared.fault.OpenFault.TheVariants as fault
-use Rattle.bg_rollout.specs.Refusals.{is_above_usual, open_refusal, usual_limits, AnswersBy}
+use Rattle.bg_rollout.specs.Refusals.{fault_if, is_above_usual, open_refusal_up_to, many_seats_refusal, usual_limits, AnswersBy}
 use Rattle.bg_rollout.specs.Changes.{NewSeats, opened}
 use Rattle.bg_rollout.specs.PastState.{lists_of, seat_of}
 use Rattle.bg_rollout.specs.Invariant.{RunningParts, PartsRepresent, state_shown}
@@ -36,25 +36,50 @@ neither true t h = absurd (cc)
 pub record Fits (s : Strategy) (name ports : List ℕ) (seats : ℕ) (limits : Limits) : Type 0 where
   pub name_fits : is_label name ≡ true
   pub ports_fit : are_ports s.replicas ports ≡ true
-  pub seats_fit : (nat_le 1 seats && nat_le seats 8) ≡ true
+  pub seats_fit : (nat_le 1 seats && nat_le seats 2048) ≡ true
   pub entries_fit : limits.entries ≤ usual_limits.entries
   pub numbers_fit : limits.numbers ≤ usual_limits.numbers
 
--- the opening has 1 to 8 seats
-pub in_range : (n : ℕ) → (nat_le 1 n && nat_le n 8) ≡ true → (1 ≤ n) × (n ≤ 8)
-in_range n h = (grind (arith, nat_tests), grind (arith, nat_tests))
+-- a number that passes the test of a range lies in the range
+pub in_range : (most n : ℕ) → (nat_le 1 n && nat_le n most) ≡ true → (1 ≤ n) × (n ≤ most)
+in_range most n h = (grind (arith, nat_tests), grind (arith, nat_tests))
 
-pub fits : (s : Strategy) (name ports : List ℕ) (seats : ℕ) (limits : Limits) → open_refusal s name ports seats limits ≡ None → Fits s name ports seats limits
+-- and in each wider one
+in_wider : (most n : ℕ) → most ≤ 2048 → (nat_le 1 n && nat_le n most) ≡ true → (nat_le 1 n && nat_le n 2048) ≡ true
+in_wider most n le h = let range = in_range most n h in let one = range.0 in let two = range.1 in grind (arith, nat_tests)
+
+none_if : (test : Bool) (f : opening.OpenFault) (next : Option opening.OpenFault) → test ≡ false → next ≡ None → fault_if test f next ≡ None
+none_if false f next e h = h
+none_if true f next e h = absurd (cc)
+
+-- an opening without a fault has as many seats as it may have
+pub seats_in_range : (most : ℕ) (s : Strategy) (name ports : List ℕ) (seats : ℕ) (limits : Limits) → open_refusal_up_to most s name ports seats limits ≡ None → (1 ≤ seats) × (seats ≤ most)
+seats_in_range most s name ports seats limits h =
+    let one = passed (not (is_label name)) fault.BadName _ h in
+    let two = passed (not (are_ports s.replicas ports)) fault.BadPorts _ one.1 in
+    let three = passed (not (nat_le 1 seats && nat_le seats most)) fault.BadSeats _ two.1 in
+    in_range most seats (it_is (nat_le 1 seats && nat_le seats most) three.0)
+
+-- and has no fault as an opening with many seats
+pub widened : (most : ℕ) (s : Strategy) (name ports : List ℕ) (seats : ℕ) (limits : Limits) → most ≤ 2048 → open_refusal_up_to most s name ports seats limits ≡ None → many_seats_refusal s name ports seats limits ≡ None
+widened most s name ports seats limits le h =
+    let one = passed (not (is_label name)) fault.BadName _ h in
+    let two = passed (not (are_ports s.replicas ports)) fault.BadPorts _ one.1 in
+    let three = passed (not (nat_le 1 seats && nat_le seats most)) fault.BadSeats _ two.1 in
+    let fit = in_wider most seats le (it_is (nat_le 1 seats && nat_le seats most) three.0) in
+    none_if _ fault.BadName _ one.0 (none_if _ fault.BadPorts _ two.0 (none_if _ fault.BadSeats _ (ap not fit) three.1))
+
+pub fits : (s : Strategy) (name ports : List ℕ) (seats : ℕ) (limits : Limits) → many_seats_refusal s name ports seats limits ≡ None → Fits s name ports seats limits
 fits s name ports seats limits h =
     let one = passed (not (is_label name)) fault.BadName _ h in
     let two = passed (not (are_ports s.replicas ports)) fault.BadPorts _ one.1 in
-    let three = passed (not (nat_le 1 seats && nat_le seats 8)) fault.BadSeats _ two.1 in
+    let three = passed (not (nat_le 1 seats && nat_le seats 2048)) fault.BadSeats _ two.1 in
     let four = passed (is_above_usual limits) fault.BadLimits None three.1 in
     let usual = neither (nat_lt usual_limits.entries limits.entries) (nat_lt usual_limits.numbers limits.numbers) four.0 in
     record {
       name_fits = it_is (is_label name) one.0;
       ports_fit = it_is (are_ports s.replicas ports) two.0;
-      seats_fit = it_is (nat_le 1 seats && nat_le seats 8) three.0;
+      seats_fit = it_is (nat_le 1 seats && nat_le seats 2048) three.0;
       entries_fit = within usual_limits.entries limits.entries usual.0;
       numbers_fit = within usual_limits.numbers limits.numbers usual.1;
     }
@@ -83,7 +108,7 @@ pub holds_invariant-opened : (s : Strategy) (name ports : List ℕ) (count : ℕ
 holds_invariant-opened s name ports count limits seats core fit represents new = record {
   routing = record {
     legal = record {
-      opening = and_three (is_label name && are_ports s.replicas ports) (nat_le 1 count) (nat_le count 8) (and_both (is_label name) (are_ports s.replicas ports) fit.name_fits fit.ports_fit) fit.seats_fit;
+      opening = and_three (is_label name && are_ports s.replicas ports) (nat_le 1 count) (nat_le count 2048) (and_both (is_label name) (are_ports s.replicas ports) fit.name_fits fit.ports_fit) fit.seats_fit;
       seats = length-replicate count 0;
       allowed = refl;
       numbers = refl;

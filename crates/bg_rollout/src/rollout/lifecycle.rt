@@ -2,7 +2,7 @@
 ghost use Rattle.std.specs.Prelude.{◌≡◌, ◌≤◌, true, [], ◌∷◌, IfOk, IfErr, None, replicate, vec_capacity, ℕ, List, length, Some, slice_get};
 ghost use Rattle.bg_ledger.specs.Blanks.{AreAllFor};
 ghost use Rattle.bg_revisions.specs.Rosters.{has_form};
-ghost use Rattle.bg_rollout.specs.Refusals.{open_refusal, AnswersBy};
+ghost use Rattle.bg_rollout.specs.Refusals.{open_refusal, open_refusal_up_to, many_seats_refusal, AnswersBy};
 ghost use Rattle.bg_rollout.specs.Changes.{first_listing, opened, NewSeats};
 ghost use Rattle.bg_rollout.specs.Gathering.{are_all as are_all_of, gather_fault as fault_in, still_in};
 ghost use Rattle.bg_rollout.specs.declared.fault.OpenFault.TheVariants.{OutOfMemory};
@@ -20,6 +20,9 @@ use bg_revisions::{Roster, has_ports_form};
 use bg_scaledown::Deadlines;
 use bg_strategy::{Strategy, is_dns_label};
 use std::alloc::Global;
+
+/// The greatest number of seats that [`Rollout::open`] takes.
+const FEW_SEATS: u32 = 8;
 
 impl<N: Names> Rollout<N> {
     /// Opens a rollout of revision 1. Gives it and its seats in order of index, each without a call. An error drops the
@@ -49,7 +52,64 @@ impl<N: Names> Rollout<N> {
         ensures seats { IfOk result (λ r. NewSeats seats r.1.items) }
         ensures all { IfOk result (λ r. are_all_of N.seats r.1.items ≡ true) }
     {
-        if let Some(fault) = opening_fault(strategy, name, ports, seats, limits) {
+        Rollout::open_up_to(
+            FEW_SEATS, alloc, strategy, name, ports, seats, limits, blanks,
+        )
+    }
+
+    /// Opens a rollout as [`Rollout::open`] does, but with up to [`MOST_SEATS`] seats: the error is `BadSeats` only if
+    /// there are not 1 to 2,048 seats.
+    pub fn open_with_many_seats(
+        alloc: Global,
+        strategy: &Strategy,
+        name: &str,
+        ports: &[u16],
+        seats: u32,
+        limits: Limits,
+        blanks: Blanks,
+    ) -> Result<(Rollout<N>, Vec<Seat<N>>), OpenFault>
+        requires blanks { AreAllFor N.Names blanks }
+        requires seats { 1 ≤ seats → seats ≤ 2048 → N.seats ≡ seats }
+        ensures refusal { AnswersBy
+            (many_seats_refusal strategy.now name.now ports.now seats limits) OutOfMemory result }
+        ensures rollout { IfOk result (λ r. r.0 ≡ record {
+          routing = opened strategy.now name.now ports.now seats limits r.1.items;
+          spare = 0;
+        }) }
+        ensures count { IfOk result (λ r. seats ≡ N.seats) }
+        ensures seats { IfOk result (λ r. NewSeats seats r.1.items) }
+        ensures all { IfOk result (λ r. are_all_of N.seats r.1.items ≡ true) }
+    {
+        Rollout::open_up_to(
+            MOST_SEATS, alloc, strategy, name, ports, seats, limits, blanks,
+        )
+    }
+
+    /// Opens a rollout with at most this many seats.
+    fn open_up_to(
+        most: u32,
+        alloc: Global,
+        strategy: &Strategy,
+        name: &str,
+        ports: &[u16],
+        seats: u32,
+        limits: Limits,
+        blanks: Blanks,
+    ) -> Result<(Rollout<N>, Vec<Seat<N>>), OpenFault>
+        requires most { most ≤ 2048 }
+        requires blanks { AreAllFor N.Names blanks }
+        requires seats { 1 ≤ seats → seats ≤ most → N.seats ≡ seats }
+        ensures refusal { AnswersBy
+            (open_refusal_up_to most strategy.now name.now ports.now seats limits) OutOfMemory result }
+        ensures rollout { IfOk result (λ r. r.0 ≡ record {
+          routing = opened strategy.now name.now ports.now seats limits r.1.items;
+          spare = 0;
+        }) }
+        ensures count { IfOk result (λ r. seats ≡ N.seats) }
+        ensures seats { IfOk result (λ r. NewSeats seats r.1.items) }
+        ensures all { IfOk result (λ r. are_all_of N.seats r.1.items ≡ true) }
+    {
+        if let Some(fault) = opening_fault(most, strategy, name, ports, seats, limits) {
             return Err(fault);
         }
         Rollout::build(alloc, strategy, name, ports, seats, limits, blanks)
@@ -65,9 +125,9 @@ impl<N: Names> Rollout<N> {
         limits: Limits,
         blanks: Blanks,
     ) -> Result<(Rollout<N>, Vec<Seat<N>>), OpenFault>
-        requires fits { open_refusal strategy.now name.now ports.now seats limits ≡ None }
+        requires fits { many_seats_refusal strategy.now name.now ports.now seats limits ≡ None }
         requires blanks { AreAllFor N.Names blanks }
-        requires seats { 1 ≤ seats → seats ≤ 8 → N.seats ≡ seats }
+        requires seats { N.seats ≡ seats }
         ensures rollout { IfOk result (λ r. r.0 ≡ record {
           routing = opened strategy.now name.now ports.now seats limits r.1.items;
           spare = 0;
@@ -91,7 +151,7 @@ impl<N: Names> Rollout<N> {
         limits: Limits,
         blanks: Blanks,
     ) -> Result<(Rollout<N>, Vec<Seat<N>>), OpenFault>
-        requires fits { open_refusal strategy name.now ports.now seats limits ≡ None }
+        requires fits { many_seats_refusal strategy name.now ports.now seats limits ≡ None }
         requires blanks { AreAllFor N.Names blanks }
         requires seats { N.seats ≡ seats }
         ensures rollout { IfOk result (λ r. r.0 ≡ record {
@@ -154,15 +214,16 @@ impl<N: Names> Rollout<N> {
     }
 }
 
-/// The first fault of an opening other than an allocation failure, if it has one.
+/// The first fault of an opening with at most this many seats, other than an allocation failure, if it has one.
 fn opening_fault(
+    most: u32,
     strategy: &Strategy,
     name: &str,
     ports: &[u16],
     seats: u32,
     limits: Limits,
 ) -> Option<OpenFault>
-    ensures { result ≡ open_refusal strategy.now name.now ports.now seats limits }
+    ensures { result ≡ open_refusal_up_to most strategy.now name.now ports.now seats limits }
 {
     if !is_dns_label(name) {
         return Some(OpenFault::BadName);
@@ -170,7 +231,7 @@ fn opening_fault(
     if !has_ports_form(strategy.replicas, ports) {
         return Some(OpenFault::BadPorts);
     }
-    if seats < 1 || MOST_SEATS < seats {
+    if seats < 1 || most < seats {
         return Some(OpenFault::BadSeats);
     }
     let usual = Limits::usual();
@@ -262,7 +323,7 @@ fn pair_all<N: Names>(
 {
     let mut blanks = blanks;
     for index in 0..count {
-        let (record, seat) = pair::<N>(index, blanks.take(index));
+        let (record, seat) = pair::<N>(index, &mut blanks);
         records.push_reserved(record);
         seats.push_reserved(seat);
     }
