@@ -16,4 +16,7 @@ mod Ascending
 mod Raised
 mod Laying
 mod Sound
+mod Treating
+mod Replacing
 mod Looping
+mod Closing

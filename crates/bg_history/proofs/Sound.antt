@@ -1,14 +1,12 @@
 -- Entries that may be compacted, one entry after the other.
-use Rattle.std.proofs.Common.{◌≡◌, ◌+◌, ℕ, Bool, true, false, not, cond, ◌==◌, ◌&&◌, ◌||◌, nat_lt, List, [], ◌∷◌, ◌++◌, refl, arith, ap, sym, ◌∙◌}
+use Rattle.std.proofs.Common.{◌≡◌, ℕ, Bool, true, false, not, ◌==◌, ◌&&◌, ◌||◌, List, [], ◌∷◌, ◌++◌, refl, arith, ap, sym, ◌∙◌}
 use Rattle.std.specs.List.{list_any}
 use Rattle.std.proofs.lemmas.Bool.Decides.{nat_tests}
 use Rattle.bg_history.specs.declared.entry.Entry.{Entry}
 use Rattle.bg_history.specs.declared.entry.Entry.TheVariants.{Enter, Leave}
-use Rattle.bg_history.specs.Requests.{request_numbers, entered}
-use Rattle.bg_history.specs.declared.compacting.Treatment.{Treatment}
-use Rattle.bg_history.specs.declared.compacting.Treatment.TheVariants.{Keep, Discard, CountClosed}
-use Rattle.bg_history.specs.Compacted.{left_numbers, is_among, without, thin, bump, raised}
-use Rattle.bg_history.specs.Compacting.{is_leave_of, treatment_of, laid}
+use Rattle.bg_history.specs.Requests.{request_numbers}
+use Rattle.bg_history.specs.Compacted.{left_numbers, is_among}
+use Rattle.bg_history.specs.Compacting.{is_leave_of}
 use Rattle.bg_history.specs.Sound.{is_sound}
 
 pub and_parts : (a b : Bool) → a && b ≡ true → (a ≡ true) × (b ≡ true)
@@ -36,7 +34,7 @@ among-append [] ys n = refl
 among-append (x ∷ xs) ys n = ap (λ t. (x == n) || t) (among-append xs ys n) ∙ or-three (x == n) (is_among xs n) (is_among ys n)
 
 -- a number of no request is not the number of a request that left
-left-none : (n : ℕ) (past : List Entry) → is_among (request_numbers past) n ≡ false → is_among (left_numbers past) n ≡ false
+pub left-none : (n : ℕ) (past : List Entry) → is_among (request_numbers past) n ≡ false → is_among (left_numbers past) n ≡ false
 left-none n [] h = refl
 left-none n (Enter seat service number r port ∷ before) h = left-none n before (by (number == n) h) where
   by : (a : Bool) → a || is_among (request_numbers before) n ≡ false → is_among (request_numbers before) n ≡ false
@@ -59,78 +57,22 @@ or-false : (a b : Bool) → b ≡ false → a || b ≡ a
 or-false true b h = refl
 or-false false b h = h
 
-or-right : (a b : Bool) → b ≡ true → a || b ≡ true
+pub or-right : (a b : Bool) → b ≡ true → a || b ≡ true
 or-right true b h = refl
 or-right false b h = h
 
-not_true : (b : Bool) → not b ≡ true → b ≡ false
+pub not_true : (b : Bool) → not b ≡ true → b ≡ false
 not_true true h = absurd (cc)
 not_true false h = refl
 
 -- the entries after an Enter tell whether its request is closed
-pub enter-closed : (n seat : ℕ) (e : Entry) (number : ℕ) (ys p : List Entry) → is_among (request_numbers p) number ≡ false → left_numbers (e ∷ p) ≡ left_numbers p
+pub enter-closed : (e : Entry) (number : ℕ) (ys p : List Entry) → is_among (request_numbers p) number ≡ false → left_numbers (e ∷ p) ≡ left_numbers p
     → is_among (left_numbers (ys ++ e ∷ p)) number ≡ list_any (is_leave_of number) ys
-enter-closed n seat e number ys p new same =
+enter-closed e number ys p new same =
     ap (λ t. is_among t number) (left-append ys (e ∷ p) ∙ ap (λ t. left_numbers ys ++ t) same)
     ∙ among-append (left_numbers ys) (left_numbers p) number
     ∙ or-false (is_among (left_numbers ys) number) (is_among (left_numbers p) number) (left-none number p new)
     ∙ sym (leaves-among number ys)
 
-itself : (n : ℕ) → (n == n) ≡ true
+pub itself : (n : ℕ) → (n == n) ≡ true
 itself n = grind (arith, nat_tests)
-
--- a Leave is of a closed request
-leave-closed : (seat number r : ℕ) (ys p : List Entry) → is_among (left_numbers (ys ++ Leave seat number r ∷ p)) number ≡ true
-leave-closed seat number r ys p =
-    ap (λ t. is_among t number) (left-append ys (Leave seat number r ∷ p))
-    ∙ among-append (left_numbers ys) (number ∷ left_numbers p) number
-    ∙ or-right (is_among (left_numbers ys) number) (is_among (number ∷ left_numbers p) number) (ap (λ t. t || is_among (left_numbers p) number) (itself number))
-
--- what an entry adds to the compacted entries before it, by its fate
-pub record Adds (n : ℕ) (gone : ℕ → Bool) (closed : List ℕ) (e : Entry) (p : List Entry) (treatment : Treatment) : Type 0 where
-  pub stays : treatment ≡ Keep → (thin (without gone (e ∷ p)) ≡ laid e (thin (without gone p))) × (raised gone (e ∷ p) closed ≡ raised gone p closed)
-  pub goes : treatment ≡ Discard → (thin (without gone (e ∷ p)) ≡ thin (without gone p)) × (raised gone (e ∷ p) closed ≡ raised gone p closed)
-  pub closes : (seat : ℕ) → treatment ≡ CountClosed seat
-      → (thin (without gone (e ∷ p)) ≡ thin (without gone p)) × (raised gone (e ∷ p) closed ≡ bump seat (raised gone p closed)) × (nat_lt seat n ≡ true) × (entered (e ∷ p) ≡ entered p + 1)
-
-adds-enter : (n : ℕ) (gone : ℕ → Bool) (closed : List ℕ) (seat number : ℕ) (e : Entry) (p : List Entry) (b : Bool) → nat_lt seat n ≡ true
-    → thin (without gone (e ∷ p)) ≡ cond b (thin (without gone p)) (laid e (thin (without gone p)))
-    → raised gone (e ∷ p) closed ≡ cond b (bump seat (raised gone p closed)) (raised gone p closed) → entered (e ∷ p) ≡ entered p + 1
-    → Adds n gone closed e p (cond b (CountClosed seat) Keep)
-adds-enter n gone closed seat number e p true lt t r m = record {
-  stays = λ f. absurd (cc);
-  goes = λ f. absurd (cc);
-  closes = λ q f. let same : seat ≡ q = cc in (t, r ∙ ap (λ i. bump i (raised gone p closed)) same, ap (λ i. nat_lt i n) (sym same) ∙ lt, m);
-}
-adds-enter n gone closed seat number e p false lt t r m = record {
-  stays = λ f. (t, r);
-  goes = λ f. absurd (cc);
-  closes = λ q f. absurd (cc);
-}
-
-enter-thin : (gone : ℕ → Bool) (e : Entry) (p : List Entry) (b : Bool) → thin (e ∷ without gone p) ≡ laid e (thin (without gone p))
-    → thin (cond (not b) (e ∷ without gone p) (without gone p)) ≡ cond b (thin (without gone p)) (laid e (thin (without gone p)))
-enter-thin gone e p true h = refl
-enter-thin gone e p false h = h
-
-pub adds : (n : ℕ) (closed : List ℕ) (ys p : List Entry) (e : Entry) → is_sound n (ys ++ e ∷ p) ≡ true
-    → Adds n (is_among (left_numbers (ys ++ e ∷ p))) closed e p (treatment_of e ys)
-adds n closed ys p (Enter seat service number r port) h =
-    let e : Entry = Enter seat service number r port in
-    let gone : ℕ → Bool = is_among (left_numbers (ys ++ e ∷ p)) in
-    let part = and_parts (nat_lt seat n && not (is_among (request_numbers p) number)) (is_sound n p) (sound-part n ys (e ∷ p) h) in
-    let two = and_parts (nat_lt seat n) (not (is_among (request_numbers p) number)) part.0 in
-    let is : gone number ≡ list_any (is_leave_of number) ys = enter-closed n seat e number ys p (not_true (is_among (request_numbers p) number) two.1) refl in
-    adds-enter n gone closed seat number e p (list_any (is_leave_of number) ys) two.0
-    (ap (λ b. thin (cond (not b) (e ∷ without gone p) (without gone p))) is ∙ enter-thin gone e p (list_any (is_leave_of number) ys) refl)
-    (ap (λ b. cond b (bump seat (raised gone p closed)) (raised gone p closed)) is)
-    (omega arith)
-adds n closed ys p (Leave seat number r) h =
-    let gone : ℕ → Bool = is_among (left_numbers (ys ++ Leave seat number r ∷ p)) in
-    let is : gone number ≡ true = leave-closed seat number r ys p in
-    record {
-      stays = λ f. absurd (cc);
-      goes = λ f. (ap (λ b. thin (cond (not b) (Leave seat number r ∷ without gone p) (without gone p))) is, refl);
-      closes = λ q f. absurd (cc);
-    }
-adds n closed ys p e h = record { stays = λ f. (refl, refl); goes = λ f. absurd (cc); closes = λ q f. absurd (cc) }

@@ -21,7 +21,7 @@ scaled_down_first = refl
 removed_last : first_allowed without_history (Outcome (ScaledDown 2) ∷ deploy_3 ∷ deploy_2 ∷ []) ≡ Some (Removed 2)
 removed_last = refl
 
--- an opening has a name, a port for each endpoint, and 1 to 8 seats
+-- an opening has a name, a port for each endpoint, and 1 to 2048 seats
 opening_is_well_formed : is_opening plain opening ≡ true
 opening_is_well_formed = refl
 
@@ -37,10 +37,10 @@ opening_with_one_port = refl
 opening_without_seats : is_opening plain (record opening { seats = 0 }) ≡ false
 opening_without_seats = refl
 
--- an opening may have 8 seats
-opening_with_8_seats : is_opening plain (record opening { seats = 8 }) ≡ true
-opening_with_8_seats = refl
+-- an opening may have 2048 seats
+opening_with_2048_seats : is_opening plain (record opening { seats = 2048 }) ≡ true
+opening_with_2048_seats = refl
 
--- an opening can't have 9 seats
-opening_with_9_seats : is_opening plain (record opening { seats = 9 }) ≡ false
-opening_with_9_seats = refl
+-- an opening can't have 2049 seats
+opening_with_2049_seats : is_opening plain (record opening { seats = 2049 }) ≡ false
+opening_with_2049_seats = refl

@@ -15,6 +15,24 @@ abbrev pub is_leave_of : ℕ → Entry → Bool
 is_leave_of number (Leave seat n r) = n == number
 is_leave_of number _ = false
 
+abbrev pub is_leave : Entry → Bool
+is_leave (Leave seat number r) = true
+is_leave _ = false
+
+abbrev pub is_enter_of : ℕ → Entry → Bool
+is_enter_of number (Enter seat service n r port) = n == number
+is_enter_of number _ = false
+
+abbrev pub is_some_enter_of : ℕ → Option Entry → Bool
+is_some_enter_of number None = false
+is_some_enter_of number (Some e) = is_enter_of number e
+
+-- the entry, or the Leave of its request if it is an Enter whose number passes the test
+abbrev pub as_left : (ℕ → Bool) → Entry → Entry
+as_left gone (Enter seat service number r port) =
+    if gone number then Leave seat number r else Enter seat service number r port
+as_left gone e = e
+
 -- what compaction does with an entry, by the entries after it
 abbrev pub treatment_of : Entry → List Entry → Treatment
 treatment_of (Enter seat service number r port) later =

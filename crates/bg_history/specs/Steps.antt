@@ -51,11 +51,11 @@ abbrev pub all_allowed : Strategy → Opening → List Entry → Bool
 all_allowed s o [] = true
 all_allowed s o (e ∷ before) = is_allowed s o e before && all_allowed s o before
 
--- the opening is well formed for the strategy: a name, ports, and 1 to 8 seats
+-- the opening is well formed for the strategy: a name, ports, and 1 to 2048 seats
 abbrev pub is_opening : Strategy → Opening → Bool
 is_opening s o =
     is_label o.template.name && are_ports s.replicas o.template.ports && nat_le 1 o.seats
-    && nat_le o.seats 8
+    && nat_le o.seats 2048
 
 -- each number lies from 1 to `greatest`
 abbrev pub all_given : ℕ → List ℕ → Bool

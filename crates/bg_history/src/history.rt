@@ -21,6 +21,8 @@ pub struct History {
     closed: Vec<u64>,
     entries: Vec<Entry>,
     spare: usize,
+    /// For each seat, the place of an Enter, where compaction looks first. Its content means nothing between calls.
+    places: Vec<usize>,
 }
 
 impl Model for History {
@@ -57,12 +59,14 @@ impl History {
         }) }
     {
         let closed = vec![in alloc; 0u64; seats as usize]?;
+        let places = vec![in alloc; 0usize; seats as usize]?;
         Ok(History {
             name: Name::new(alloc, name)?,
             ports: Ports::new(alloc, ports)?,
             closed,
             entries: Vec::new(alloc),
             spare: 0,
+            places,
         })
     }
 
@@ -149,6 +153,6 @@ impl History {
         } }
         ensures dropped { result + length self.new.past ≡ length self.old.past }
     {
-        compact(&mut self.entries, &mut self.closed)
+        compact(&mut self.entries, &mut self.closed, &mut self.places)
     }
 }

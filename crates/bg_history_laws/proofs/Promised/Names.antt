@@ -99,7 +99,7 @@ has_form s t = is_label t.name && are_ports s.replicas t.ports
 pub template-form : (s : Strategy) (o : Opening) (r : ℕ) (past : List Entry) (t : Template) → is_opening s o ≡ true → all_allowed s o past ≡ true → template o r past ≡ Some t → has_form s t ≡ true
 template-form s o r [] t opens a is = go (r == 1) is where
   good : has_form s o.template ≡ true
-  good = (and_parts _ (nat_le 1 o.seats) (and_parts _ (nat_le o.seats 8) opens).0).0
+  good = (and_parts _ (nat_le 1 o.seats) (and_parts _ (nat_le o.seats 2048) opens).0).0
 
   go : (b : Bool) → cond b (Some o.template) None ≡ Some t → has_form s t ≡ true
   go true is = let e : o.template ≡ t = same_Some o.template t is in rw (← e) good
