@@ -12,7 +12,7 @@ use Rattle.clap.specs.declared.error.kind.ErrorKind.{ErrorKind}
 use Rattle.clap.specs.declared.error.kind.ErrorKind.TheVariants as kind
 use Rattle.bg_command_line.specs.declared.orders.OrderFault.{OrderFault}
 use Rattle.bg_command_line.specs.declared.orders.OrderFault.TheVariants.{OutOfMemory, Words}
-use Rattle.bg_command_line.specs.CommandLine.{IsFaultFrom, IsFaultIn, has_forever, is_in_conflict, kinds_of, program}
+use Rattle.bg_command_line.specs.CommandLine.{IsFaultFrom, IsFaultIn, flags_of, is_in_conflict, kinds_of, program}
 use Rattle.bg_command_line.proofs.Accepted.{is_free_program}
 
 among_first : (k : ErrorKind) (first second : Kinds) → IsAmong k first → IsAmong k (or_else first second)
@@ -20,31 +20,31 @@ among_first k [] second among = absurd among
 among_first k (x ∷ xs) second among = among
 
 -- an error of `clap` is among those that the words may give
-pub fault_as : (words : List Text) (app : App) (e : Error) (fault : OrderFault) → app ≡ program (has_forever words)
+pub fault_as : (words : List Text) (app : App) (e : Error) (fault : OrderFault) → app ≡ program (flags_of words)
     → (is_simple_and_free app ≡ true → HasKind (fault_of app words) e) → IsFaultFrom e fault → IsFaultIn words fault
 fault_as words app e OutOfMemory is has from = tt
 fault_as words app e (Words x) is has from =
-    let free : is_simple_and_free app ≡ true = ap is_simple_and_free is ∙ is_free_program (has_forever words) in
-    let kinds : HasKind (fault_of (program (has_forever words)) words) e = subst (λ (a : App). HasKind (fault_of a words) e) is (has free) in
+    let free : is_simple_and_free app ≡ true = ap is_simple_and_free is ∙ is_free_program (flags_of words) in
+    let kinds : HasKind (fault_of (program (flags_of words)) words) e = subst (λ (a : App). HasKind (fault_of a words) e) is (has free) in
     let among : IsAmong (kind_of e) (kinds_of words) = elim kinds [
       | inl memory ↦ absurd (from.1 memory)
-      | inr h ↦ among_first (kind_of e) (fault_of (program (has_forever words)) words) _ h
+      | inr h ↦ among_first (kind_of e) (fault_of (program (flags_of words)) words) _ h
     ] in
     rw from.0 (among, from.1)
 
 -- words that `clap` accepts give no error other than that of a conflict
-kinds_are : (words : List Text) (name : Text) (rows : List Row) (b : Bool) → fault_of (program (has_forever words)) words ≡ []
-    → subcommand_of (program (has_forever words)) words ≡ Some (name, rows) → is_in_conflict (has_forever words) rows ≡ b
+kinds_are : (words : List Text) (name : Text) (rows : List Row) (b : Bool) → fault_of (program (flags_of words)) words ≡ []
+    → subcommand_of (program (flags_of words)) words ≡ Some (name, rows) → is_in_conflict (flags_of words) rows ≡ b
     → kinds_of words ≡ cond b (kind.ArgumentConflict ∷ []) []
 kinds_are words name rows b none is conflict = rw (none, is, conflict) refl
 
-pub no_kinds : (words : List Text) (name : Text) (rows : List Row) → fault_of (program (has_forever words)) words ≡ []
-    → subcommand_of (program (has_forever words)) words ≡ Some (name, rows) → is_in_conflict (has_forever words) rows ≡ false
+pub no_kinds : (words : List Text) (name : Text) (rows : List Row) → fault_of (program (flags_of words)) words ≡ []
+    → subcommand_of (program (flags_of words)) words ≡ Some (name, rows) → is_in_conflict (flags_of words) rows ≡ false
     → kinds_of words ≡ []
 no_kinds words name rows none is conflict = kinds_are words name rows false none is conflict
 
-pub conflict_as : (words : List Text) (name : Text) (rows : List Row) (e : Error) → fault_of (program (has_forever words)) words ≡ []
-    → subcommand_of (program (has_forever words)) words ≡ Some (name, rows) → is_in_conflict (has_forever words) rows ≡ true
+pub conflict_as : (words : List Text) (name : Text) (rows : List Row) (e : Error) → fault_of (program (flags_of words)) words ≡ []
+    → subcommand_of (program (flags_of words)) words ≡ Some (name, rows) → is_in_conflict (flags_of words) rows ≡ true
     → kind_of e ≡ kind.ArgumentConflict → IsFaultIn words (Words e)
 conflict_as words name rows e none is conflict e_is =
     let kinds : kinds_of words ≡ kind.ArgumentConflict ∷ [] = kinds_are words name rows true none is conflict in

@@ -7,18 +7,19 @@ use Rattle.clap.specs.Takes.{is_given, value_passes}
 use Rattle.clap.specs.Facts.{explicit_source}
 use Rattle.clap.specs.ValueTests.{accepts}
 use Rattle.clap.specs.Walk.{Row, Text, Rule, arg_by_id, first_of, walk, nothing_held, rows_after, walk_from, settled}
-use Rattle.clap.specs.Simple.{Shape, built_leaf, inherited, with_leaf_noted, marked_built}
+use Rattle.clap.specs.Simple.{Shape, built_leaf, help_rule, inherited, with_leaf_noted, marked_built}
 use Rattle.clap.specs.Kinds.{check_kinds}
 use Rattle.clap.specs.Faults.{level_fault, walk_fault, settle_fault, defaults_fault}
 use Rattle.clap.specs.declared.builder.value_parser.ValueParser.TheVariants as value_parser
 use Rattle.clap.proofs.ValueTestLemmas.{accepts-Accepts}
-use Rattle.bg_command_line.specs.CommandLine.{IsIn, HasWordsOfServe, program, replay_app, serve_app, number_rule, required_rule, count_rule}
+use Rattle.bg_command_line.specs.CommandLine.{IsIn, HasWordsOfServe, program, replay_app, serve_app, number_rule, required_rule, count_rule, flag_rule, forever_rule, wanted_rule}
+use Rattle.bg_command_line.specs.declared.orders.Flags.{Flags}
 use Rattle.bg_command_line.proofs.WordsTaken.{none_else}
 use Rattle.bg_command_line.proofs.ValuesPass.{AreGood, has_none, first_passes}
-use Rattle.bg_command_line.proofs.ArgumentRows.{Keeps, Each, held, number_keeps, required_keeps, count_keeps, flag_keeps, help_keeps, DefaultKeeps, no_default_keeps, flag_default_keeps, help_default_keeps, leaf_good}
+use Rattle.bg_command_line.proofs.ArgumentRows.{Keeps, Each, held, number_keeps, required_keeps, wanted_keeps, count_keeps, flag_keeps, help_keeps, DefaultKeeps, no_default_keeps, flag_default_keeps, help_default_keeps, leaf_good}
 
 abbrev pub built_sub : Shape → Shape
-built_sub s = built_leaf (inherited (with_leaf_noted (marked_built (program false).top)) s)
+built_sub s = built_leaf (inherited (with_leaf_noted (marked_built (program (record { forever = false; concurrency = false })).top)) s)
 
 abbrev pub replay : Shape
 replay = built_sub replay_app.top
@@ -43,36 +44,67 @@ replay_known words e =
     (leaf_good replay words refl replay_keeps
     (no_default_keeps replay.rules (held (number_rule (codes "seats") 8)) refl, (help_default_keeps replay.rules, tt)) e)
 
-abbrev pub serve : Bool → Shape
-serve forever = built_sub (serve_app forever).top
+abbrev pub serve : Flags → Shape
+serve flags = built_sub (serve_app flags).top
 
-serve_keeps : (forever : Bool) → Each (Keeps (serve forever).rules) (serve forever).rules
-serve_keeps forever = let c = (serve forever).rules in (
+endpoint_and_count_keep : (flags : Flags) → let c = (serve flags).rules in
+    Each (Keeps c) (held (flag_rule (codes "redispatch")) ∷ held (number_rule (codes "endpoint-limit") 1023)
+    ∷ held (count_rule flags.forever) ∷ held (forever_rule flags.forever) ∷ held help_rule ∷ [])
+endpoint_and_count_keep flags = let c = (serve flags).rules in (
+  flag_keeps c false (codes "redispatch") refl,
+  (
+    number_keeps c (codes "endpoint-limit") 1023 refl,
+    (count_keeps c flags.forever refl, (flag_keeps c flags.forever (codes "forever") refl, (help_keeps c, tt))),
+  ),
+)
+
+serve_keeps : (flags : Flags) → Each (Keeps (serve flags).rules) (serve flags).rules
+serve_keeps flags = let c = (serve flags).rules in (
   required_keeps c (codes "active") 65535 refl,
   (
     number_keeps c (codes "preview") 65535 refl,
     (
       required_keeps c (codes "control") 65535 refl,
       (
-        required_keeps c (codes "workers") 7 refl,
-        (count_keeps c forever refl, (flag_keeps c forever refl, (help_keeps c, tt))),
+        wanted_keeps c (not flags.concurrency) (codes "workers") 7 refl,
+        (
+          wanted_keeps c flags.concurrency (codes "concurrency") 1023 refl,
+          (number_keeps c (codes "preview-concurrency") 1023 refl, endpoint_and_count_keep flags),
+        ),
       ),
     ),
   ),
 )
 
-serve_defaults : (forever : Bool) → Each (DefaultKeeps (serve forever).rules) (serve forever).rules
-serve_defaults forever = let c = (serve forever).rules in (
+endpoint_and_count_defaults : (flags : Flags) → let c = (serve flags).rules in
+    Each (DefaultKeeps c) (held (flag_rule (codes "redispatch")) ∷ held (number_rule (codes "endpoint-limit") 1023)
+    ∷ held (count_rule flags.forever) ∷ held (forever_rule flags.forever) ∷ held help_rule ∷ [])
+endpoint_and_count_defaults flags = let c = (serve flags).rules in (
+  flag_default_keeps c false (codes "redispatch") refl,
+  (
+    no_default_keeps c (held (number_rule (codes "endpoint-limit") 1023)) refl,
+    (
+      no_default_keeps c (held (count_rule flags.forever)) refl,
+      (flag_default_keeps c flags.forever (codes "forever") refl, (help_default_keeps c, tt)),
+    ),
+  ),
+)
+
+serve_defaults : (flags : Flags) → Each (DefaultKeeps (serve flags).rules) (serve flags).rules
+serve_defaults flags = let c = (serve flags).rules in (
   no_default_keeps c (held (required_rule (codes "active") 65535)) refl,
   (
     no_default_keeps c (held (number_rule (codes "preview") 65535)) refl,
     (
       no_default_keeps c (held (required_rule (codes "control") 65535)) refl,
       (
-        no_default_keeps c (held (required_rule (codes "workers") 7)) refl,
+        no_default_keeps c (held (wanted_rule (not flags.concurrency) (codes "workers") 7)) refl,
         (
-          no_default_keeps c (held (count_rule forever)) refl,
-          (flag_default_keeps c forever refl, (help_default_keeps c, tt)),
+          no_default_keeps c (held (wanted_rule flags.concurrency (codes "concurrency") 1023)) refl,
+          (
+            no_default_keeps c (held (number_rule (codes "preview-concurrency") 1023)) refl,
+            endpoint_and_count_defaults flags,
+          ),
         ),
       ),
     ),
@@ -120,26 +152,37 @@ first_given : (given other : Bool) → (not given || other) ≡ false → (given
 first_given true other e = (refl, e)
 first_given false other e = cc
 
--- an argument that is required unless `forever` holds
-unless_given : (forever given other : Bool) → ((not forever && not given) || other) ≡ false → forever ≡ false → given ≡ true
-unless_given true given other e limited = cc
-unless_given false true other e limited = refl
-unless_given false false other e limited = cc
+-- an argument that is required if `wanted` holds
+wanted_given : (wanted given other : Bool) → ((wanted && not given) || other) ≡ false → (wanted ≡ true → given ≡ true) × (other ≡ false)
+wanted_given true true other e = (λ _. refl, e)
+wanted_given true false other e = cc
+wanted_given false given other e = (λ h. cc, e)
 
-pub serve_known : (forever : Bool) (words : List Text) → level_fault (serve forever) [] nothing_held words false [] ≡ []
-    → HasWordsOfServe forever (rows_after (serve forever).rules [] words)
-serve_known forever words e =
-    let c = (serve forever).rules in
+not_true : (b : Bool) → b ≡ false → not b ≡ true
+not_true false e = refl
+not_true true e = cc
+
+pub serve_known : (flags : Flags) (words : List Text) → level_fault (serve flags) [] nothing_held words false [] ≡ []
+    → HasWordsOfServe flags (rows_after (serve flags).rules [] words)
+serve_known flags words e =
+    let c = (serve flags).rules in
     let rows = rows_after c [] words in
-    let good : AreGood c rows = leaf_good (serve forever) words refl (serve_keeps forever) (serve_defaults forever) e in
-    let active = first_given (is_given (codes "active") rows) _ (all_given (serve forever) words refl e) in
+    let good : AreGood c rows = leaf_good (serve flags) words refl (serve_keeps flags) (serve_defaults flags) e in
+    let active = first_given (is_given (codes "active") rows) _ (all_given (serve flags) words refl e) in
     let control = first_given (is_given (codes "control") rows) _ active.1 in
-    let workers = first_given (is_given (codes "workers") rows) _ control.1 in
+    let workers = wanted_given (not flags.concurrency) (is_given (codes "workers") rows) _ control.1 in
+    let concurrency = wanted_given flags.concurrency (is_given (codes "concurrency") rows) _ workers.1 in
+    let count = wanted_given (not flags.forever) (is_given (codes "count") rows) _ concurrency.1 in
     record {
       active = (given_has c (codes "active") rows good active.0, in_range c (held (required_rule (codes "active") 65535)) (codes "active") 65535 rows refl refl refl good);
       preview = in_range c (held (number_rule (codes "preview") 65535)) (codes "preview") 65535 rows refl refl refl good;
       control = (given_has c (codes "control") rows good control.0, in_range c (held (required_rule (codes "control") 65535)) (codes "control") 65535 rows refl refl refl good);
-      workers = (given_has c (codes "workers") rows good workers.0, in_range c (held (required_rule (codes "workers") 7)) (codes "workers") 7 rows refl refl refl good);
-      count = in_range c (held (count_rule forever)) (codes "count") 1000000 rows refl refl refl good;
-      count_given = λ limited. given_has c (codes "count") rows good (unless_given forever (is_given (codes "count") rows) _ workers.1 limited);
+      workers = in_range c (held (wanted_rule (not flags.concurrency) (codes "workers") 7)) (codes "workers") 7 rows refl refl refl good;
+      workers_given = λ few. given_has c (codes "workers") rows good (workers.0 (not_true flags.concurrency few));
+      concurrency = in_range c (held (wanted_rule flags.concurrency (codes "concurrency") 1023)) (codes "concurrency") 1023 rows refl refl refl good;
+      concurrency_given = λ many. given_has c (codes "concurrency") rows good (concurrency.0 many);
+      preview_concurrency = in_range c (held (number_rule (codes "preview-concurrency") 1023)) (codes "preview-concurrency") 1023 rows refl refl refl good;
+      endpoint_limit = in_range c (held (number_rule (codes "endpoint-limit") 1023)) (codes "endpoint-limit") 1023 rows refl refl refl good;
+      count = in_range c (held (count_rule flags.forever)) (codes "count") 1000000 rows refl refl refl good;
+      count_given = λ limited. given_has c (codes "count") rows good (count.0 (not_true flags.forever limited));
     }

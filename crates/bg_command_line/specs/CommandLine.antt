@@ -1,6 +1,7 @@
 -- The program's command line, and the order that words give.
-use Rattle.std.specs.Prelude.{◌≡◌, ◌≢◌, ◌≤◌, ◌&&◌, ℕ, Bool, List, [], ◌∷◌, codes, drop, Option, Some, None, IfSome, if◌then◌else◌, is_some, not, false, true, option_map, unwrap_or}
-use Rattle.std.specs.List.{list_any}
+use Rattle.std.specs.Prelude.{◌≡◌, ◌≢◌, ◌≤◌, ◌/◌, max, eqb, ◌&&◌, ◌||◌, ℕ, Bool, List, [], ◌∷◌, codes, drop, Option, Some, None, IfSome, if◌then◌else◌, is_some, not, false, true, option_map, unwrap_or}
+use Rattle.std.specs.List.{list_any, starts_with}
+use Rattle.std.specs.Option.{option_map_or}
 use Rattle.std.specs.Str.{bytes_eq}
 use Rattle.std.specs.Str.Parse.{digits_value, without_leading_plus}
 use Rattle.clap.specs.Kinds.{or_else}
@@ -11,6 +12,7 @@ use Rattle.clap.specs.declared.builder.action.ArgAction.TheVariants.{SetTrue}
 use Rattle.clap.specs.declared.builder.value_parser.ValueParser.TheVariants as value_parser
 use Rattle.bg_command_line.specs.declared.orders.Connections.{Connections}
 use Rattle.bg_command_line.specs.declared.orders.Connections.TheVariants.{Count, Forever}
+use Rattle.bg_command_line.specs.declared.orders.Flags.{Flags}
 use Rattle.bg_command_line.specs.declared.orders.Order.{Order}
 use Rattle.bg_command_line.specs.declared.orders.Order.TheVariants.{Check, Replay, Serve}
 use Rattle.bg_command_line.specs.declared.orders.Site.{Site}
@@ -29,6 +31,10 @@ number_rule name most = record (new_rule name) {
 abbrev pub required_rule : Text → ℕ → Rule
 required_rule name most = record (number_rule name most) { required = true }
 
+-- `--NAME N`, with N from 1 to `most`, which is required if `wanted` says so
+abbrev pub wanted_rule : Bool → Text → ℕ → Rule
+wanted_rule wanted name most = record (number_rule name most) { required = wanted }
+
 -- `check`
 abbrev pub check_app : App
 check_app = new_app (codes "check")
@@ -46,19 +52,40 @@ with_port_rules a = with_rule (with_rule (with_rule a (required_rule (codes "act
 abbrev pub count_rule : Bool → Rule
 count_rule forever = record (number_rule (codes "count") 1000000) { required = not forever }
 
--- `--forever`, which has no value
-abbrev pub forever_rule : Bool → Rule
-forever_rule forever = record (new_rule (codes "forever")) {
-  long = Some (codes "forever");
-  action = Some SetTrue;
-  required = forever;
-}
+-- the flag `--NAME`, which has no value
+abbrev pub flag_rule : Text → Rule
+flag_rule name = record (new_rule name) { long = Some name; action = Some SetTrue }
 
--- `serve --active P [--preview P] --control P --workers N`, and `--count K` or `--forever`; `forever`
--- says which of the two is required
-abbrev pub serve_app : Bool → App
-serve_app forever = with_rule (with_rule (with_rule (with_port_rules (new_app (codes "serve")))
-    (required_rule (codes "workers") 7)) (count_rule forever)) (forever_rule forever)
+-- the flag `--NAME`, which is required if `wanted` says so
+abbrev pub wanted_flag_rule : Bool → Text → Rule
+wanted_flag_rule wanted name = record (flag_rule name) { required = wanted }
+
+-- `--forever`, which is required if the words have it
+abbrev pub forever_rule : Bool → Rule
+forever_rule forever = wanted_flag_rule forever (codes "forever")
+
+-- `--workers N`, `--concurrency N` and `[--preview-concurrency M]`; of the first two the second is required if
+-- `concurrency` holds, else the first
+abbrev pub with_worker_rules : Bool → App → App
+with_worker_rules concurrency a = with_rule (with_rule (with_rule a
+    (wanted_rule (not concurrency) (codes "workers") 7))
+    (wanted_rule concurrency (codes "concurrency") 1023))
+    (number_rule (codes "preview-concurrency") 1023)
+
+-- `[--redispatch] [--endpoint-limit M]`
+abbrev pub with_endpoint_rules : App → App
+with_endpoint_rules a = with_rule (with_rule a (flag_rule (codes "redispatch")))
+    (number_rule (codes "endpoint-limit") 1023)
+
+-- `--count K` and `--forever`; the second is required if `forever` holds, else the first
+abbrev pub with_connection_rules : Bool → App → App
+with_connection_rules forever a = with_rule (with_rule a (count_rule forever)) (forever_rule forever)
+
+-- `serve --active P [--preview P] --control P [--preview-concurrency M] [--redispatch] [--endpoint-limit M]`, with
+-- `--workers N` or `--concurrency N`, and `--count K` or `--forever`; the flags say which of each two is required
+abbrev pub serve_app : Flags → App
+serve_app flags = with_connection_rules flags.forever (with_endpoint_rules
+    (with_worker_rules flags.concurrency (with_port_rules (new_app (codes "serve")))))
 
 -- `bg_switch`, which has a version and requires a subcommand; there is no subcommand `help`
 abbrev pub top_app : App
@@ -71,30 +98,48 @@ top_app = record {
   subs = [];
 }
 
--- the whole command line, for words with or without `--forever`
-abbrev pub program : Bool → App
-program forever = with_subcommand (with_subcommand (with_subcommand top_app check_app.top)
-    replay_app.top) (serve_app forever).top
+-- the whole command line, for words with these flags
+abbrev pub program : Flags → App
+program flags = with_subcommand (with_subcommand (with_subcommand top_app check_app.top)
+    replay_app.top) (serve_app flags).top
 
--- one of the words after the program's name is `--forever`
-abbrev pub has_forever : List Text → Bool
-has_forever words = list_any (λ w. bytes_eq w (codes "--forever")) (drop 1 words)
+-- one of the words after the program's name is this one
+abbrev pub has_word : Text → List Text → Bool
+has_word word words = list_any (λ w. bytes_eq w word) (drop 1 words)
 
--- `--count` is given together with `--forever`
-abbrev pub is_in_conflict : Bool → List Row → Bool
-is_in_conflict forever rows = forever && is_some (first_of (codes "count") rows)
+-- the word is `--concurrency`, whose value is the next word, or has the form `--concurrency=N`
+abbrev pub is_concurrency : Text → Bool
+is_concurrency word =
+    bytes_eq word (codes "--concurrency") || starts_with eqb word (codes "--concurrency=")
 
-abbrev pub conflict_kinds : Bool → Option (Text × List Row) → Kinds
-conflict_kinds forever None = []
-conflict_kinds forever (Some s) =
-    if is_in_conflict forever s.1 then kind.ArgumentConflict ∷ [] else []
+-- the words after the program's name have `--concurrency`, in either of its forms
+abbrev pub has_concurrency : List Text → Bool
+has_concurrency words = list_any is_concurrency (drop 1 words)
+
+-- the flags among the words after the program's name
+abbrev pub flags_of : List Text → Flags
+flags_of words = record {
+  forever = has_word (codes "--forever") words;
+  concurrency = has_concurrency words;
+}
+
+-- `--count` is given together with `--forever`, or `--workers` with `--concurrency`
+abbrev pub is_in_conflict : Flags → List Row → Bool
+is_in_conflict flags rows =
+    flags.forever && is_some (first_of (codes "count") rows)
+    || is_some (first_of (codes "concurrency") rows) && is_some (first_of (codes "workers") rows)
+
+abbrev pub conflict_kinds : Flags → Option (Text × List Row) → Kinds
+conflict_kinds flags None = []
+conflict_kinds flags (Some s) =
+    if is_in_conflict flags s.1 then kind.ArgumentConflict ∷ [] else []
 
 -- the kinds of error that words may give: those of `clap`, and if it accepts them, that of a conflict
 abbrev pub kinds_of : List Text → Kinds
 kinds_of words =
-    let forever = has_forever words in
-    or_else (fault_of (program forever) words)
-    (conflict_kinds forever (subcommand_of (program forever) words))
+    let flags = flags_of words in
+    or_else (fault_of (program flags) words)
+    (conflict_kinds flags (subcommand_of (program flags) words))
 
 -- the number that a text of digits stands for
 abbrev pub number : Text → ℕ
@@ -119,28 +164,50 @@ AreConnections forever rows (Count n) =
     (forever ≡ false) × IsGiven 1 1000000 (codes "count") rows n
 AreConnections forever rows Forever = forever ≡ true
 
+-- the number of workers: that of `--workers`, or of `--concurrency` if this is given
+abbrev pub AreWorkers : Bool → List Row → ℕ → Type 0
+AreWorkers concurrency rows n =
+    (concurrency ≡ false → IsGiven 1 7 (codes "workers") rows n)
+    × (concurrency ≡ true → IsGiven 1 1023 (codes "concurrency") rows n)
+
+-- the number of workers of the preview port if `--preview-concurrency` is not given: 1 beside `--workers`, and
+-- beside `--concurrency` an eighth of its number, at least 1
+abbrev pub default_preview_workers : Bool → ℕ → ℕ
+default_preview_workers false workers = 1
+default_preview_workers true workers = max (workers / 8) 1
+
+-- the flag is given
+abbrev pub has_flag : Text → List Row → Bool
+has_flag id rows = option_map_or (λ t. bytes_eq t (codes "true")) (first_of id rows) false
+
 -- the arguments of `serve`
-pub record IsServe (forever : Bool) (rows : List Row) (site : Site) : Type 0 where
+pub record IsServe (flags : Flags) (rows : List Row) (site : Site) : Type 0 where
   pub active_is : IsGiven 1 65535 (codes "active") rows site.active
   pub preview_is : site.preview ≡ number_of (codes "preview") rows
   pub preview_range : IfSome site.preview (IsBetween 1 65535)
   pub control_is : IsGiven 1 65535 (codes "control") rows site.control
-  pub workers_is : IsGiven 1 7 (codes "workers") rows site.workers
-  pub connections_are : AreConnections forever rows site.connections
+  pub workers_are : AreWorkers flags.concurrency rows site.workers
+  pub preview_workers_are : site.preview_workers ≡ unwrap_or (number_of (codes "preview-concurrency") rows)
+      (default_preview_workers flags.concurrency site.workers)
+  pub preview_workers_range : IsBetween 1 1023 site.preview_workers
+  pub redispatch_is : site.redispatch ≡ has_flag (codes "redispatch") rows
+  pub endpoint_limit_is : site.endpoint_limit ≡ number_of (codes "endpoint-limit") rows
+  pub endpoint_limit_range : IfSome site.endpoint_limit (IsBetween 1 1023)
+  pub connections_are : AreConnections flags.forever rows site.connections
 
 -- the order is the subcommand of this name with these matches; 4 seats if no number is given
-abbrev pub IsOrderOf : Bool → Text → List Row → Order → Type 0
-IsOrderOf forever name rows Check = name ≡ codes "check"
-IsOrderOf forever name rows (Replay seats) = (name ≡ codes "replay")
+abbrev pub IsOrderOf : Flags → Text → List Row → Order → Type 0
+IsOrderOf flags name rows Check = name ≡ codes "check"
+IsOrderOf flags name rows (Replay seats) = (name ≡ codes "replay")
     × (seats ≡ unwrap_or (number_of (codes "seats") rows) 4) × IsBetween 1 8 seats
-IsOrderOf forever name rows (Serve site) = (name ≡ codes "serve") × IsServe forever rows site
+IsOrderOf flags name rows (Serve site) = (name ≡ codes "serve") × IsServe flags rows site
 
 -- the words are accepted, and the order is the subcommand of their matches
 abbrev pub IsOrderIn : List Text → Order → Type 0
 IsOrderIn words o = (kinds_of words ≡ [])
     × ((name : Text) × (rows : List Row)
-    × (subcommand_of (program (has_forever words)) words ≡ Some (name, rows))
-    × IsOrderOf (has_forever words) name rows o)
+    × (subcommand_of (program (flags_of words)) words ≡ Some (name, rows))
+    × IsOrderOf (flags_of words) name rows o)
 
 -- an allocation failed, or the words are refused with this error
 abbrev pub IsFaultIn : List Text → OrderFault → Type 0
@@ -167,17 +234,24 @@ abbrev pub IsNumber : ℕ → ℕ → Text → List Row → Type 0
 IsNumber least most id rows =
     (is_some (first_of id rows) ≡ true) × IsIn least most id rows
 
--- the words of `serve` are numbers in their ranges, and `--count` is given unless `--forever` is
-pub record HasWordsOfServe (forever : Bool) (rows : List Row) : Type 0 where
+-- the words of `serve` are numbers in their ranges; `--count` is given unless `--forever` is, and `--workers` unless
+-- `--concurrency` is
+pub record HasWordsOfServe (flags : Flags) (rows : List Row) : Type 0 where
   pub active : IsNumber 1 65535 (codes "active") rows
   pub preview : IsIn 1 65535 (codes "preview") rows
   pub control : IsNumber 1 65535 (codes "control") rows
-  pub workers : IsNumber 1 7 (codes "workers") rows
+  pub workers : IsIn 1 7 (codes "workers") rows
+  pub workers_given : flags.concurrency ≡ false → is_some (first_of (codes "workers") rows) ≡ true
+  pub concurrency : IsIn 1 1023 (codes "concurrency") rows
+  pub concurrency_given
+      : flags.concurrency ≡ true → is_some (first_of (codes "concurrency") rows) ≡ true
+  pub preview_concurrency : IsIn 1 1023 (codes "preview-concurrency") rows
+  pub endpoint_limit : IsIn 1 1023 (codes "endpoint-limit") rows
   pub count : IsIn 1 1000000 (codes "count") rows
-  pub count_given : forever ≡ false → is_some (first_of (codes "count") rows) ≡ true
+  pub count_given : flags.forever ≡ false → is_some (first_of (codes "count") rows) ≡ true
 
 -- what the name of an accepted subcommand says about its matches
-pub record IsKnown (forever : Bool) (name : Text) (rows : List Row) : Type 0 where
+pub record IsKnown (flags : Flags) (name : Text) (rows : List Row) : Type 0 where
   pub is_serve : name ≢ codes "check" → name ≢ codes "replay" → name ≡ codes "serve"
   pub seats : name ≡ codes "replay" → IsIn 1 8 (codes "seats") rows
-  pub words : name ≡ codes "serve" → HasWordsOfServe forever rows
+  pub words : name ≡ codes "serve" → HasWordsOfServe flags rows

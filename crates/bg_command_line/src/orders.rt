@@ -28,8 +28,17 @@ pub enum Connections {
     Forever,
 }
 
-/// The ports at which `serve` takes connections, and the number of connections. Ports are from 1 to
-/// 65535.
+/// Which of the words are there that replace a required one.
+#[derive(Clone, Copy, Debug, Drop, PartialEq, Eq)]
+pub struct Flags {
+    /// `--forever`, in place of `--count`.
+    pub forever: bool,
+    /// `--concurrency`, in place of `--workers`.
+    pub concurrency: bool,
+}
+
+/// The ports at which `serve` takes connections, how many connections and requests each takes, and how an endpoint
+/// is chosen. Ports are from 1 to 65535.
 #[derive(Clone, Copy, Debug, Drop, PartialEq, Eq)]
 pub struct Site {
     /// The port of the active service.
@@ -38,8 +47,18 @@ pub struct Site {
     pub preview: Option<u16>,
     /// The control port.
     pub control: u16,
-    /// The number of workers of the active service, 1 to 7. The preview service has one.
-    pub workers: u8,
+    /// The number of workers of the active service: 1 to 7 by `--workers`, 1 to 1,023 by `--concurrency`.
+    pub workers: u16,
+    /// The number of workers of the preview service, 1 to 1,023, by `--preview-concurrency`. If that is not given:
+    /// 1 with `--workers`, and with `--concurrency` an eighth of its number, at least 1.
+    pub preview_workers: u16,
+    /// Whether another endpoint of the revision is asked if one can't be connected to (HAProxy's `option
+    /// redispatch`, nginx's `proxy_next_upstream error`).
+    pub redispatch: bool,
+    /// How many requests at a time an endpoint gets while another one of its revision is free (HAProxy's `maxconn`
+    /// of a server), 1 to 1,023; `None` stands for twice an equal part of the requests at a time, but at most half of
+    /// them. It has no effect unless `redispatch` holds.
+    pub endpoint_limit: Option<u16>,
     /// The number of connections that each worker takes.
     pub connections: Connections,
 }

@@ -1,10 +1,11 @@
 //! Reads the program's words.
-ghost use Rattle.std.specs.Prelude.{◌≡◌, IfOk, IfErr, map, codes, option_map, is_some, false, true, unwrap_or};
+ghost use Rattle.std.specs.Prelude.{◌≡◌, IfOk, IfErr, IfSome, map, codes, option_map, is_some, false, true, unwrap_or};
+ghost use Rattle.std.specs.List.{list_any};
 ghost use Rattle.clap.specs.Words.{IsUnsignedIn, first_of, found_of, rows_of};
-ghost use Rattle.bg_command_line.specs.CommandLine.{AreConnections, HasWordsOfServe, IsBetween, IsFaultFrom, IsFaultIn, IsIn, IsKnown, IsOrderIn, IsOrderOf, has_forever, is_in_conflict, number, number_of};
+ghost use Rattle.bg_command_line.specs.CommandLine.{AreConnections, AreWorkers, HasWordsOfServe, IsBetween, IsFaultFrom, IsFaultIn, IsIn, IsKnown, IsOrderIn, IsOrderOf, default_preview_workers, flags_of, has_concurrency, has_flag, has_word, is_concurrency, is_in_conflict, number, number_of};
 
 use crate::command_line::{conflict, program_command};
-use crate::orders::{Connections, Order, OrderFault, Site};
+use crate::orders::{Connections, Flags, Order, OrderFault, Site};
 use clap::error::ErrorKind;
 use clap::{ArgMatches, Error};
 use std::alloc::Global;
@@ -14,43 +15,93 @@ const DEFAULT_SEATS: u8 = 4;
 
 /// Reads the program's words. The first word is the program's name. The others are `check`; `replay
 /// [--seats N]` with N from 1 to 8, and 4 seats if no number is given; or `serve --active P [--preview
-/// P] --control P --workers N` with ports from 1 to 65535 and N from 1 to 7, and either `--count K`
-/// with K from 1 to 1,000,000 or `--forever`.
+/// P] --control P` with ports from 1 to 65535, either `--workers N` with N from 1 to 7 or `--concurrency N`
+/// with N from 1 to 1023, and either `--count K` with K from 1 to 1,000,000 or `--forever`. `serve` also takes
+/// `--preview-concurrency M` and `--endpoint-limit M` with M from 1 to 1023, and `--redispatch`. A value may also
+/// follow its option after `=`, in the same word.
 ///
 /// The error is `Words` only if `clap` refuses the words, if they ask for help or for the version, or if
-/// both `--count` and `--forever` are given. It is `OutOfMemory` if an allocation fails.
+/// both `--count` and `--forever` are given, or both `--workers` and `--concurrency`. It is `OutOfMemory` if an
+/// allocation fails.
 pub fn order(alloc: Global, words: &[&str]) -> Result<Order, OrderFault>
     ensures ok { IfOk result (IsOrderIn (map (λ w. w.now) words.now)) }
     ensures fault { IfErr result (IsFaultIn (map (λ w. w.now) words.now)) }
 {
-    let forever = has_forever(words);
-    let command = program_command(alloc, forever)?;
+    let flags = flags_in(words);
+    let command = program_command(alloc, flags)?;
     let matches = match command.try_get_matches_from(words) {
         Ok(matches) => matches,
         Err(error) => return Err(fault_of(error)),
     };
     let (name, inner) = matches.subcommand().unwrap();
-    if is_in_conflict(forever, inner) {
-        return Err(OrderFault::Words(conflict(alloc, name)?));
+    if is_in_conflict(flags, inner) {
+        let message = conflict_message(inner);
+        return Err(OrderFault::Words(conflict(alloc, name, message)?));
     }
-    Ok(order_of(forever, name, inner))
+    Ok(order_of(flags, name, inner))
 }
 
-/// Whether one of the words after the program's name is `--forever`.
-fn has_forever(words: &[&str]) -> bool
-    ensures { result ≡ has_forever (map (λ w. w.now) words.now) }
+/// The flags among the words after the program's name.
+fn flags_in(words: &[&str]) -> Flags
+    ensures { result ≡ flags_of (map (λ w. w.now) words.now) }
+{
+    Flags {
+        forever: has_word("--forever", words),
+        concurrency: has_concurrency(words),
+    }
+}
+
+/// Whether one of the words after the program's name is this one.
+fn has_word(word: &str, words: &[&str]) -> bool
+    ensures { result ≡ has_word word.now (map (λ w. w.now) words.now) }
 {
     match words.get(1..) {
-        Some(arguments) => arguments.contains(&"--forever"),
+        Some(arguments) => arguments.contains(&word),
         None => false,
     }
 }
 
-/// Whether `--count` is given together with `--forever`.
-fn is_in_conflict(forever: bool, matches: &ArgMatches) -> bool
-    ensures { result ≡ is_in_conflict forever (rows_of (found_of matches.now)) }
+/// Whether the words after the program's name have `--concurrency`, in either of its forms.
+fn has_concurrency(words: &[&str]) -> bool
+    ensures { result ≡ has_concurrency (map (λ w. w.now) words.now) }
 {
-    forever && argument_text(matches, "count").is_some()
+    match words.get(1..) {
+        Some(arguments) => have_concurrency(arguments),
+        None => false,
+    }
+}
+
+fn have_concurrency(arguments: &[&str]) -> bool
+    ensures { result ≡ list_any (λ w. is_concurrency w.now) arguments.now }
+{
+    arguments.iter().any(|word| is_concurrency(word))
+}
+
+/// Whether a word is `--concurrency`, whose value is the next word, or has the form `--concurrency=N`.
+fn is_concurrency(word: &str) -> bool
+    ensures { result ≡ is_concurrency word.now }
+{
+    word == "--concurrency" || word.starts_with("--concurrency=")
+}
+
+/// Whether `--count` is given together with `--forever`, or `--workers` together with `--concurrency`.
+fn is_in_conflict(flags: Flags, matches: &ArgMatches) -> bool
+    ensures { result ≡ is_in_conflict flags (rows_of (found_of matches.now)) }
+{
+    flags.forever && argument_text(matches, "count").is_some()
+        || argument_text(matches, "concurrency").is_some()
+            && argument_text(matches, "workers").is_some()
+}
+
+/// Which two words are in conflict.
+fn conflict_message(matches: &ArgMatches) -> &'static str {
+    if argument_text(matches, "concurrency").is_some()
+        && argument_text(matches, "workers").is_some()
+    {
+        "the argument '--workers <N>' cannot be used with '--concurrency <N>'"
+    } else {
+        "the argument '--count <N>' cannot be used with '--forever'"
+    }
 }
 
 fn fault_of(error: Error) -> OrderFault
@@ -62,9 +113,9 @@ fn fault_of(error: Error) -> OrderFault
     }
 }
 
-fn order_of(forever: bool, name: &str, matches: &ArgMatches) -> Order
-    requires { IsKnown forever name.now (rows_of (found_of matches.now)) }
-    ensures { IsOrderOf forever name.now (rows_of (found_of matches.now)) result }
+fn order_of(flags: Flags, name: &str, matches: &ArgMatches) -> Order
+    requires { IsKnown flags name.now (rows_of (found_of matches.now)) }
+    ensures { IsOrderOf flags name.now (rows_of (found_of matches.now)) result }
 {
     if name == "check" {
         Order::Check
@@ -73,7 +124,7 @@ fn order_of(forever: bool, name: &str, matches: &ArgMatches) -> Order
             seats: seats_of(matches),
         }
     } else {
-        serve_of(forever, matches)
+        serve_of(flags, matches)
     }
 }
 
@@ -89,10 +140,11 @@ fn seats_of(matches: &ArgMatches) -> u8
     }
 }
 
-fn serve_of(forever: bool, matches: &ArgMatches) -> Order
-    requires { HasWordsOfServe forever (rows_of (found_of matches.now)) }
-    ensures { IsOrderOf forever (codes "serve") (rows_of (found_of matches.now)) result }
+fn serve_of(flags: Flags, matches: &ArgMatches) -> Order
+    requires { HasWordsOfServe flags (rows_of (found_of matches.now)) }
+    ensures { IsOrderOf flags (codes "serve") (rows_of (found_of matches.now)) result }
 {
+    let workers = workers_of(flags.concurrency, matches);
     Order::Serve(Site {
         active: port_in(required_text(matches, "active")),
         preview: match argument_text(matches, "preview") {
@@ -100,9 +152,61 @@ fn serve_of(forever: bool, matches: &ArgMatches) -> Order
             None => None,
         },
         control: port_in(required_text(matches, "control")),
-        workers: workers_in(required_text(matches, "workers")),
-        connections: connections_of(forever, matches),
+        workers,
+        preview_workers: preview_workers_of(flags.concurrency, workers, matches),
+        redispatch: has_flag(matches, "redispatch"),
+        endpoint_limit: endpoint_limit_of(matches),
+        connections: connections_of(flags.forever, matches),
     })
+}
+
+fn workers_of(concurrency: bool, matches: &ArgMatches) -> u16
+    requires workers { IsIn 1 7 (codes "workers") (rows_of (found_of matches.now)) }
+    requires concurrency { IsIn 1 1023 (codes "concurrency") (rows_of (found_of matches.now)) }
+    requires few { concurrency ≡ false → is_some (first_of (codes "workers") (rows_of (found_of matches.now))) ≡ true }
+    requires many { concurrency ≡ true → is_some (first_of (codes "concurrency") (rows_of (found_of matches.now))) ≡ true }
+    ensures workers { AreWorkers concurrency (rows_of (found_of matches.now)) result }
+    ensures range { IsBetween 1 1023 result }
+{
+    if concurrency {
+        requests_in(required_text(matches, "concurrency"))
+    } else {
+        workers_in(required_text(matches, "workers"))
+    }
+}
+
+/// The number of workers of the preview port, where the active port has `workers`.
+fn preview_workers_of(concurrency: bool, workers: u16, matches: &ArgMatches) -> u16
+    requires given { IsIn 1 1023 (codes "preview-concurrency") (rows_of (found_of matches.now)) }
+    requires workers { IsBetween 1 1023 workers }
+    ensures value { result ≡ unwrap_or (number_of (codes "preview-concurrency") (rows_of (found_of matches.now)))
+        (default_preview_workers concurrency workers) }
+    ensures range { IsBetween 1 1023 result }
+{
+    match argument_text(matches, "preview-concurrency") {
+        Some(text) => requests_in(text),
+        None => default_preview_workers(concurrency, workers),
+    }
+}
+
+/// The number of workers of the preview port if the words do not give it.
+fn default_preview_workers(concurrency: bool, workers: u16) -> u16
+    requires { IsBetween 1 1023 workers }
+    ensures value { result ≡ default_preview_workers concurrency workers }
+    ensures range { IsBetween 1 1023 result }
+{
+    if concurrency { (workers / 8).max(1) } else { 1 }
+}
+
+fn endpoint_limit_of(matches: &ArgMatches) -> Option<u16>
+    requires { IsIn 1 1023 (codes "endpoint-limit") (rows_of (found_of matches.now)) }
+    ensures value { result ≡ number_of (codes "endpoint-limit") (rows_of (found_of matches.now)) }
+    ensures range { IfSome result (IsBetween 1 1023) }
+{
+    match argument_text(matches, "endpoint-limit") {
+        Some(text) => Some(requests_in(text)),
+        None => None,
+    }
 }
 
 fn connections_of(forever: bool, matches: &ArgMatches) -> Connections
@@ -114,6 +218,16 @@ fn connections_of(forever: bool, matches: &ArgMatches) -> Connections
         Connections::Forever
     } else {
         Connections::Count(count_in(required_text(matches, "count")))
+    }
+}
+
+/// Whether a flag is given. `clap` gives it the value `true` or `false`.
+fn has_flag(matches: &ArgMatches, id: &str) -> bool
+    ensures { result ≡ has_flag id.now (rows_of (found_of matches.now)) }
+{
+    match argument_text(matches, id) {
+        Some(text) => text == "true",
+        None => false,
     }
 }
 
@@ -147,12 +261,21 @@ fn port_in(text: &str) -> u16
     text.parse::<u16>().unwrap()
 }
 
-fn workers_in(text: &str) -> u8
+fn workers_in(text: &str) -> u16
     requires { IsUnsignedIn 1 7 text.now }
     ensures value { result ≡ number text.now }
     ensures range { IsBetween 1 7 result }
 {
-    text.parse::<u8>().unwrap()
+    text.parse::<u16>().unwrap()
+}
+
+/// A number of requests at a time.
+fn requests_in(text: &str) -> u16
+    requires { IsUnsignedIn 1 1023 text.now }
+    ensures value { result ≡ number text.now }
+    ensures range { IsBetween 1 1023 result }
+{
+    text.parse::<u16>().unwrap()
 }
 
 fn count_in(text: &str) -> u32

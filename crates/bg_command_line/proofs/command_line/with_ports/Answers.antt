@@ -8,8 +8,8 @@ returns-clause-app c =
     let active = c.required_option-active in
     let preview = c.number_option-preview in
     let control = c.required_option-control in
-    let with_active = rule_added c.args.command c.in_ok-arg.field-0 active.result _ _ c.in_ok-arg.ensures refl active.ensures.rule active.ensures.local in
-    let with_preview = rule_added c.in_ok-arg.field-0 c.in_ok-arg-2.field-0 preview.result _ _ c.in_ok-arg-2.ensures with_active preview.ensures.rule preview.ensures.local in
+    let has_active = rule_added c.args.command c.in_ok-with_active.with_active active.result _ _ c.in_ok-with_active.ensures refl active.ensures.rule active.ensures.local in
+    let has_preview = rule_added c.in_ok-with_active.with_active c.in_ok-with_preview.with_preview preview.result _ _ c.in_ok-with_preview.ensures has_active preview.ensures.rule preview.ensures.local in
     IfOk-weaker c.arg-3.result _ _
-    (λ made adds. rule_added c.in_ok-arg-2.field-0 made control.result _ _ adds with_preview control.ensures.rule control.ensures.local)
+    (λ made adds. rule_added c.in_ok-with_preview.with_preview made control.result _ _ adds has_preview control.ensures.rule control.ensures.local)
     c.arg-3.ensures

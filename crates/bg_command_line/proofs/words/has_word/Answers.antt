@@ -1,15 +1,15 @@
-use Rattle.std.proofs.Common.{◌≡◌, ◌∙◌, ℕ, List, ap, sym, codes, map}
+use Rattle.std.proofs.Common.{◌≡◌, ◌∙◌, ℕ, List, ap, sym, map}
 use Rattle.std.specs.Prelude.{Bool, bytes_eq, drop, take}
 use Rattle.std.specs.Borrow.{Bor}
 use Rattle.std.specs.List.{list_any}
 use Rattle.std.proofs.lemmas.List.{drop-map, length-drop}
 use Rattle.std.proofs.Math.Seq.{take-length}
 use Rattle.clap.proofs.WalkLemmas.{list_any-map}
-use Rattle.bg_command_line.proofs.words.has_forever.Goals as goal
+use Rattle.bg_command_line.proofs.words.has_word.Goals as goal
 
 pub returns-in-Some : goal.returns-in-Some
 returns-in-Some c =
-    let is : List ℕ → Bool = λ w. bytes_eq w (codes "--forever") in
+    let is : List ℕ → Bool = λ w. bytes_eq w c.args.word.now in
     let text : Bor (List ℕ) → List ℕ = λ w. w.now in
     let words = c.args.words.now in
     let arguments : c.in-Some.arguments.now ≡ drop 1 words =
