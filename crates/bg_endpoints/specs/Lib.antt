@@ -1,3 +1,9 @@
-pub mod OwnPorts
 pub mod Addresses
+pub mod Choices
+pub mod Healths
+pub mod Lists
+pub mod OwnPorts
+pub mod Routing
+pub mod Shares
 pub mod Silence
+pub mod States

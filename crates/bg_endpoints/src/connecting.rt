@@ -23,6 +23,23 @@ const SOCKET_TRIES: u32 = 50;
 
 const SOCKET_PAUSE_MILLIS: u64 = 20;
 
+/// Why there is no connection.
+#[derive(Debug, Drop)]
+pub(crate) enum ConnectFault {
+    /// The process has no socket for it. No port was asked.
+    NoSocket(io::Error),
+    /// The port cannot be connected to.
+    Failed(io::Error),
+}
+
+impl ConnectFault {
+    pub(crate) fn into_error(self) -> io::Error {
+        match self {
+            ConnectFault::NoSocket(error) | ConnectFault::Failed(error) => error,
+        }
+    }
+}
+
 /// A connection to a port of 127.0.0.1. If no descriptor is free, waits for one for about a second. The
 /// connect fails with `TimedOut` after `write_wait`. If a signal interrupts it, it may take this time
 /// again, up to 8 times in all. A later write waits at most `write_wait`, and a read at most `read_wait`.
@@ -34,11 +51,26 @@ pub(crate) fn connect<C: Clock>(
     port: u16,
     write_wait: Duration,
     read_wait: Duration,
+) -> Result<TcpStream, ConnectFault> {
+    let stream = match socket_within(clock, write_wait, read_wait) {
+        Ok(stream) => stream,
+        Err(error) => return Err(ConnectFault::NoSocket(error)),
+    };
+    match connect_to(stream.as_raw_fd(), &home_address(port)) {
+        Ok(()) => Ok(stream),
+        Err(error) => Err(ConnectFault::Failed(error)),
+    }
+}
+
+/// A socket that is not connected, with these timeouts.
+fn socket_within<C: Clock>(
+    clock: &C,
+    write_wait: Duration,
+    read_wait: Duration,
 ) -> io::Result<TcpStream> {
     let stream = TcpStream::from(new_socket(clock)?);
     stream.set_write_timeout(Some(write_wait))?;
     stream.set_read_timeout(Some(read_wait))?;
-    connect_to(stream.as_raw_fd(), &home_address(port))?;
     Ok(stream)
 }
 

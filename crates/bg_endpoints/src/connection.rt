@@ -1,12 +1,14 @@
 //! The connection to an endpoint.
 ghost use Rattle.std.specs.Io.{ReadsAtMost, WritesAtMost};
 
-use crate::connecting::connect;
+use crate::connecting::{ConnectFault, connect};
 use crate::response_timeout::ResponseTimeout;
 use crate::time_left::time_left;
+use crate::visit::Visit;
 use std::io;
 use std::io::{ErrorKind, Read, Write};
 use std::net::TcpStream;
+use std::sync::Wait;
 use std::time::{Clock, Duration, Instant};
 
 /// The timeout in seconds of a connect, and of one try of a write.
@@ -28,10 +30,12 @@ const TURN_SECONDS: u64 = 1;
 /// writes then do nothing, and reads give what it has sent. At its end they fail with the error of the
 /// write. The timeouts cost two system calls for each connection.
 #[derive(Drop)]
-pub struct Connection<'a, C: Clock> {
+pub struct Connection<'a, C: Clock + Wait> {
     stream: TcpStream,
+    /// Where the request is counted, if the switch counts.
+    visit: Option<Visit<'a, C>>,
     clock: &'a C,
-    /// When the connect began.
+    /// When the first connect for the request began.
     start: Instant,
     /// The timeout of the connect, the request and the response in all.
     timeout: Duration,
@@ -43,29 +47,35 @@ pub struct Connection<'a, C: Clock> {
     unread: Option<ErrorKind>,
 }
 
-impl<'a, C: Clock> Connection<'a, C> {
-    /// Connects to a port of 127.0.0.1. The timeout of the connect is 5 seconds, or the response timeout if
-    /// that is shorter. The response timeout begins before the connect.
+impl<'a, C: Clock + Wait> Connection<'a, C> {
+    /// Connects to a port of 127.0.0.1. The timeout of the connect is 5 seconds, or what is left of the response
+    /// timeout if that is shorter. The response timeout begins at `start`.
     pub(crate) fn open(
         clock: &'a C,
         port: u16,
         timeout: ResponseTimeout,
-    ) -> io::Result<Connection<'a, C>> {
-        let start = Instant::now(clock)?;
+        start: Instant,
+        left: Duration,
+    ) -> Result<Connection<'a, C>, ConnectFault> {
         let turns = timeout.silent_seconds();
-        let timeout = Duration::from_secs(timeout.seconds);
-        let write_wait = timeout.min(Duration::from_secs(CONNECT_SECONDS));
-        let read_wait = timeout.min(Duration::from_secs(TURN_SECONDS));
+        let write_wait = left.min(Duration::from_secs(CONNECT_SECONDS));
+        let read_wait = left.min(Duration::from_secs(TURN_SECONDS));
         let stream = connect(clock, port, write_wait, read_wait)?;
         Ok(Connection {
             stream,
+            visit: None,
             clock,
             start,
-            timeout,
+            timeout: Duration::from_secs(timeout.seconds),
             turns_left: turns,
             turns,
             unread: None,
         })
+    }
+
+    /// Counts the request at its port until the connection is dropped.
+    pub(crate) fn count(&mut self, visit: Visit<'a, C>) {
+        self.visit = Some(visit);
     }
 
     /// The time that is left of the response timeout; `TimedOut` if none is left.
@@ -97,6 +107,7 @@ impl<'a, C: Clock> Connection<'a, C> {
             Err(error) if error.kind() == ErrorKind::WouldBlock => Err(self.after_silence()),
             outcome => {
                 self.turns_left = self.turns;
+                self.note_bytes(&outcome);
                 outcome
             }
         }
@@ -106,9 +117,31 @@ impl<'a, C: Clock> Connection<'a, C> {
     fn after_silence(&mut self) -> io::Error {
         self.turns_left = self.turns_left.saturating_sub(1);
         if self.turns_left == 0 {
+            if let Some(visit) = &mut self.visit {
+                visit.note_failure();
+            }
             return io::Error::from(ErrorKind::TimedOut);
         }
         io::Error::from(ErrorKind::Interrupted)
+    }
+
+    /// Keeps that the endpoint has sent bytes, if it has.
+    fn note_bytes(&mut self, outcome: &io::Result<usize>) {
+        if let Some(visit) = &mut self.visit
+            && matches!(outcome, Ok(1..))
+        {
+            visit.note_bytes();
+        }
+    }
+
+    /// Keeps that a timeout has ended the request, if it has.
+    fn note_timeout(&mut self, outcome: &io::Result<usize>) {
+        if let Some(visit) = &mut self.visit
+            && let Err(error) = outcome
+            && error.kind() == ErrorKind::TimedOut
+        {
+            visit.note_timeout();
+        }
     }
 
     /// Writes as the stream does. Repeats a write that sent no byte, for up to 30 seconds.
@@ -125,21 +158,25 @@ impl<'a, C: Clock> Connection<'a, C> {
     }
 }
 
-impl<C: Clock> Read for Connection<'_, C> {
+impl<C: Clock + Wait> Read for Connection<'_, C> {
     fn read(&mut self, buf: &mut [u8]) -> io::Result<usize> {
-        match (self.read_in_turn(buf)?, self.unread) {
+        let outcome = self.read_in_turn(buf);
+        self.note_timeout(&outcome);
+        match (outcome?, self.unread) {
             (0, Some(kind)) if !buf.is_empty() => Err(io::Error::from(kind)),
             (count, _) => Ok(count),
         }
     }
 }
 
-impl<C: Clock> Write for Connection<'_, C> {
+impl<C: Clock + Wait> Write for Connection<'_, C> {
     fn write(&mut self, bytes: &[u8]) -> io::Result<usize> {
         if self.unread.is_some() {
             return Ok(bytes.len());
         }
-        match self.write_in_tries(bytes) {
+        let outcome = self.write_in_tries(bytes);
+        self.note_timeout(&outcome);
+        match outcome {
             Err(error)
                 if matches!(
                     error.kind(),

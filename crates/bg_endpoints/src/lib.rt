@@ -3,12 +3,21 @@
 
 mod connecting;
 mod connection;
+mod directory;
 mod endpoints;
 mod own_ports;
+mod port_lists;
+mod port_state;
 mod response_timeout;
+mod share;
+mod table;
 mod time_left;
+mod visit;
 
 pub use connection::Connection;
+pub use directory::Directory;
 pub use endpoints::Endpoints;
 pub use own_ports::OwnPorts;
+pub use port_lists::{PortList, PortLists};
 pub use response_timeout::ResponseTimeout;
+pub use share::Share;

@@ -14,7 +14,7 @@ use crate::buffered::Buffered;
 use crate::gate::Gate;
 use crate::reason::Reason;
 use crate::serving::End;
-use crate::streams::{ClientStream, Dial};
+use crate::streams::{ClientStream, Dialled};
 use bg_book::GoOn;
 use bg_http::{MOST_TURNS, Request, Response, write_refusal, write_request, write_response};
 use bg_http_read::ResponseParser;
@@ -34,15 +34,15 @@ pub(crate) struct Outcome {
     pub(crate) reason: Option<Reason>,
 }
 
-/// Forwards a request to a port, and answers its client with the response or a refusal.
-pub(crate) fn exchange<N: Names, G: Gate<N>, S: ClientStream, D: Dial>(
+/// Forwards a request over the connection that a dial gave, and answers its client with the response or a
+/// refusal. If the dial gave no connection, the answer is 502.
+pub(crate) fn exchange<N: Names, G: Gate<N>, S: ClientStream, U: Read + Write + Drop>(
     alloc: Global,
     gate: &G,
     seat: &mut Seat<N>,
     request: &Request,
-    port: u16,
+    dialled: Dialled<U>,
     client: &mut Buffered<S>,
-    dial: &D,
 ) -> Outcome
     requires within { 0 < seat.old.number }
     requires empty { held client.old ≡ [] }
@@ -52,7 +52,7 @@ pub(crate) fn exchange<N: Names, G: Gate<N>, S: ClientStream, D: Dial>(
     ensures wrote { WroteLast (S.contents (stream_of client.old))
         (S.contents (stream_of client.new)) (Ok request.now) result.end }
 {
-    match forward(alloc, gate, seat, request, port, &mut client.stream, dial) {
+    match forward(alloc, gate, seat, request, dialled, &mut client.stream) {
         Ok(response) => Outcome {
             end: answer(request, &response, client),
             reason: None,
@@ -64,24 +64,24 @@ pub(crate) fn exchange<N: Names, G: Gate<N>, S: ClientStream, D: Dial>(
     }
 }
 
-/// Forwards a request to a port and reads the response. An error is the reason why the client is
-/// refused: with 503 if the request is given up or an allocation fails while the response is read,
-/// and with 502 otherwise (RFC 9110 sections 15.6.3 and 15.6.4). Writes nothing to the client.
-fn forward<N: Names, G: Gate<N>, S: ClientStream, D: Dial>(
+/// Forwards a request over the connection that a dial gave, and reads the response. An error is the reason
+/// why the client is refused: with 503 if the request is given up or an allocation fails while the response
+/// is read, and with 502 otherwise (RFC 9110 sections 15.6.3 and 15.6.4). Writes nothing to the client.
+fn forward<N: Names, G: Gate<N>, S: ClientStream, U: Read + Write + Drop>(
     alloc: Global,
     gate: &G,
     seat: &mut Seat<N>,
     request: &Request,
-    port: u16,
+    dialled: Dialled<U>,
     client: &mut S,
-    dial: &D,
 ) -> Result<Response, Reason>
     requires { 0 < seat.old.number }
     ensures status { IfErr result (λ reason. IsGatewayStatus (reason_status reason)) }
     ensures seat { seat.new ≡ seat.old }
     ensures client { Keeps (S.contents client.old) (S.contents client.new) }
 {
-    let stream = match dial.dial(port) {
+    let Dialled { route, stream } = dialled;
+    let stream = match stream {
         Ok(stream) => stream,
         Err(error) => return Err(Reason::of_dial(&error)),
     };
@@ -89,7 +89,7 @@ fn forward<N: Names, G: Gate<N>, S: ClientStream, D: Dial>(
         return Err(Reason::GivenUp);
     }
     let mut upstream = Buffered::new(alloc, stream);
-    if let Err(error) = send_request(request, port, &mut upstream) {
+    if let Err(error) = send_request(request, route.port, &mut upstream) {
         return Err(Reason::of_stream(&error));
     }
     receive(alloc, gate, seat, request, client, &mut upstream.stream)

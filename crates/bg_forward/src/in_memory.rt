@@ -1,6 +1,7 @@
 //! A connection that is in memory.
 ghost use Rattle.std.specs.Prelude.{◌≡◌, ◌+◌, ◌<◌, [], IfSome, Some};
 ghost use Rattle.bg_forward.specs.Connections.{Connection};
+ghost use Rattle.bg_forward.specs.Routes.{IsRouted};
 ghost use Rattle.bg_forward.specs.Seats.{calls_made, seat_after};
 
 use crate::buffered::Buffered;
@@ -40,6 +41,7 @@ pub fn serve_in_memory<N: Names, G: Gate<N>, D: Dial>(
     ensures seat { seat.new ≡ seat_after seat.old result.served.entered }
     ensures number { IfSome result.served.entered (λ t. 0 < t.number) }
     ensures gives { IfSome result.served.entered (λ t. G.gives gate.now service seat.old t) }
+    ensures route { IsRouted (D.routes dial.now) result.served.entered result.served.route }
     ensures client { Connection (Some input.now) (Some []) (Some result.written)
         result.served.entered result.served.end }
 {

@@ -21,5 +21,5 @@ pub use gate::Gate;
 pub use in_memory::{Exchange, serve_in_memory};
 pub use reason::Reason;
 pub use serving::{End, Served, serve_one};
-pub use streams::{Accept, ClientStream, Dial};
+pub use streams::{Accept, ClientStream, Dial, Dialled, Route};
 pub use workers::run_workers;

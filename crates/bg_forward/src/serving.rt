@@ -1,5 +1,6 @@
 //! One connection, from its request to its answer.
 ghost use Rattle.std.specs.Prelude.{◌≡◌, ◌+◌, ◌<◌, [], IfSome, Ok, Err};
+ghost use Rattle.bg_forward.specs.Routes.{IsRouted};
 ghost use Rattle.bg_http.specs.Statuses.{request_status};
 ghost use Rattle.bg_forward.specs.Buffers.{held, stream_of};
 ghost use Rattle.bg_forward.specs.Connections.{Connection, EndsBy, MayEnd, WroteLast};
@@ -10,7 +11,7 @@ use crate::buffered::Buffered;
 use crate::exchange::{Outcome, exchange, refuse};
 use crate::gate::Gate;
 use crate::reason::Reason;
-use crate::streams::{ClientStream, Dial};
+use crate::streams::{ClientStream, Dial, Route};
 use bg_book::Ticket;
 use bg_http::{Request, RequestFault};
 use bg_http_read::read_request;
@@ -39,13 +40,15 @@ pub enum End {
 pub struct Served {
     /// The ticket that the request got when it entered; `None` if it did not enter.
     pub entered: Option<Ticket>,
+    /// What was dialled for the request; `None` if it did not enter.
+    pub route: Option<Route>,
     /// How the connection ended for its client.
     pub end: End,
     /// Why the client was refused, also if the refusal could not be written.
     pub reason: Option<Reason>,
 }
 
-/// Serves one client on a seat that is out: reads its whole request, enters, dials the ticket's
+/// Serves one client on a seat that is out: reads its whole request, enters, dials for the ticket's
 /// port, forwards the request, reads the response, writes it, and leaves. The seat is out at the
 /// end, also after a failure.
 ///
@@ -78,6 +81,7 @@ pub fn serve_one<N: Names, G: Gate<N>, S: ClientStream, D: Dial>(
     ensures seat { seat.new ≡ seat_after seat.old result.entered }
     ensures number { IfSome result.entered (λ t. 0 < t.number) }
     ensures gives { IfSome result.entered (λ t. G.gives gate.now service seat.old t) }
+    ensures route { IsRouted (D.routes dial.now) result.entered result.route }
     ensures why { TellsWhy result.end result.reason }
     ensures client { Connection (S.remaining (stream_of client.old))
         (S.contents (stream_of client.old)) (S.contents (stream_of client.new))
@@ -89,6 +93,7 @@ pub fn serve_one<N: Names, G: Gate<N>, S: ClientStream, D: Dial>(
             let outcome = turn_away(fault, client);
             Served {
                 entered: None,
+                route: None,
                 end: outcome.end,
                 reason: outcome.reason,
             }
@@ -111,6 +116,7 @@ fn pass<N: Names, G: Gate<N>, S: ClientStream, D: Dial>(
     ensures seat { seat.new ≡ seat_after seat.old result.entered }
     ensures number { IfSome result.entered (λ t. 0 < t.number) }
     ensures gives { IfSome result.entered (λ t. G.gives gate.now service seat.old t) }
+    ensures route { IsRouted (D.routes dial.now) result.entered result.route }
     ensures may_end { MayEnd (Ok request.now) result.entered result.end }
     ensures why { TellsWhy result.end result.reason }
     ensures wrote { WroteLast (S.contents (stream_of client.old))
@@ -121,15 +127,19 @@ fn pass<N: Names, G: Gate<N>, S: ClientStream, D: Dial>(
         Err(fault) => {
             return Served {
                 entered: None,
+                route: None,
                 end: refuse(503, client),
                 reason: Some(Reason::of_enter(fault)),
             };
         }
     };
-    let outcome = exchange(alloc, gate, seat, request, ticket.port, client, dial);
+    let dialled = dial.dial(ticket.port);
+    let route = dialled.route;
+    let outcome = exchange(alloc, gate, seat, request, dialled, client);
     gate.leave(seat);
     Served {
         entered: Some(ticket),
+        route: Some(route),
         end: outcome.end,
         reason: outcome.reason,
     }

@@ -1,6 +1,7 @@
 //! The sources of client connections, and the connections to endpoints.
-ghost use Rattle.std.specs.Prelude.{◌≡◌, false, Some};
+ghost use Rattle.std.specs.Prelude.{◌≡◌, ℕ, false, Some, ⊤};
 ghost use Rattle.std.specs.Io.KnownBytes.{Keeps};
+ghost use Rattle.bg_forward.specs.declared.streams.Route.{Route};
 
 use crate::serving::Served;
 use bg_http::{Duplex, MemoryStream};
@@ -8,13 +9,46 @@ use bg_revisions::Service;
 use std::io;
 use std::io::{Read, Write};
 
+/// The ports that were dialled for a request.
+#[derive(Clone, Copy, PartialEq, Eq, Debug, Drop)]
+pub struct Route {
+    /// The port that was dialled last. It is the port of the connection, if there is one.
+    pub port: u16,
+    /// The number of ports that were dialled, at least 1.
+    pub tries: u32,
+}
+
+/// What a dial gave: a connection, or why there is none, and which ports were dialled.
+#[derive(Drop)]
+pub struct Dialled<S> {
+    pub route: Route,
+    pub stream: io::Result<S>,
+}
+
+impl<S> Dialled<S> {
+    /// What the dial of one port gave.
+    pub fn once(port: u16, stream: io::Result<S>) -> Dialled<S>
+        ensures { result ≡ record { route = record { port = port; tries = 1 }; stream = stream } }
+    {
+        Dialled {
+            route: Route { port, tries: 1 },
+            stream,
+        }
+    }
+}
+
 /// Opens connections to endpoints.
 pub trait Dial {
+    /// The fact that holds for the route of a dial of a port.
+    ghost routes: { Self → ℕ → Route → Type 0 } = { λ _ _ _. ⊤ };
+
     /// A connection to an endpoint. It is closed when it is dropped.
     type Stream: Read + Write + Drop;
 
-    /// Opens a connection to a port.
-    fn dial(&self, port: u16) -> io::Result<Self::Stream>;
+    /// Opens a connection to a port, or to another port of the same revision. The implementation decides
+    /// which ports it dials, and tells it as the route. Nothing is written to the connection.
+    fn dial(&self, port: u16) -> Dialled<Self::Stream>
+        ensures { Self.routes self.now port result.route };
 }
 
 /// A connection of a client. It says whether the client still waits for its answer.

@@ -7,7 +7,7 @@ use Rattle.std.proofs.lemmas.Bool.Decides.{nat_tests}
 use Rattle.bg_operator.specs.declared.line_fault.LineFault.{LineFault}
 use Rattle.bg_operator.specs.declared.line_fault.LineFault.TheVariants.{BadNumber, WrongCount}
 use Rattle.bg_operator.specs.Words.{is_number, words_of}
-use Rattle.bg_operator.specs.Shapes.{first_wrong, Number, shape_fault, word_fault}
+use Rattle.bg_operator.specs.Shapes.{AnyNumber, first_wrong, Number, shape_fault, word_fault}
 use Rattle.bg_operator.specs.Commands.{line_reading, template_shape, text_fault, words_reading}
 
 -- a fault of the bytes is that of the line
@@ -22,13 +22,23 @@ unfolding line_reading
 read_by_words line words e is =
     ap (λ o. option_map_or Err o (words_reading (words_of line))) e ∙ ap words_reading is
 
+-- the fault of one word more that has to be a port
+one_more_port : (word : List ℕ) (words : List (List ℕ))
+    → option_or (word_fault (Number 16) word) (if list_all (is_number 16) words then None else Some BadNumber) ≡ (if list_all (is_number 16) (word ∷ words) then None else Some BadNumber)
+one_more_port word words =
+    elim (is_number 16 word) as (λ t. option_or (if t then None else Some BadNumber) (if list_all (is_number 16) words then None else Some BadNumber) ≡ (if t && list_all (is_number 16) words then None else Some BadNumber)) [ true ↦ refl | false ↦ refl ]
+
 -- the first wrong word among those that have to be ports
 wrong_port : (words : List (List ℕ))
     → first_wrong (Number 16 ∷ map (λ word. Number 16) words) words ≡ (if list_all (is_number 16) words then None else Some BadNumber)
 wrong_port [] = refl
-wrong_port (word ∷ words) =
-    ap (option_or (word_fault (Number 16) word)) (wrong_port words)
-    ∙ elim (is_number 16 word) as (λ t. option_or (if t then None else Some BadNumber) (if list_all (is_number 16) words then None else Some BadNumber) ≡ (if t && list_all (is_number 16) words then None else Some BadNumber)) [ true ↦ refl | false ↦ refl ]
+wrong_port (word ∷ words) = ap (option_or (word_fault (Number 16) word)) (wrong_port words) ∙ one_more_port word words
+
+-- the fault of any number of words that have to be ports
+pub fault_of_any_ports : (words : List (List ℕ))
+    → shape_fault (AnyNumber (Number 16)) words ≡ (if list_all (is_number 16) words then None else Some BadNumber)
+fault_of_any_ports [] = refl
+fault_of_any_ports (word ∷ words) = ap (option_or (word_fault (Number 16) word)) (fault_of_any_ports words) ∙ one_more_port word words
 
 more_than_one : (n : ℕ) → 0 < n → nat_lt 1 (suc n) ≡ true
 more_than_one n some = grind (arith, nat_tests)

@@ -5,11 +5,11 @@ use Rattle.std.specs.List.{list_all}
 use Rattle.std.specs.Str.Parse.{digits_value}
 use Rattle.bg_rollout.specs.declared.control.Control.TheVariants.{Tick, Deploy, Available, Verdict, Promote, PromoteFull, Abort, Retry}
 use Rattle.bg_operator.specs.declared.command.Command.{Command}
-use Rattle.bg_operator.specs.declared.command.Command.TheVariants.{Open, Control, Enter, Leave, Report, Compact, Quit}
+use Rattle.bg_operator.specs.declared.command.Command.TheVariants.{Open, Control, Enter, Leave, Down, Report, Compact, Quit}
 use Rattle.bg_operator.specs.declared.line_fault.LineFault.{LineFault}
 use Rattle.bg_operator.specs.declared.line_fault.LineFault.TheVariants.{TooLong, NotAscii, Empty, UnknownWord, WrongCount, OutOfMemory}
 use Rattle.bg_operator.specs.Words.{analyses, meaning_in, results, services, words_in, words_of}
-use Rattle.bg_operator.specs.Shapes.{Shape, AnyWord, Number, OneOf, Exactly, AtMost, AndMore, shape_fault}
+use Rattle.bg_operator.specs.Shapes.{Shape, AnyWord, Number, OneOf, Exactly, AtMost, AndMore, AnyNumber, shape_fault}
 
 -- A row of the table of lines: the first word, the words that may follow, and their command. Words
 -- that have a fault give no command.
@@ -120,6 +120,17 @@ leave_row = record {
   order = leave_order;
 }
 
+abbrev pub down_order : List (List ℕ) → Option Command
+down_order ports = Some (Down (map (digits_value 10) ports))
+
+-- `down PORT..`, or `down`
+abbrev pub down_row : Row
+down_row = record {
+  first = codes "down";
+  shape = AnyNumber (Number 16);
+  order = down_order;
+}
+
 -- a line of one word
 abbrev pub single_word : List ℕ → Command → Row
 single_word first command = record {
@@ -134,7 +145,7 @@ rows =
     open_row ∷ deploy_row ∷ tick_row ∷ available_row ∷ verdict_row ∷ promote_row
     ∷ single_word (codes "abort") (Control Abort)
     ∷ single_word (codes "retry") (Control Retry)
-    ∷ enter_row ∷ leave_row
+    ∷ enter_row ∷ leave_row ∷ down_row
     ∷ single_word (codes "report") Report
     ∷ single_word (codes "compact") Compact
     ∷ single_word (codes "quit") Quit
@@ -168,10 +179,11 @@ text_fault line =
 unfoldable pub line_reading : List ℕ → Result Command LineFault
 line_reading line = option_map_or Err (text_fault line) (words_reading (words_of line))
 
--- the command has a name and ports, which need memory
+-- the command has ports, and perhaps a name, which need memory
 abbrev pub NeedsMemory : Result Command LineFault → Type 0
 NeedsMemory (Ok (Open name ports)) = ⊤
 NeedsMemory (Ok (Control (Deploy name ports))) = ⊤
+NeedsMemory (Ok (Down ports)) = ⊤
 NeedsMemory _ = ⊥
 
 -- a line was read as expected, or an allocation failed for a command that needs memory

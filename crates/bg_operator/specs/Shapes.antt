@@ -13,11 +13,12 @@ pub data Form : Type 0 where
   OneOf : (words : List (List ℕ)) → Form
 
 -- the words that follow: one of each form, in order; the same, where the last ones may be missing;
--- or one of each form and then one or more of a further form
+-- one of each form and then one or more of a further form; or any number of one form
 pub data Shape : Type 0 where
   Exactly : (forms : List Form) → Shape
   AtMost : (forms : List Form) → Shape
   AndMore : (forms : List Form) (further : Form) → Shape
+  AnyNumber : (form : Form) → Shape
 
 -- the fault of a word that must be of this form
 abbrev pub word_fault : Form → List ℕ → Option LineFault
@@ -41,3 +42,4 @@ shape_fault (AndMore forms further) words =
     if nat_lt (length forms) (length words)
     then first_wrong (forms ++ map (λ word. further) words) words
     else Some WrongCount
+shape_fault (AnyNumber form) words = first_wrong (map (λ word. form) words) words

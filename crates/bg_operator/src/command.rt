@@ -14,6 +14,8 @@ pub enum Command {
     Enter { seat: u32, service: Service },
     /// End the request at a seat.
     Leave { seat: u32 },
+    /// Take these ports as all that are down now, in place of those before.
+    Down { ports: Ports },
     /// Write the report.
     Report,
     /// Drop the entries of closed requests from the history.

@@ -3,7 +3,7 @@ ghost use Rattle.std.specs.Prelude.{◌≡◌, [], ◌∷◌, true, map, None, M
 ghost use Rattle.std.specs.List.{list_all};
 ghost use Rattle.std.specs.Str.Parse.{digits_value};
 ghost use Rattle.bg_operator.specs.Words.{is_number, words_ahead};
-ghost use Rattle.bg_operator.specs.Commands.{available_row, deploy_row, enter_row, is_printable, IsReadAs, leave_row, line_reading, open_row, promote_row, row_reading, single_word, template_shape, text_fault, tick_row, verdict_row, words_reading};
+ghost use Rattle.bg_operator.specs.Commands.{available_row, deploy_row, down_row, enter_row, is_printable, IsReadAs, leave_row, line_reading, open_row, promote_row, row_reading, single_word, template_shape, text_fault, tick_row, verdict_row, words_reading};
 ghost use Rattle.bg_operator.specs.Shapes.{shape_fault};
 ghost use Rattle.bg_operator.specs.declared.line_fault.LineFault.TheVariants as line_fault;
 
@@ -24,13 +24,14 @@ use std::alloc::Global;
 /// - `verdict pre` or `verdict post`, and then `successful`, `failed` or `error`
 /// - `promote`, `promote full`, `abort` and `retry`
 /// - `enter SEAT active` or `enter SEAT preview`, and `leave SEAT`
+/// - `down PORT..`, with any number of ports
 /// - `report`, `compact` and `quit`
 ///
 /// A number is 1 to 20 digits. Its value is below 2^16 for a port, 2^32 for a seat and a size, and
 /// 2^64 for a moment and a revision. A name may be any word here; the book checks it.
 ///
 /// For any other line the error is its first fault, in the order of [`LineFault`]. `OutOfMemory`
-/// comes only for an `open` or a `deploy` without another fault.
+/// comes only for an `open`, a `deploy` or a `down` without another fault.
 pub fn parse_line(alloc: Global, line: &[u8]) -> Result<Command, LineFault>
     ensures { IsReadAs (line_reading line.now) result }
 {
@@ -54,6 +55,7 @@ fn command(alloc: Global, first: &str, words: Words) -> Result<Command, LineFaul
         "retry" => alone(Command::Control(Control::Retry), words),
         "enter" => enter(words),
         "leave" => leave(words),
+        "down" => down(alloc, words),
         "report" => alone(Command::Report, words),
         "compact" => alone(Command::Compact, words),
         "quit" => alone(Command::Quit, words),
@@ -191,6 +193,17 @@ fn leave(words: Words) -> Result<Command, LineFault>
 {
     let seat = number(one(words)?)?;
     Ok(Command::Leave { seat })
+}
+
+#[tactic(auto, using(crate::proofs::LineReadings::fault_of_any_ports))]
+fn down(alloc: Global, words: Words) -> Result<Command, LineFault>
+    ensures { IsReadAs (row_reading down_row (words_ahead words.entry)) result }
+{
+    if !are_ports(words) {
+        return Err(LineFault::BadNumber);
+    }
+    let ports = read_ports(alloc, words)?;
+    Ok(Command::Down { ports })
 }
 
 /// The command, if no word follows.

@@ -25,7 +25,7 @@ use Rattle.bg_script.specs.declared.control_side.ControlEnd.TheVariants as contr
 use Rattle.bg_script.proofs.Quitting.{is_the_quit, not_quit}
 use Rattle.bg_script.specs.AnswerTexts.{answer_text}
 use Rattle.bg_script.specs.Scripts.{IsDropped, Written, Said, Reported, text_of_all, written_text}
-use Rattle.bg_script.specs.Connections.{AnsweredBy, AnswersAtDesk, AnswersBeforeOpen, ClosedAnswer, EndsByHttp, StepBeforeOpen, DeskStep, EventAnswer, MayBeAsked, Orders, WroteAnswers, WroteAtDesk, WroteReport}
+use Rattle.bg_script.specs.Connections.{AnsweredBy, AnswersAtDesk, AnswersBeforeOpen, ClosedAnswer, EndsByHttp, StepBeforeOpen, DeskStep, EventAnswer, IsDownAnswer, MayBeAsked, Orders, WroteAnswers, WroteAtDesk, WroteReport}
 
 abbrev pub Step : Type 1
 Step = Result Command LineFault → Written → Type 0
@@ -182,6 +182,10 @@ report_at_desk read first last r is wrote = on_ok_weaker r
 pub event_at_desk : (read : Result Command LineFault) (event : Control) (reply : Reply) → read ≡ Ok (command.Control event) → EventAnswer event reply
     → DeskStep read (Said (answer.Made reply))
 event_at_desk read event reply is told = subst (λ x. DeskStep x (Said (answer.Made reply))) (sym is) told
+
+pub down_at_desk : (read : Result Command LineFault) (ports : List ℕ) (said : Answer) → read ≡ Ok (command.Down ports) → IsDownAnswer ports said
+    → DeskStep read (Said said)
+down_at_desk read ports said is told = subst (λ x. DeskStep x (Said said)) (sym is) told
 
 pub compaction_at_desk : (read : Result Command LineFault) (count : ℕ) → read ≡ Ok command.Compact → ((book : Routing) × Headline book × IsDropped book count)
     → DeskStep read (Said (answer.Compacted count))

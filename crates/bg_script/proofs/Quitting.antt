@@ -2,7 +2,7 @@
 use Rattle.std.proofs.Common.{◌≡◌, true, false, refl, ap, ◌∙◌, sym, Option, Some, None}
 use Rattle.std.specs.Prelude.{◌≢◌, Result, Ok, Err}
 use Rattle.bg_operator.specs.declared.command.Command.{Command}
-use Rattle.bg_operator.specs.declared.command.Command.TheVariants.{Open, Control, Enter, Leave, Report, Compact, Quit}
+use Rattle.bg_operator.specs.declared.command.Command.TheVariants.{Open, Control, Enter, Leave, Down, Report, Compact, Quit}
 use Rattle.bg_operator.specs.declared.line_fault.LineFault.{LineFault}
 use Rattle.bg_operator.specs.OperatorLines.{orders_quit}
 
@@ -12,6 +12,7 @@ is_the_quit (Ok (Open name ports)) quit = cc
 is_the_quit (Ok (Control event)) quit = cc
 is_the_quit (Ok (Enter seat service)) quit = cc
 is_the_quit (Ok (Leave seat)) quit = cc
+is_the_quit (Ok (Down ports)) quit = cc
 is_the_quit (Ok Report) quit = cc
 is_the_quit (Ok Compact) quit = cc
 is_the_quit (Err fault) quit = cc

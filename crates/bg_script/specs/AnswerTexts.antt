@@ -5,7 +5,7 @@ use Rattle.bg_rollout.specs.FaultNames.{open_fault_name}
 use Rattle.bg_operator.specs.FaultNames.{line_fault_name}
 use Rattle.bg_report.specs.Replies.{refused, reply_text}
 use Rattle.bg_script.specs.declared.answer.Answer.{Answer}
-use Rattle.bg_script.specs.declared.answer.Answer.TheVariants.{Opened, OpenRefused, NotOpen, AlreadyOpen, Made, Compacted, NotHere, OutOfMemory, Unread}
+use Rattle.bg_script.specs.declared.answer.Answer.TheVariants.{Opened, OpenRefused, NotOpen, AlreadyOpen, Made, Compacted, MarkedDown, BadPorts, NotHere, OutOfMemory, Unread}
 
 -- the line of an answer
 abbrev pub answer_text : Answer → List ℕ
@@ -15,6 +15,8 @@ answer_text NotOpen = refused (codes "NotOpen")
 answer_text AlreadyOpen = refused (codes "AlreadyOpen")
 answer_text (Made answer) = reply_text answer
 answer_text (Compacted count) = codes "compacted " ++ decimal count ++ codes "\n"
+answer_text (MarkedDown count) = codes "ok " ++ decimal count ++ codes "\n"
+answer_text BadPorts = refused (codes "BadPorts")
 answer_text NotHere = refused (codes "NotHere")
 answer_text OutOfMemory = refused (codes "OutOfMemory")
 answer_text (Unread fault) = codes "fault " ++ line_fault_name fault ++ codes "\n"

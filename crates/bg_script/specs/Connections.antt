@@ -1,6 +1,7 @@
 -- The answers to the lines of a control connection.
-use Rattle.std.specs.Prelude.{◌≡◌, ◌≢◌, ◌≤◌, ℕ, true, false, List, [], ◌∷◌, Option, None, Result, Ok, Err}
+use Rattle.std.specs.Prelude.{◌≡◌, ◌≢◌, ◌≤◌, ◌&&◌, nat_le, ℕ, Bool, true, false, if◌then◌else◌, List, [], ◌∷◌, length, Option, None, Result, Ok, Err, ◌⊎◌}
 use Rattle.std.specs.Io.KnownBytes.{Appends}
+use Rattle.bg_revisions.specs.PortLists.{are_ports}
 use Rattle.bg_rollout.specs.declared.control.Control.{Control}
 use Rattle.bg_book.specs.declared.calls.Reply.{Reply}
 use Rattle.bg_book.specs.declared.calls.Reply.TheVariants.{Done, ControlRefused}
@@ -37,6 +38,7 @@ ClosedAnswer (Ok (command.Open name ports)) said = ⊥
 ClosedAnswer (Ok (command.Control event)) said = said ≡ answer.NotOpen
 ClosedAnswer (Ok (command.Enter seat service)) said = said ≡ answer.NotHere
 ClosedAnswer (Ok (command.Leave seat)) said = said ≡ answer.NotHere
+ClosedAnswer (Ok (command.Down ports)) said = said ≡ answer.NotOpen
 ClosedAnswer (Ok command.Report) said = said ≡ answer.NotOpen
 ClosedAnswer (Ok command.Compact) said = said ≡ answer.NotOpen
 ClosedAnswer (Ok command.Quit) said = ⊥
@@ -75,6 +77,25 @@ CompactionStep (Said (answer.Compacted count)) =
     (book : Routing) × Headline book × IsDropped book count
 CompactionStep _ = ⊥
 
+-- whether these ports can be down: at most 4,096, all distinct and none of them 0
+abbrev pub may_be_down : List ℕ → Bool
+may_be_down ports = nat_le (length ports) 4096 && are_ports (length ports) ports
+
+-- the answer to `down`, unless an allocation fails
+abbrev pub down_answer : List ℕ → Answer
+down_answer ports =
+    if may_be_down ports then answer.MarkedDown (length ports) else answer.BadPorts
+
+-- the answer to `down` is as expected, or an allocation failed for ports that can be down
+abbrev pub IsDownAnswer : List ℕ → Answer → Type 0
+IsDownAnswer ports said =
+    (said ≡ down_answer ports) ⊎ ((said ≡ answer.OutOfMemory) × (may_be_down ports ≡ true))
+
+-- a line `down` with these ports was answered
+abbrev pub DownStep : List ℕ → Written → Type 0
+DownStep ports (Said said) = IsDownAnswer ports said
+DownStep ports (Reported book) = ⊥
+
 -- the answer to a line with this result at a desk
 abbrev pub DeskStep : Result Command LineFault → Written → Type 0
 DeskStep (Err fault) written = written ≡ Said (answer.Unread fault)
@@ -82,6 +103,7 @@ DeskStep (Ok (command.Open name ports)) written = written ≡ Said answer.Alread
 DeskStep (Ok (command.Control event)) written = EventStep event written
 DeskStep (Ok (command.Enter seat service)) written = written ≡ Said answer.NotHere
 DeskStep (Ok (command.Leave seat)) written = written ≡ Said answer.NotHere
+DeskStep (Ok (command.Down ports)) written = DownStep ports written
 DeskStep (Ok command.Report) written = ReportStep written
 DeskStep (Ok command.Compact) written = CompactionStep written
 DeskStep (Ok command.Quit) written = ⊥
@@ -89,6 +111,7 @@ DeskStep (Ok command.Quit) written = ⊥
 -- what a line with this result asks an open book for, or its answer without a book
 abbrev pub Asks : Result Command LineFault → Asked → Type 0
 Asks read (asked.Event event) = read ≡ Ok (command.Control event)
+Asks read (asked.Down ports) = read ≡ Ok (command.Down ports)
 Asks read asked.Report = read ≡ Ok command.Report
 Asks read asked.Compaction = read ≡ Ok command.Compact
 Asks read (asked.Nothing said) = DeskStep read (Said said)

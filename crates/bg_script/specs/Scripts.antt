@@ -13,14 +13,14 @@ use Rattle.bg_rollout.specs.Compaction.{with_compacted}
 use Rattle.bg_rollout.specs.Routing.{Routing}
 use Rattle.bg_book.specs.Runs.{CallStep}
 use Rattle.bg_operator.specs.declared.command.Command.{Command}
-use Rattle.bg_operator.specs.declared.command.Command.TheVariants.{Open, Control, Enter, Leave, Report, Compact, Quit}
+use Rattle.bg_operator.specs.declared.command.Command.TheVariants.{Open, Control, Enter, Leave, Down, Report, Compact, Quit}
 use Rattle.bg_operator.specs.declared.line_fault.LineFault.{LineFault}
 use Rattle.bg_operator.specs.Commands.{IsReadAs, line_reading}
 use Rattle.bg_operator.specs.Lines.{lines_of}
 use Rattle.bg_operator.specs.Parting.{part_of, rest_of}
 use Rattle.bg_report.specs.Reports.{report_text}
 use Rattle.bg_script.specs.declared.answer.Answer.{Answer}
-use Rattle.bg_script.specs.declared.answer.Answer.TheVariants.{Opened, OpenRefused, NotOpen, AlreadyOpen, Made, Compacted, Unread}
+use Rattle.bg_script.specs.declared.answer.Answer.TheVariants.{Opened, OpenRefused, NotOpen, AlreadyOpen, Made, Compacted, NotHere, Unread}
 use Rattle.bg_script.specs.declared.finding.Finding.{Finding}
 use Rattle.bg_script.specs.declared.finding.Finding.TheVariants.{Means}
 use Rattle.bg_script.specs.AnswerTexts.{answer_text, is_fault}
@@ -68,6 +68,7 @@ ClosedStep s count (Ok (Control event)) written next = Stays (Closed s count) No
 ClosedStep s count (Ok (Enter seat service)) written next =
     Stays (Closed s count) NotOpen written next
 ClosedStep s count (Ok (Leave seat)) written next = Stays (Closed s count) NotOpen written next
+ClosedStep s count (Ok (Down ports)) written next = Stays (Closed s count) NotOpen written next
 ClosedStep s count (Ok Report) written next = Stays (Closed s count) NotOpen written next
 ClosedStep s count (Ok Compact) written next = Stays (Closed s count) NotOpen written next
 ClosedStep s count (Ok Quit) written next = ⊥
@@ -102,6 +103,8 @@ RunningStep book seats (Ok (Enter seat service)) written next =
     CallMade book seats (call.Enter seat service) written next
 RunningStep book seats (Ok (Leave seat)) written next =
     CallMade book seats (call.Leave seat) written next
+RunningStep book seats (Ok (Down ports)) written next =
+    Stays (Running book seats) NotHere written next
 RunningStep book seats (Ok Report) written next =
     (written ≡ Reported book) × (next ≡ Running book seats)
 RunningStep book seats (Ok Compact) written next = CompactedStep book seats written next

@@ -23,9 +23,13 @@ pub enum Answer {
     Made(Reply),
     /// This many entries were dropped from the history.
     Compacted(u64),
-    /// Requests enter and leave elsewhere, by the workers.
+    /// This many ports are marked as down.
+    MarkedDown(u64),
+    /// The line `down` names a port twice, or the port 0.
+    BadPorts,
+    /// Requests enter and leave elsewhere, by the workers. A replay has no endpoints that could be down.
     NotHere,
-    /// The allocation for the report failed.
+    /// The allocation for the report, or for the ports that are down, failed.
     OutOfMemory,
     /// The line gives no command.
     Unread(LineFault),
@@ -44,6 +48,8 @@ impl Answer {
             | Answer::AlreadyOpen
             | Answer::Made(_)
             | Answer::Compacted(_)
+            | Answer::MarkedDown(_)
+            | Answer::BadPorts
             | Answer::NotHere
             | Answer::OutOfMemory => false,
         }
@@ -62,6 +68,8 @@ pub fn write_answer<W: Write>(answer: &Answer, writer: &mut W) -> io::Result<()>
         Answer::AlreadyOpen => writeln!(writer, "refused AlreadyOpen"),
         Answer::Made(reply) => bg_report::reply(reply, writer),
         Answer::Compacted(count) => writeln!(writer, "compacted {count}"),
+        Answer::MarkedDown(count) => writeln!(writer, "ok {count}"),
+        Answer::BadPorts => writeln!(writer, "refused BadPorts"),
         Answer::NotHere => writeln!(writer, "refused NotHere"),
         Answer::OutOfMemory => writeln!(writer, "refused OutOfMemory"),
         Answer::Unread(fault) => writeln!(writer, "fault {}", fault.name()),

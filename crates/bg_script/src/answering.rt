@@ -93,6 +93,7 @@ pub fn answer_by<N: Names, W: Write>(
         Ok(Command::Control(event)) => Call::Control(event),
         Ok(Command::Enter { seat, service }) => Call::Enter { seat, service },
         Ok(Command::Leave { seat }) => Call::Leave { seat },
+        Ok(Command::Down { .. }) => return say(Answer::NotHere, writer),
         Ok(Command::Report) => return write_report(opened.book(), writer),
         Ok(Command::Compact) => return say(Answer::Compacted(opened.compact()), writer),
         Ok(Command::Open { .. } | Command::Quit) => return say(Answer::AlreadyOpen, writer),

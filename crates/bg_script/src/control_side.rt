@@ -11,6 +11,7 @@ ghost use Rattle.bg_script.specs.AnswerTexts.{answer_text};
 ghost use Rattle.bg_script.specs.Connections.{AnswersAtDesk, AnswersBeforeOpen, Asks, ClosedAnswer, EventAnswer, MayBeAsked, WroteAtDesk, WroteReport};
 
 use crate::answer::{Answer, write_answer};
+use crate::marks_down::{MarksDown, mark_down};
 use crate::run_end::RunEnd;
 use bg_book::{Book, Control, ControlFault, Desk, EnterFault, Question, Reply};
 use bg_ledger::Names;
@@ -95,9 +96,13 @@ fn opening(read: Result<Command, LineFault>) -> Result<FirstRevision, Answer>
     match read {
         Ok(Command::Open { name, ports }) => Ok(FirstRevision { name, ports }),
         Ok(Command::Enter { .. } | Command::Leave { .. }) => Err(Answer::NotHere),
-        Ok(Command::Control(_) | Command::Report | Command::Compact | Command::Quit) => {
-            Err(Answer::NotOpen)
-        }
+        Ok(
+            Command::Control(_)
+            | Command::Down { .. }
+            | Command::Report
+            | Command::Compact
+            | Command::Quit,
+        ) => Err(Answer::NotOpen),
         Err(fault) => Err(Answer::Unread(fault)),
     }
 }
@@ -110,15 +115,18 @@ fn opening(read: Result<Command, LineFault>) -> Result<FirstRevision, Answer>
 /// history is compacted and the desk is asked again. The answer to `report` is the report, or
 /// `refused OutOfMemory` if the allocation for it fails. The answer to `compact` is the number of entries that
 /// were dropped, to `open` `refused AlreadyOpen`, to `enter` and `leave` `refused NotHere`, and to a line that
-/// gives no command its fault. Nothing is written while the desk is locked. A `RunEnd` comes if a read, a write
+/// gives no command its fault. The ports of a `down` go to `receiver`, and the answer is their number; if one of
+/// them is 0 or occurs twice, the answer is `refused BadPorts`, and `receiver` is not called; if `receiver` fails,
+/// the answer is `refused OutOfMemory`. In no case is the desk asked. Nothing is written while the desk is locked. A `RunEnd` comes if a read, a write
 /// or the allocation for a line fails, and after 2^24 lines.
 ///
 /// Each event whose answer is `refused HistoryFull` adds 1 to `refused_for_room`.
-pub fn answer_at_desk<N: Names, R: Wait, B: BufRead, W: Write>(
+pub fn answer_at_desk<N: Names, R: Wait, M: MarksDown, B: BufRead, W: Write>(
     rt: &R,
     alloc: Global,
     desk: &Desk<N>,
     refused_for_room: &AtomicU64,
+    receiver: &M,
     lines: &mut OperatorLines,
     reader: &mut B,
     writer: &mut W,
@@ -133,7 +141,7 @@ pub fn answer_at_desk<N: Names, R: Wait, B: BufRead, W: Write>(
         if is_quit(&read) {
             return Ok(ControlEnd::Quit);
         }
-        answer_line(rt, alloc, desk, refused_for_room, read, writer)?;
+        answer_line(rt, alloc, desk, refused_for_room, receiver, read, writer)?;
         if lines.speaks_http() {
             return Ok(ControlEnd::SpeaksHttp);
         }
@@ -142,11 +150,12 @@ pub fn answer_at_desk<N: Names, R: Wait, B: BufRead, W: Write>(
 }
 
 /// Answers a line by the book of a desk.
-fn answer_line<N: Names, R: Wait, W: Write>(
+fn answer_line<N: Names, R: Wait, M: MarksDown, W: Write>(
     rt: &R,
     alloc: Global,
     desk: &Desk<N>,
     refused_for_room: &AtomicU64,
+    receiver: &M,
     read: Result<Command, LineFault>,
     writer: &mut W,
 ) -> Result<(), RunEnd>
@@ -157,6 +166,7 @@ fn answer_line<N: Names, R: Wait, W: Write>(
             &Answer::Made(event_reply(rt, desk, refused_for_room, &event)),
             writer,
         ),
+        Asked::Down(ports) => tell(&mark_down(ports.get(), receiver), writer),
         Asked::Report => tell_report(rt, alloc, desk, writer),
         Asked::Compaction => tell(&Answer::Compacted(desk.compact(rt)), writer),
         Asked::Nothing(answer) => tell(&answer, writer),
@@ -168,6 +178,8 @@ fn answer_line<N: Names, R: Wait, W: Write>(
 enum Asked {
     /// To accept this event.
     Event(Control),
+    /// To mark these ports as down.
+    Down(Ports),
     /// The report.
     Report,
     /// To compact its history.
@@ -181,6 +193,7 @@ fn what_is_asked(read: Result<Command, LineFault>) -> Asked
 {
     match read {
         Ok(Command::Control(event)) => Asked::Event(event),
+        Ok(Command::Down { ports }) => Asked::Down(ports),
         Ok(Command::Report) => Asked::Report,
         Ok(Command::Compact) => Asked::Compaction,
         Ok(Command::Open { .. } | Command::Quit) => Asked::Nothing(Answer::AlreadyOpen),

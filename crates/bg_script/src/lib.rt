@@ -3,7 +3,8 @@
 //! [`check`] says what a strategy means; [`replay`] answers the lines of a script by a book of that
 //! strategy. Both write exact texts and return the exit status. A [`RunEnd`] says why a run ended
 //! early. [`answer_before_open`] and [`answer_at_desk`] answer the lines of a control connection
-//! while no book is open, and by a book that workers share.
+//! while no book is open, and by a book that workers share. A [`MarksDown`] takes the ports of a line
+//! `down`.
 #![tactic(auto)]
 
 mod answer;
@@ -11,6 +12,7 @@ mod answering;
 mod checking;
 mod control_side;
 mod finding;
+mod marks_down;
 mod replaying;
 mod run_end;
 
@@ -18,5 +20,6 @@ pub use answer::{Answer, write_answer};
 pub use checking::{check, finding_of_input};
 pub use control_side::{BeforeOpen, ControlEnd, FirstRevision, answer_at_desk, answer_before_open};
 pub use finding::{Finding, write_finding};
+pub use marks_down::MarksDown;
 pub use replaying::replay;
 pub use run_end::RunEnd;

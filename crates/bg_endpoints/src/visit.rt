@@ -1,0 +1,70 @@
+//! A request that is counted at a port.
+ghost use Rattle.std.specs.Prelude.{◌≡◌, true, IfSome};
+ghost use Rattle.bg_endpoints.specs.Choices.{is_new};
+
+use crate::directory::{Directory, Health};
+use std::sync::Wait;
+use std::time::Clock;
+
+/// A request that is counted at a port until this is dropped. The directory then learns how the port took it.
+pub(crate) struct Visit<'a, R: Clock + Wait> {
+    rt: &'a R,
+    directory: &'a Directory,
+    port: u16,
+    health: Health,
+}
+
+impl<'a, R: Clock + Wait> Visit<'a, R> {
+    /// Chooses the port that is dialled next for a ticket's port, after those that were tried, and counts a
+    /// request there. `None` if no port is left.
+    pub(crate) fn begin(
+        rt: &'a R,
+        directory: &'a Directory,
+        ticket: u16,
+        tried: &[u16],
+    ) -> Option<Visit<'a, R>>
+        ensures { IfSome result (λ visit. is_new visit.port tried.now ≡ true) }
+    {
+        let port = directory.begin(rt, ticket, tried)?;
+        Some(Visit {
+            rt,
+            directory,
+            port,
+            health: Health::Unknown,
+        })
+    }
+
+    /// The port.
+    pub(crate) fn port(&self) -> u16 {
+        self.port
+    }
+
+    /// The port has sent bytes of a response.
+    pub(crate) fn note_bytes(&mut self) {
+        self.health = Health::Answers;
+    }
+
+    /// The port cannot be connected to, or it was silent until a timeout.
+    pub(crate) fn note_failure(&mut self) {
+        self.health = Health::Fails;
+    }
+
+    /// A timeout ended the request. The port has failed, unless it has sent bytes.
+    pub(crate) fn note_timeout(&mut self) {
+        if self.health == Health::Unknown {
+            self.health = Health::Fails;
+        }
+    }
+}
+
+impl<R: Clock + Wait> Drop for Visit<'_, R> {
+    fn drop(self) {
+        let Visit {
+            rt,
+            directory,
+            port,
+            health,
+        } = self;
+        directory.end(rt, port, health);
+    }
+}
