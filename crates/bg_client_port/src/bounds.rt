@@ -14,9 +14,8 @@ const REQUEST_BYTES: usize = 1 << 27;
 const RESPONSE_BYTES: usize = 1 << 28;
 
 /// The bounds on what may be pending at a port. Beyond the bounds, the port closes a connection only if
-/// it makes no progress. If all connections make progress, the port accepts no further connection. If
-/// requests take too many bytes, the port closes no connection for this. It reads only the eight oldest
-/// of the large requests.
+/// it makes no progress. If all connections make progress, the port accepts no further connection. While
+/// requests take too many bytes, it reads only the eight oldest of the large requests.
 #[derive(Clone, Copy, PartialEq, Eq, Debug, Drop)]
 pub struct Bounds {
     /// The number of pending connections at which the port accepts no further connection. Connections
@@ -43,5 +42,14 @@ impl Bounds {
             request_bytes: REQUEST_BYTES,
             response_bytes: RESPONSE_BYTES,
         }
+    }
+
+    /// The number of descriptors with which [`Bounds::usual`] gives each of `ports` ports 1,024 connections,
+    /// if `reserved` are not for pending connections.
+    pub fn enough_descriptors(reserved: usize, ports: usize) -> usize {
+        ports
+            .max(1)
+            .saturating_mul(MOST_CONNECTIONS)
+            .saturating_add(reserved)
     }
 }

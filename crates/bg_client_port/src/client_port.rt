@@ -2,12 +2,14 @@
 
 use crate::bounds::Bounds;
 use crate::clock::PortClock;
+use crate::cut_responses::CutResponses;
 use crate::listener::CountedListener;
 use crate::pending::{Pending, Watch};
 use crate::pending_connection::{OverRequest, PendingConnection};
 use crate::request_buffer::Ending;
 use crate::response_buffer::{ResponseBuffer, Turn};
 use crate::signal::Signal;
+use crate::sockets::is_ready;
 use crate::wait_sets::{LoopSet, WaitSet, WaitSets};
 use std::alloc::Global;
 use std::io;
@@ -43,6 +45,12 @@ pub struct ClientPort {
     /// now.
     pub(crate) pending_count: AtomicUsize,
     pub(crate) is_full: AtomicBool,
+    /// Whether a worker makes room at a full port, and the number of workers that do not watch the
+    /// listener meanwhile.
+    pub(crate) makes_room: AtomicBool,
+    pub(crate) away_from_listener: AtomicUsize,
+    /// Whether a worker is being woken to look at the listener.
+    pub(crate) is_called: AtomicBool,
     wait_sets: Mutex<WaitSets>,
     /// The maximum number of workers that were at work at once.
     workers_begun: AtomicUsize,
@@ -56,9 +64,8 @@ pub struct ClientPort {
 
 impl ClientPort {
     /// A port that has this many workers and accepts this many connections in all, at least 1 (`None`: no
-    /// limit). A request may take this many seconds from the accept of its connection. The time for which
-    /// the port pauses a large request does not count. The call makes the listener non-blocking, and
-    /// changes its timeouts and its backlog.
+    /// limit). A request may take this many seconds from the accept of its connection, also if the port
+    /// pauses it. The call makes the listener non-blocking, and changes its timeouts and its backlog.
     ///
     /// An error if a system call, the clock or an allocation fails.
     pub fn new<R: Clock>(
@@ -85,6 +92,9 @@ impl ClientPort {
             pending: Mutex::new(Pending::new(alloc, bounds)?),
             pending_count: AtomicUsize::new(0),
             is_full: AtomicBool::new(false),
+            makes_room: AtomicBool::new(false),
+            away_from_listener: AtomicUsize::new(0),
+            is_called: AtomicBool::new(false),
             wait_sets: Mutex::new(wait_sets),
             workers_begun: AtomicUsize::new(0),
             event_loop_begun: AtomicBool::new(false),
@@ -156,11 +166,44 @@ impl ClientPort {
         self.wait_sets.lock(rt).give_back(set);
     }
 
-    /// Publishes how much is pending, so that workers need not take the lock to ask.
+    /// The responses whose rest was dropped since the last call. For these, what
+    /// [`Connection::response_bytes`](crate::Connection::response_bytes) gave was not all written.
+    pub fn take_cut_responses<R: Wait>(&self, rt: &R) -> CutResponses {
+        self.pending.lock(rt).take_cut()
+    }
+
+    /// Publishes how much is pending, so that workers need not take the lock to ask. If there is room
+    /// again, wakes a worker, because those that do not watch the listener would not notice.
     pub(crate) fn publish(&self, pending: &Pending) {
         self.pending_count.store(pending.count(), Ordering::SeqCst);
         let is_full = pending.is_full() || pending.is_held_up();
-        self.is_full.store(is_full, Ordering::SeqCst);
+        let was_full = self.is_full.swap(is_full, Ordering::SeqCst);
+        if was_full && !is_full {
+            self.call_absent_worker();
+        }
+    }
+
+    /// Wakes a worker that looks at the listener, unless one is being woken. So such posts do not pile up
+    /// while all workers are busy.
+    pub(crate) fn call_worker(&self) {
+        if !self.is_called.swap(true, Ordering::SeqCst) {
+            self.watch.over.post();
+        }
+    }
+
+    /// Wakes a worker that looks at the listener, if any does not watch it.
+    pub(crate) fn call_absent_worker(&self) {
+        if self.away_from_listener.load(Ordering::SeqCst) != 0 {
+            self.call_worker();
+        }
+    }
+
+    /// Wakes a worker if it might have missed a client that waits in the backlog, or the end of the port. No
+    /// worker looks by itself.
+    pub(crate) fn remind(&self) {
+        if self.listener.is_closed() || is_ready(self.listener.get()) {
+            self.call_worker();
+        }
     }
 
     /// Leaves a connection to the event loop, or gives it back if that is not possible.

@@ -3,13 +3,13 @@ ghost use Rattle.std.specs.Prelude.{◌≤◌, length};
 ghost use Rattle.std.specs.Io.{ReadsAtMost, WritesAtMost};
 
 use crate::client_port::ClientPort;
-use crate::peer_socket::is_peer_closed;
 use crate::pending_connection::OverRequest;
 use crate::request_buffer::Ending;
 use crate::sockets::{OtherEnd, other_end};
 use crate::sound_head::has_sound_head;
 use crate::wait_sets::WaitSet;
 use bg_http::Duplex;
+use bg_peers::is_peer_closed;
 use std::io;
 use std::io::{ErrorKind, Read, Write};
 use std::sync::Wait;
@@ -37,7 +37,7 @@ pub struct Connection<'a, R: Clock> {
     read_unbuffered: u64,
     /// The bytes that are still to be written.
     response: Vec<u8>,
-    /// The number of bytes of the response that came, and when the first of them came.
+    /// The number of bytes of the response that were written or buffered, and when the first came.
     response_bytes: u64,
     answered: Option<u64>,
     /// When it was given to a worker.
@@ -105,13 +105,14 @@ impl<'a, R: Clock> Connection<'a, R> {
         self.read_unbuffered.saturating_add(self.read as u64)
     }
 
-    /// The number of bytes that the worker gave for the client. They may not be written yet.
+    /// The number of bytes that the worker gave for the client and that were written or buffered. The
+    /// buffered ones may not be written yet: [`ClientPort::take_cut_responses`] tells of those that never
+    /// are.
     pub fn response_bytes(&self) -> u64 {
         self.response_bytes
     }
 
-    /// The number of milliseconds since the connection was accepted, without the time for which its request
-    /// was paused.
+    /// The number of milliseconds since the connection was accepted.
     pub fn duration_millis(&self) -> u64 {
         let accepted = match self.request.until {
             Some(until) => self
@@ -175,19 +176,18 @@ impl<'a, R: Clock> Connection<'a, R> {
         Ok(count)
     }
 
-    /// Notes that this many bytes of the response came.
-    fn note_response(&mut self, count: usize) {
+    /// Notes when the first bytes of the response came.
+    fn note_response(&mut self) {
         if self.answered.is_none() {
             self.answered = Some(self.port.clock.now(self.rt));
         }
-        self.response_bytes = self.response_bytes.saturating_add(count as u64);
     }
 
     /// Writes what the system takes at once, and buffers the rest.
     fn write_or_keep(&mut self, bytes: &[u8]) -> io::Result<usize>
         ensures { WritesAtMost result bytes.now }
     {
-        self.note_response(bytes.len());
+        self.note_response();
         let mut written = 0;
         if self.response.is_empty() {
             written = match self.request.stream.write(bytes) {
@@ -201,6 +201,8 @@ impl<'a, R: Clock> Connection<'a, R> {
         if written < bytes.len() {
             self.response.extend_from_slice(&bytes[written..])?;
         }
+        // a write that fails counts nothing: its caller may try it again
+        self.response_bytes = self.response_bytes.saturating_add(bytes.len() as u64);
         Ok(bytes.len())
     }
 }

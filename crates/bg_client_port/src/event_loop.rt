@@ -10,8 +10,11 @@ use std::time::Clock;
 /// passed.
 const SWEEP_MILLIS: u64 = 500;
 
-/// The longest wait, in milliseconds.
+/// The longest wait, in milliseconds, while connections are pending or the port is closed, and
+/// otherwise. A signal ends the wait when the port is closed.
 const LONGEST_WAIT_MILLIS: i32 = 500;
+
+const LONGEST_REST_MILLIS: i32 = 1_000;
 
 impl ClientPort {
     /// Handles the pending connections: reads requests, writes responses, and closes each connection
@@ -23,7 +26,7 @@ impl ClientPort {
         let mut keys = [0; MOST_EVENTS];
         let mut swept = 0;
         for _ in rt.forever() {
-            let count = self.watch.set.wait(LONGEST_WAIT_MILLIS, &mut keys);
+            let count = self.watch.set.wait(self.longest_wait(), &mut keys);
             let now = self.clock.now(rt);
             for key in keys.iter().take(count) {
                 self.attend(rt, *key, now);
@@ -31,10 +34,20 @@ impl ClientPort {
             if now.saturating_sub(swept) >= SWEEP_MILLIS {
                 swept = now;
                 self.sweep(rt, now);
+                self.remind();
             }
             if self.is_over(rt, now) {
                 return;
             }
+        }
+    }
+
+    fn longest_wait(&self) -> i32 {
+        let is_at_rest = self.pending_count.load(Ordering::SeqCst) == 0;
+        if is_at_rest && !self.listener.is_closed() {
+            LONGEST_REST_MILLIS
+        } else {
+            LONGEST_WAIT_MILLIS
         }
     }
 
@@ -62,6 +75,8 @@ impl ClientPort {
         }
         pending.end(&self.watch);
         self.publish(&pending);
+        // workers that still wait find that none is left
+        self.watch.over.post();
         true
     }
 }

@@ -13,11 +13,12 @@ mod bounds;
 mod client_port;
 mod clock;
 mod connection;
+mod cut_responses;
 mod descriptors;
 mod event_loop;
 mod listener;
 mod next_connection;
-mod peer_socket;
+mod pausing;
 mod pending;
 mod pending_connection;
 mod progress;
@@ -31,4 +32,7 @@ mod wait_sets;
 pub use bounds::Bounds;
 pub use client_port::ClientPort;
 pub use connection::Connection;
-pub use descriptors::{most_descriptors, reserved_descriptors};
+pub use cut_responses::CutResponses;
+pub use descriptors::{
+    DescriptorLimits, descriptor_limits, most_descriptors, reserved_descriptors,
+};

@@ -15,9 +15,10 @@ const READ_MILLIS: u64 = 1;
 const WRITE_MILLIS: u64 = 10;
 
 /// The backlog: the number of clients that may wait in the system for an accept. If the backlog is full,
-/// Linux resets clients that continue to send (SYN cookies), so it has room for all clients that upload at
-/// once. With a longer backlog, the clients of a flood would wait for more seconds.
-const BACKLOG: i32 = 512;
+/// Linux resets clients that continue to send (SYN cookies), so it has room for as many clients as a port
+/// may have workers. With a longer backlog, the clients of a flood would wait for more seconds. The system
+/// may have a lower bound (`net.core.somaxconn`).
+const BACKLOG: i32 = 1024;
 
 /// The result of an accept.
 #[derive(Drop)]

@@ -28,7 +28,7 @@ const FULL_PAUSE_MILLIS: i32 = 20;
 const FEW_PENDING: usize = 32;
 
 /// The maximum number of clients of the backlog that are accepted when the port is closed.
-const MOST_OF_BACKLOG: u32 = 1024;
+const MOST_OF_BACKLOG: u32 = 2048;
 
 /// The result of a step.
 #[derive(Drop)]
@@ -51,12 +51,12 @@ impl ClientPort {
         let Some(set) = self.take_wait_set(rt) else {
             return Err(io::Error::from(ErrorKind::ResourceBusy));
         };
-        match self.next_by(rt, &set) {
+        let outcome = self.next_by(rt, &set);
+        self.return_to_listener(&set);
+        match outcome {
             Ok(Some(request)) => Ok(Some(Connection::new(self, rt, set, request))),
             Ok(None) => {
                 self.give_back(rt, set);
-                // wakes the next waiting worker, which finds the same
-                self.watch.over.post();
                 Ok(None)
             }
             Err(error) => {
@@ -87,7 +87,8 @@ impl ClientPort {
         unreachable!()
     }
 
-    /// Takes a pending connection whose request is over.
+    /// Takes a pending connection whose request is over. If none is left at a closed port, wakes the next
+    /// waiting worker, which finds the same.
     fn take_over<R: Clock + Wait>(&self, rt: &R) -> io::Result<Step> {
         let is_closed = self.listener.is_closed();
         let now = self.clock.now(rt);
@@ -95,6 +96,9 @@ impl ClientPort {
             let mut pending = self.pending.lock(rt);
             let given = pending.take_over(now, &self.watch);
             self.publish(&pending);
+            if self.listener.is_closed() && !pending.has_requests() {
+                self.watch.over.post();
+            }
             given
         };
         match given {
@@ -109,16 +113,37 @@ impl ClientPort {
     }
 
     /// Takes a pending connection whose request is over. If there is none, accepts one: the worker that the
-    /// listener's event woke may have taken a pending one instead, and the event wakes no other.
+    /// listener's event woke may have taken a pending one instead, and the event wakes no other. If none
+    /// waits, watches the listener again.
     fn take_over_or_accept<R: Clock + Wait>(
         &self,
         rt: &R,
         set: &WaitSet,
         failures: &mut u32,
     ) -> io::Result<Step> {
-        match self.take_over(rt)? {
-            Step::Nothing if is_ready(self.listener.get()) => self.accept_at(rt, set, failures),
-            step => Ok(step),
+        let step = self.take_over(rt)?;
+        if !matches!(step, Step::Nothing) {
+            return Ok(step);
+        }
+        self.is_called.store(false, Ordering::SeqCst);
+        if is_ready(self.listener.get()) {
+            return self.accept_at(rt, set, failures);
+        }
+        self.return_to_listener(set);
+        Ok(step)
+    }
+
+    /// Watches the listener, unless the port is closed.
+    fn return_to_listener(&self, set: &WaitSet) {
+        if !self.listener.is_closed() && set.remember(self.listener.get()) {
+            self.away_from_listener.fetch_sub(1, Ordering::SeqCst);
+        }
+    }
+
+    /// Does not watch the listener until a worker is woken to look at it.
+    fn leave_listener(&self, set: &WaitSet) {
+        if set.forget(self.listener.get()) {
+            self.away_from_listener.fetch_add(1, Ordering::SeqCst);
         }
     }
 
@@ -134,11 +159,12 @@ impl ClientPort {
             return self.take_over(rt);
         }
         if self.is_full.load(Ordering::SeqCst) {
-            return self.make_room(rt, FULL_PAUSE_MILLIS);
+            return self.make_room_alone(rt, set);
         }
         match self.listener.accept() {
             Accepted::Stream(stream) => {
                 *failures = 0;
+                self.call_absent_worker();
                 Ok(self.begin_request(rt, stream))
             }
             Accepted::Nothing => Ok(Step::Nothing),
@@ -148,8 +174,37 @@ impl ClientPort {
                 if *failures >= ACCEPT_TRIES && self.listener.count_failure() {
                     return Err(error);
                 }
-                self.make_room(rt, ACCEPT_PAUSE_MILLIS)
+                self.return_to_listener(set);
+                let step = self.make_room(rt, ACCEPT_PAUSE_MILLIS);
+                self.hand_on(&step);
+                step
             }
+        }
+    }
+
+    /// Makes room at a full port, unless another worker does. If so, the other workers need not watch the
+    /// listener: it stays ready, and each of them would ask again and again.
+    fn make_room_alone<R: Clock + Wait>(&self, rt: &R, set: &WaitSet) -> io::Result<Step> {
+        if self.makes_room.swap(true, Ordering::SeqCst) {
+            self.leave_listener(set);
+            // there may be room since the port was found full
+            if !self.is_full.load(Ordering::SeqCst) {
+                self.call_absent_worker();
+            }
+            return Ok(Step::Nothing);
+        }
+        self.return_to_listener(set);
+        let step = self.make_room(rt, FULL_PAUSE_MILLIS);
+        self.makes_room.store(false, Ordering::SeqCst);
+        self.hand_on(&step);
+        step
+    }
+
+    /// Wakes another worker that looks at the listener, if the one that the listener's event woke looks no
+    /// longer.
+    fn hand_on(&self, step: &io::Result<Step>) {
+        if !matches!(step, Ok(Step::Nothing)) {
+            self.call_worker();
         }
     }
 
@@ -163,13 +218,14 @@ impl ClientPort {
             self.publish(&pending);
             has_made_room
         };
-        if !has_made_room {
-            self.watch.over.wait(millis);
+        if has_made_room {
+            self.watch.over.take();
+        } else {
+            self.watch.over.take_within(millis);
         }
         let step = self.take_over(rt)?;
-        if matches!(step, Step::Given(_)) {
-            // another worker looks at the listener, whose event woke this one
-            self.watch.over.post();
+        if matches!(step, Step::Nothing) {
+            self.is_called.store(false, Ordering::SeqCst);
         }
         Ok(step)
     }

@@ -1,16 +1,14 @@
 //! The pending connections of a port.
 
 use crate::bounds::Bounds;
+use crate::cut_responses::CutResponses;
 use crate::pending_connection::{OverRequest, PendingConnection};
 use crate::signal::Signal;
 use crate::wait_sets::LoopSet;
 use slab::Slab;
 use std::alloc::{AllocError, Global};
 use std::collections::VecDeque;
-
-/// The number of large requests that are read while the others are paused. They are the oldest
-/// ones.
-const READ_UPLOADS: usize = 8;
+use std::mem;
 
 /// What is notified about pending connections.
 #[derive(Drop)]
@@ -23,12 +21,12 @@ pub(crate) struct Watch {
 
 /// The totals of the pending connections.
 #[derive(Drop)]
-struct Totals {
+pub(crate) struct Totals {
     /// The number of connections whose request is still arriving.
     arriving: usize,
-    request_bytes: usize,
+    pub(crate) request_bytes: usize,
     /// The part of `request_bytes` that belongs to requests that are over and wait for workers.
-    over_bytes: usize,
+    pub(crate) over_bytes: usize,
     response_bytes: usize,
 }
 
@@ -66,20 +64,22 @@ pub(crate) enum Given {
 /// workers.
 #[derive(Drop)]
 pub(crate) struct Pending {
-    connections: Slab<PendingConnection>,
+    pub(crate) connections: Slab<PendingConnection>,
     over: VecDeque<OverRequest>,
     /// The number of lost connections that were not reported to a worker.
     lost: usize,
-    totals: Totals,
+    pub(crate) totals: Totals,
     /// The number of the youngest connection.
     last_number: u64,
     /// Whether large requests are paused.
-    is_pausing: bool,
+    pub(crate) is_pausing: bool,
     /// Whether the port is shutting down, so that connections that sent nothing are closed.
     is_closing: bool,
     /// Whether the event loop has ended.
     has_ended: bool,
-    bounds: Bounds,
+    /// The responses that were cut, and were not reported.
+    cut: CutResponses,
+    pub(crate) bounds: Bounds,
 }
 
 impl Pending {
@@ -99,6 +99,7 @@ impl Pending {
             is_pausing: false,
             is_closing: false,
             has_ended: false,
+            cut: CutResponses::NONE,
             bounds,
         })
     }
@@ -195,6 +196,7 @@ impl Pending {
         let Some(connection) = self.remove(key) else {
             return;
         };
+        self.cut.note(connection.unwritten());
         connection.forget(&watch.set);
         if let Some(request) = connection.into_over() {
             self.add_over(request, watch);
@@ -234,8 +236,18 @@ impl Pending {
         }
     }
 
+    /// Whether a worker will be given a request: one is over, or is arriving.
+    pub(crate) fn has_requests(&self) -> bool {
+        !self.over.is_empty() || self.lost != 0 || self.totals.arriving != 0
+    }
+
+    /// The responses that were cut since the last call.
+    pub(crate) fn take_cut(&mut self) -> CutResponses {
+        mem::replace(&mut self.cut, CutResponses::NONE)
+    }
+
     /// Closes a connection.
-    fn let_go(&mut self, key: usize, watch: &Watch) {
+    pub(crate) fn let_go(&mut self, key: usize, watch: &Watch) {
         let Some(connection) = self.connections.get_mut(key) else {
             return;
         };
@@ -247,8 +259,8 @@ impl Pending {
         self.finish(key, watch);
     }
 
-    /// Closes each connection whose timeout has passed, and slow ones while responses take too much
-    /// memory.
+    /// Closes each connection whose timeout has passed, and slow ones while requests or responses take too
+    /// much memory.
     pub(crate) fn sweep(&mut self, now: u64, watch: &Watch) {
         for key in 0..self.connections.capacity() {
             let is_late = match self.connections.get(key) {
@@ -260,6 +272,7 @@ impl Pending {
             }
         }
         self.free_responses(now, watch);
+        self.free_requests(now, watch);
         self.regulate(now, watch);
     }
 
@@ -314,56 +327,6 @@ impl Pending {
         slowest.map(|(key, _moment)| key)
     }
 
-    /// Pauses all large requests except the oldest ones while requests take too much memory, so that
-    /// some are completed. Pauses these too while the requests that wait for workers alone take more than
-    /// half of the bound: further ones would only wait with them. All continue when requests take less than
-    /// three quarters of the bound.
-    fn regulate(&mut self, now: u64, watch: &Watch) {
-        let most = self.bounds.request_bytes;
-        let taken = self.totals.request_bytes;
-        if taken > most {
-            self.is_pausing = true;
-        }
-        if !self.is_pausing {
-            return;
-        }
-        if taken < most / 4 * 3 {
-            self.is_pausing = false;
-            self.read_up_to(u64::MAX, now, watch);
-        } else if self.totals.over_bytes > most / 2 {
-            self.read_up_to(0, now, watch);
-        } else {
-            self.read_up_to(self.last_read_number(), now, watch);
-        }
-    }
-
-    /// The number of the youngest of the large requests that are read while the others are paused.
-    fn last_read_number(&self) -> u64 {
-        let mut oldest = [u64::MAX; READ_UPLOADS];
-        for (_key, connection) in self.connections.iter() {
-            if connection.is_upload() {
-                put_in(&mut oldest, connection.number());
-            }
-        }
-        let mut last = 0u64;
-        for number in oldest {
-            last = last.max(number);
-        }
-        last
-    }
-
-    /// Reads the large requests up to a number, and pauses the others.
-    fn read_up_to(&mut self, last: u64, now: u64, watch: &Watch) {
-        for key in 0..self.connections.capacity() {
-            if let Some(connection) = self.connections.get_mut(key)
-                && connection.is_upload()
-            {
-                let is_read = connection.number() <= last;
-                connection.set_read(is_read, key, now, &watch.set);
-            }
-        }
-    }
-
     /// Begins the graceful shutdown: closes connections that have sent nothing, now and from now
     /// on.
     pub(crate) fn begin_closing(&mut self, watch: &Watch) {
@@ -412,18 +375,6 @@ impl Among {
         match self {
             Among::All => true,
             Among::Responses => !connection.is_arriving(),
-        }
-    }
-}
-
-/// Adds a number to the least ones, and drops the greatest of them.
-fn put_in(least: &mut [u64; READ_UPLOADS], number: u64) {
-    let mut next = number;
-    for place in least.iter_mut() {
-        if next < *place {
-            let dropped = *place;
-            *place = next;
-            next = dropped;
         }
     }
 }

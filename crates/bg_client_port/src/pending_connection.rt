@@ -3,6 +3,7 @@
 use crate::progress::{FIRST_BYTE_PACE, Pace, Progress, REQUEST_PACE, RESPONSE_PACE};
 use crate::request_buffer::{BufferedRequest, Ending, RequestBuffer};
 use crate::response_buffer::{ResponseBuffer, Turn};
+use crate::sockets::is_drained;
 use crate::wait_sets::{Interest, LoopSet};
 use std::net::{Shutdown, TcpStream};
 
@@ -65,8 +66,6 @@ pub(crate) struct PendingConnection {
     /// The number of bytes that were written or discarded.
     moved: usize,
     progress: Progress,
-    /// Since when its request is paused, because others take much memory.
-    paused_at: u64,
 }
 
 impl PendingConnection {
@@ -113,7 +112,6 @@ impl PendingConnection {
             until,
             moved: 0,
             progress: Progress::from(now),
-            paused_at: now,
         }
     }
 
@@ -130,9 +128,9 @@ impl PendingConnection {
         }
     }
 
-    /// Whether its timeout has passed. The timeout does not run while its request is paused.
+    /// Whether its timeout has passed.
     pub(crate) fn is_late(&self, now: u64) -> bool {
-        self.until <= now && self.interest != Interest::Paused
+        self.until <= now
     }
 
     /// Whether no byte of its request came.
@@ -147,6 +145,16 @@ impl PendingConnection {
     pub(crate) fn is_slow(&self, now: u64) -> bool {
         let moved = self.count_moved();
         self.interest != Interest::Paused && self.progress.is_slower(moved, self.pace(), now)
+    }
+
+    /// Whether it is a large request whose client sends slower than its pace, although none of its bytes
+    /// wait to be read.
+    pub(crate) fn is_stuck(&self, now: u64) -> bool {
+        self.is_upload()
+            && self
+                .progress
+                .is_slower(self.count_moved(), self.pace(), now)
+            && is_drained(&self.stream)
     }
 
     /// When it last made progress.
@@ -244,17 +252,16 @@ impl PendingConnection {
         }
     }
 
-    /// Reads the request, or pauses it. The time of a pause does not count.
+    /// Reads the request, or pauses it. Its pace is measured from the end of the pause on; its timeout
+    /// goes on.
     pub(crate) fn set_read(&mut self, is_read: bool, key: usize, now: u64, set: &LoopSet) {
         let is_paused = self.interest == Interest::Paused;
         if is_read && is_paused {
-            let passed = now.saturating_sub(self.paused_at);
-            self.until = self.until.saturating_add(passed);
             self.progress.restart(now);
             self.awaits(Interest::Input, key, set);
         }
-        if !is_read && !is_paused && self.awaits(Interest::Paused, key, set) {
-            self.paused_at = now;
+        if !is_read && !is_paused {
+            self.awaits(Interest::Paused, key, set);
         }
     }
 
@@ -265,6 +272,14 @@ impl PendingConnection {
             request.let_go();
             // the client may have ended it already
             let _ = self.stream.shutdown(Shutdown::Both);
+        }
+    }
+
+    /// The number of bytes of a response that were not written.
+    pub(crate) fn unwritten(&self) -> usize {
+        match &self.stage {
+            Stage::Request(_) => 0,
+            Stage::Response(response) => response.unwritten(),
         }
     }
 

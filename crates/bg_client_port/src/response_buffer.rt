@@ -66,6 +66,11 @@ impl ResponseBuffer {
         self.is_shut
     }
 
+    /// The number of bytes that are still to be written.
+    pub(crate) fn unwritten(&self) -> usize {
+        self.rest().len()
+    }
+
     /// Continues as far as it can without waiting, and as its turn allows.
     pub(crate) fn go_on(&mut self, stream: &TcpStream) -> Turn {
         match self.write_on(stream) {

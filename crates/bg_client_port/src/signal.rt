@@ -43,13 +43,15 @@ impl Signal {
         libc::read(self.counter.as_raw_fd(), &mut [0u8; 8]);
     }
 
-    /// Waits for a post, for at most `millis` milliseconds.
-    pub(crate) fn wait(&self, millis: i32) {
+    /// Waits for a post, for at most `millis` milliseconds, and takes it.
+    pub(crate) fn take_within(&self, millis: i32) {
         let mut asked = [pollfd {
             fd: self.counter.as_raw_fd(),
             events: POLLIN,
             revents: 0,
         }];
-        poll(&mut asked, millis);
+        if poll(&mut asked, millis) > 0 {
+            self.take();
+        }
     }
 }

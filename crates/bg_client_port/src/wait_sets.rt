@@ -4,16 +4,18 @@ ghost use Rattle.std.specs.Prelude.{◌≤◌, length};
 use crate::signal::Signal;
 use crate::sockets::last_error;
 use libc::net::{
-    EPOLL_CLOEXEC, EPOLL_CTL_ADD, EPOLL_CTL_DEL, EPOLL_CTL_MOD, EPOLLIN, EPOLLOUT, epoll_create1,
+    EPOLL_CLOEXEC, EPOLL_CTL_ADD, EPOLL_CTL_DEL, EPOLL_CTL_MOD, EPOLLIN, EPOLLOUT, EPOLLRDHUP,
+    epoll_create1,
 };
 use os::{EpollEvent, FromRawFd, epoll_ctl, epoll_wait};
 use std::alloc::Global;
 use std::io;
 use std::net::{TcpListener, TcpStream};
 use std::os::fd::{AsRawFd, OwnedFd, RawFd};
+use std::sync::atomic::{AtomicBool, Ordering};
 
-/// The longest wait, in milliseconds.
-const LONGEST_WAIT_MILLIS: i32 = 1_000;
+/// A wait without a timeout (epoll_wait(2)).
+const WITHOUT_TIMEOUT: i32 = -1;
 
 /// An event wakes at least one of the waiting sets, and not always all (`EPOLLEXCLUSIVE` of epoll_ctl(2)).
 const EXCLUSIVE: u32 = 1 << 28;
@@ -61,7 +63,7 @@ impl Set {
 /// The result of a worker's wait.
 #[derive(Clone, Copy, PartialEq, Eq, Debug, Drop)]
 pub(crate) enum Ready {
-    /// No event came during the longest wait.
+    /// The wait was interrupted.
     Nothing,
     /// A connection waits at the listener.
     Listener,
@@ -73,10 +75,13 @@ pub(crate) enum Ready {
 /// over.
 ///
 /// Each worker has its own set, and an event wakes one of the waiting workers, as a blocking accept
-/// would. A single set for all workers would need a lock, which each request would take twice.
+/// would. If all workers waited at one set, the system would wake a second worker for each event: a
+/// set that reports a descriptor as long as it is ready wakes the next one that waits at it.
 #[derive(Drop)]
 pub(crate) struct WaitSet {
     set: Set,
+    /// Whether it watches the listener.
+    has_listener: AtomicBool,
 }
 
 impl WaitSet {
@@ -86,13 +91,16 @@ impl WaitSet {
         let events = EPOLLIN | EXCLUSIVE;
         set.control(EPOLL_CTL_ADD, listener.as_raw_fd(), events, LISTENER)?;
         set.control(EPOLL_CTL_ADD, over.descriptor(), events, OVER)?;
-        Ok(WaitSet { set })
+        Ok(WaitSet {
+            set,
+            has_listener: AtomicBool::new(true),
+        })
     }
 
     /// Waits for one event.
     pub(crate) fn wait(&self) -> Ready {
         let mut events = [EpollEvent { events: 0, data: 0 }];
-        if self.set.wait(&mut events, LONGEST_WAIT_MILLIS) == 0 {
+        if self.set.wait(&mut events, WITHOUT_TIMEOUT) == 0 {
             return Ready::Nothing;
         }
         let [event] = events;
@@ -103,11 +111,29 @@ impl WaitSet {
         }
     }
 
-    /// Stops watching the listener.
-    pub(crate) fn forget(&self, listener: &TcpListener) {
-        let _ = self
+    /// Stops watching the listener. Returns whether it was watched.
+    pub(crate) fn forget(&self, listener: &TcpListener) -> bool {
+        let was_watched = self.has_listener.swap(false, Ordering::SeqCst);
+        if was_watched {
+            let _ = self
+                .set
+                .control(EPOLL_CTL_DEL, listener.as_raw_fd(), 0, LISTENER);
+        }
+        was_watched
+    }
+
+    /// Watches the listener again. Returns whether it was not watched, and is now.
+    pub(crate) fn remember(&self, listener: &TcpListener) -> bool {
+        if self.has_listener.load(Ordering::SeqCst) {
+            return false;
+        }
+        let events = EPOLLIN | EXCLUSIVE;
+        let is_watched = self
             .set
-            .control(EPOLL_CTL_DEL, listener.as_raw_fd(), 0, LISTENER);
+            .control(EPOLL_CTL_ADD, listener.as_raw_fd(), events, LISTENER)
+            .is_ok();
+        self.has_listener.store(is_watched, Ordering::SeqCst);
+        is_watched
     }
 }
 
@@ -162,7 +188,7 @@ pub(crate) enum Interest {
     Input,
     /// Bytes can be written.
     Output,
-    /// Nothing but a reset.
+    /// The end of the client's input, or a reset.
     Paused,
 }
 
@@ -171,7 +197,7 @@ impl Interest {
         match self {
             Interest::Input => EPOLLIN,
             Interest::Output => EPOLLOUT,
-            Interest::Paused => 0,
+            Interest::Paused => EPOLLRDHUP,
         }
     }
 }
