@@ -1,2 +1,3 @@
-pub mod Arrivals
+pub mod Bounds
+pub mod Fronts
 pub mod Turns

@@ -1,150 +1,331 @@
-//! The connection that has its turn.
+//! A connection of an operator.
 
-use crate::events::ControlEvents;
-use crate::line_arrival::has_line_break;
-use crate::port::ControlPort;
-use crate::turn::Turn;
+use crate::line_buffer::{Front, Input, LONGEST_LINE, LineBuffer};
+use crate::priority::LinePriority;
+use crate::readiness::Readiness;
+use crate::reply::{PendingReply, Taken, has_room, write_what_fits};
+use crate::turn::{Place, Silence, has_passed};
+use std::alloc::{AllocError, Global};
 use std::io;
-use std::io::{ErrorKind, Read, Write};
 use std::net::{Shutdown, TcpStream};
-use std::sync::Wait;
-use std::sync::atomic::{AtomicBool, AtomicU64, Ordering};
-use std::time::Clock;
 
-/// The maximum number of bytes of a read. The lines among them are answered before the next read, which
-/// checks the time of the turn.
-const MOST_BYTES: usize = 1_024;
+/// The number of milliseconds for which a connection may take nothing of a reply.
+const LONGEST_REPLY_SILENCE: u64 = 10_000;
 
-/// The maximum number of ready sockets that are handled before each read.
-const MOST_EVENTS: u32 = 256;
+/// Whether a connection stays.
+#[derive(Clone, Copy, Debug, Drop, PartialEq, Eq)]
+pub enum Fate {
+    Stays,
+    /// It failed, its input has ended, or it was ended.
+    Ends,
+}
 
-/// The connection that has its turn. It is read and written through `&`, so that a reader and a writer can
-/// use it at the same time.
-///
-/// While no other connection has a whole line, reads and writes have no timeout. While another one has a
-/// whole line, they fail with `TimedOut` after a second without a whole line or without progress of an
-/// answer, and after ten seconds of the turn. Both times count from the moment when the other connection had
-/// its line, at the earliest. Such a failure ends the connection, which must not be used after it. Each read
-/// also handles the waiting connections, and so does a write that has to wait.
+/// Whether a connection has further lines answered after a reply.
+#[derive(Clone, Copy, Debug, Drop, PartialEq, Eq)]
+pub enum AfterReply {
+    /// Its next line is awaited.
+    GoesOn,
+    /// It is closed as soon as the reply was taken.
+    Closes,
+}
+
+/// What a whole line is.
+#[derive(Clone, Copy, Debug, Drop, PartialEq, Eq)]
+enum WholeLine {
+    /// The first bytes of the input, this many.
+    First(usize),
+    /// A line that is too long, and was skipped.
+    Skipped,
+}
+
+/// What happens next with a connection.
 #[derive(Drop)]
-pub struct ControlConnection<'a, R: Clock + Wait, E: ControlEvents> {
-    port: &'a ControlPort,
-    rt: &'a R,
-    events: &'a E,
+enum Stage {
+    /// A line is awaited.
+    Awaits,
+    /// A line that is too long is skipped.
+    Skips,
+    /// A whole line waits to be answered.
+    Waits {
+        line: WholeLine,
+        place: Place,
+    },
+    /// Its line is being answered.
+    Asked,
+    /// A reply was not taken whole. No further line is read until it is.
+    Replies {
+        reply: PendingReply,
+        after: AfterReply,
+    },
+}
+
+/// A connection of an operator. Moments are milliseconds from the start of the port.
+#[derive(Drop)]
+pub struct Connection {
     stream: TcpStream,
-    /// When the turn began, in milliseconds from the start of the port.
-    began: u64,
-    /// Since when the connection waits for a whole line.
-    awaits_since: AtomicU64,
-    /// Whether the last read completed a line.
-    has_line: AtomicBool,
+    stage: Stage,
+    /// What was read of its input. No more is read while a whole line of it waits.
+    input: LineBuffer,
+    /// The user whose process is at its other end, if only listed users are served.
+    user: Option<u32>,
+    /// When a byte of a line last arrived, or a byte of a reply was last taken. Bytes that are skipped do not
+    /// count.
+    moved: u64,
 }
 
-impl<'a, R: Clock + Wait, E: ControlEvents> ControlConnection<'a, R, E> {
-    /// A turn that begins now. The stream has to be non-blocking.
-    pub(crate) fn new(
-        port: &'a ControlPort,
-        rt: &'a R,
-        events: &'a E,
+impl Connection {
+    /// A connection of this user that was accepted at this moment.
+    pub fn new(
+        alloc: Global,
         stream: TcpStream,
-    ) -> ControlConnection<'a, R, E> {
-        let began = port.now(rt);
-        ControlConnection {
-            port,
-            rt,
-            events,
+        user: Option<u32>,
+        now: u64,
+    ) -> io::Result<Connection> {
+        stream.set_nonblocking(true)?;
+        Ok(Connection {
             stream,
-            began,
-            awaits_since: AtomicU64::new(began),
-            has_line: AtomicBool::new(false),
+            stage: Stage::Awaits,
+            input: LineBuffer::new(alloc),
+            user,
+            moved: now,
+        })
+    }
+
+    pub fn stream(&self) -> &TcpStream {
+        &self.stream
+    }
+
+    pub fn user(&self) -> Option<u32> {
+        self.user
+    }
+
+    /// The place of its whole line that waits.
+    pub fn place(&self) -> Option<Place> {
+        match &self.stage {
+            Stage::Waits { place, .. } => Some(*place),
+            _ => None,
         }
     }
 
-    /// Ends the connection, even before it is dropped.
-    pub fn close(&self) {
-        // its peer may have ended it already
-        let _ = self.stream.shutdown(Shutdown::Both);
-    }
-
-    /// Since when the connection waits for a whole line. The time for answers does not count, so after a
-    /// line the time begins with the next read.
-    fn awaits_since(&self) -> u64 {
-        if self.has_line.swap(false, Ordering::SeqCst) {
-            self.awaits_since
-                .store(self.port.now(self.rt), Ordering::SeqCst);
-        }
-        self.awaits_since.load(Ordering::SeqCst)
-    }
-
-    /// How long a wait for this connection may still last, in milliseconds. `TimedOut` if its turn is over.
-    fn millis_left(&self, still: u64) -> io::Result<Option<u64>> {
-        let turn = Turn {
-            began: self.began,
-            still,
+    /// Its silence; `None` if an urgent line of it waits, or its line is being answered.
+    pub fn silence(&self) -> Option<Silence> {
+        let has_line = match &self.stage {
+            Stage::Waits { place, .. } if place.is_urgent => return None,
+            Stage::Asked => return None,
+            Stage::Waits { .. } => true,
+            _ => false,
         };
-        let line = self.port.line_since(self.rt);
-        match turn.millis_left(self.port.now(self.rt), line) {
-            Some(0) => {
-                self.close();
-                Err(io::Error::from(ErrorKind::TimedOut))
+        Some(Silence {
+            has_line,
+            since: self.moved,
+        })
+    }
+
+    /// Whether it has taken nothing of a reply for too long.
+    pub fn is_given_up(&self, now: u64) -> bool {
+        matches!(self.stage, Stage::Replies { .. })
+            && has_passed(LONGEST_REPLY_SILENCE, self.moved, now)
+    }
+
+    /// Handles that the socket is ready. A whole line that has arrived gets this number.
+    pub fn attend<P: LinePriority>(
+        &mut self,
+        key: usize,
+        has_ended: bool,
+        number: u64,
+        now: u64,
+        readiness: &Readiness,
+        priority: &P,
+    ) -> Fate {
+        match &self.stage {
+            Stage::Awaits | Stage::Skips => {
+                self.read_on(key, has_ended, number, now, readiness, priority)
             }
-            left => Ok(left),
+            Stage::Waits { .. } | Stage::Asked => Fate::Stays,
+            Stage::Replies { .. } => self.write_on(key, number, now, readiness, priority),
         }
     }
 
-    /// Handles everything that is ready at the port, without waiting.
-    fn look_up(&self) {
-        for _ in 0..MOST_EVENTS {
-            if !self.port.attend(self.rt, self.events, Some(0)) {
-                return;
-            }
-        }
-    }
-
-    /// Waits for any event at the port, at most as long as a wait for this connection may still
-    /// last.
-    fn wait(&self, still: u64) -> io::Result<()> {
-        let left = self.millis_left(still)?;
-        self.port.attend(self.rt, self.events, left);
-        Ok(())
-    }
-}
-
-impl<R: Clock + Wait, E: ControlEvents> Read for &ControlConnection<'_, R, E> {
-    fn read(&mut self, buf: &mut [u8]) -> io::Result<usize> {
-        let still = self.awaits_since();
-        self.look_up();
-        self.millis_left(still)?;
-        let most = buf.len().min(MOST_BYTES);
-        let buf = &mut buf[..most];
-        for _ in self.rt.forever() {
-            match (&self.stream).read(buf) {
-                Ok(count) => {
-                    let read = &buf[..count.min(buf.len())];
-                    self.has_line.store(has_line_break(read), Ordering::SeqCst);
-                    return Ok(count);
+    /// Reads what has arrived.
+    fn read_on<P: LinePriority>(
+        &mut self,
+        key: usize,
+        has_ended: bool,
+        number: u64,
+        now: u64,
+        readiness: &Readiness,
+        priority: &P,
+    ) -> Fate {
+        match self.input.read(&self.stream) {
+            Input::Came { is_piece_full } => {
+                if !matches!(self.stage, Stage::Skips) {
+                    self.moved = now;
                 }
-                Err(error) if error.kind() == ErrorKind::WouldBlock => self.wait(still)?,
-                Err(error) => return Err(error),
+                self.note_line(false, number, priority);
+                self.watch_on(is_piece_full || has_ended, key, readiness)
+            }
+            Input::Nothing => Fate::Stays,
+            Input::End => self.end_input(number, priority),
+            Input::Failure => Fate::Ends,
+        }
+    }
+
+    /// Handles the end of the input: the bytes that no line break followed are the last line.
+    fn end_input<P: LinePriority>(&mut self, number: u64, priority: &P) -> Fate {
+        if matches!(self.stage, Stage::Awaits) && self.input.is_empty() {
+            return Fate::Ends;
+        }
+        self.note_line(true, number, priority);
+        Fate::Stays
+    }
+
+    /// Notes whether the next line is whole. A whole line gets this number.
+    fn note_line<P: LinePriority>(&mut self, has_ended: bool, number: u64, priority: &P) {
+        if matches!(self.stage, Stage::Skips) {
+            self.skip(has_ended, number);
+            return;
+        }
+        match self.input.front(has_ended) {
+            Front::Line(length) => {
+                let is_urgent = priority.is_urgent(self.input.first(length));
+                self.wait_with(WholeLine::First(length), is_urgent, number);
+            }
+            Front::Part => {}
+            Front::TooLong => {
+                self.stage = Stage::Skips;
+                self.skip(has_ended, number);
             }
         }
-        unreachable!()
+    }
+
+    /// Skips what was read of a line that is too long. The line is whole with its line break, or with the end of
+    /// the input.
+    fn skip(&mut self, has_ended: bool, number: u64) {
+        if self.input.skip_line() || has_ended {
+            self.wait_with(WholeLine::Skipped, false, number);
+        }
+    }
+
+    fn wait_with(&mut self, line: WholeLine, is_urgent: bool, number: u64) {
+        let place = Place { is_urgent, number };
+        self.stage = Stage::Waits { line, place };
+    }
+
+    /// Watches the input again, if more may have arrived and is to be read. What has arrived already is reported
+    /// after what is ready elsewhere.
+    fn watch_on(&self, may_have_arrived: bool, key: usize, readiness: &Readiness) -> Fate {
+        match &self.stage {
+            Stage::Awaits | Stage::Skips if may_have_arrived => {
+                fate_of(readiness.watch_input(&self.stream, key))
+            }
+            _ => Fate::Stays,
+        }
+    }
+
+    /// Takes its whole line, with its line end. Of a line that was skipped, as many spaces are given as make a
+    /// line too long. Returns whether that succeeded.
+    pub fn take_line(&mut self, line: &mut Vec<u8>) -> bool {
+        let Stage::Waits { line: whole, .. } = self.stage else {
+            return false;
+        };
+        self.stage = Stage::Asked;
+        line.clear();
+        match whole {
+            WholeLine::First(length) => {
+                let is_taken = line.extend_from_slice(self.input.first(length)).is_ok();
+                self.input.take(length);
+                is_taken
+            }
+            WholeLine::Skipped => line.extend_from_slice(&[b' '; LONGEST_LINE]).is_ok(),
+        }
+    }
+
+    /// Gives the reply to the line that was taken. What the socket does not take is kept. The next line gets this
+    /// number if it is whole already.
+    pub fn reply<P: LinePriority>(
+        &mut self,
+        alloc: Global,
+        key: usize,
+        reply: &[u8],
+        after: AfterReply,
+        number: u64,
+        now: u64,
+        readiness: &Readiness,
+        priority: &P,
+    ) -> Fate {
+        self.moved = now;
+        match write_what_fits(&self.stream, reply) {
+            Taken::All => self.go_on(key, after, number, readiness, priority),
+            Taken::Part(count) => {
+                let rest = &reply[count.min(reply.len())..];
+                match self.keep(alloc, rest, after) {
+                    Ok(()) if has_room(rest.len()) => {
+                        fate_of(readiness.watch_output(&self.stream, key))
+                    }
+                    _ => Fate::Ends,
+                }
+            }
+            Taken::Failed => Fate::Ends,
+        }
+    }
+
+    fn keep(&mut self, alloc: Global, rest: &[u8], after: AfterReply) -> Result<(), AllocError> {
+        let reply = PendingReply::new(alloc, rest)?;
+        self.stage = Stage::Replies { reply, after };
+        Ok(())
+    }
+
+    /// Writes more of the reply that was not taken whole.
+    fn write_on<P: LinePriority>(
+        &mut self,
+        key: usize,
+        number: u64,
+        now: u64,
+        readiness: &Readiness,
+        priority: &P,
+    ) -> Fate {
+        let Stage::Replies { reply, after } = &mut self.stage else {
+            return Fate::Stays;
+        };
+        let after = *after;
+        match reply.write(&self.stream) {
+            Taken::All => {
+                self.moved = now;
+                self.go_on(key, after, number, readiness, priority)
+            }
+            Taken::Part(0) => Fate::Stays,
+            Taken::Part(_) => {
+                self.moved = now;
+                Fate::Stays
+            }
+            Taken::Failed => Fate::Ends,
+        }
+    }
+
+    /// Goes on after a reply was taken whole.
+    fn go_on<P: LinePriority>(
+        &mut self,
+        key: usize,
+        after: AfterReply,
+        number: u64,
+        readiness: &Readiness,
+        priority: &P,
+    ) -> Fate {
+        if after == AfterReply::Closes {
+            // its peer may have ended it already
+            let _ = self.stream.shutdown(Shutdown::Both);
+            return Fate::Ends;
+        }
+        self.stage = Stage::Awaits;
+        self.note_line(false, number, priority);
+        self.watch_on(true, key, readiness)
     }
 }
 
-impl<R: Clock + Wait, E: ControlEvents> Write for &ControlConnection<'_, R, E> {
-    fn write(&mut self, buf: &[u8]) -> io::Result<usize> {
-        let still = self.port.now(self.rt);
-        for _ in self.rt.forever() {
-            match (&self.stream).write(buf) {
-                Err(error) if error.kind() == ErrorKind::WouldBlock => self.wait(still)?,
-                written => return written,
-            }
-        }
-        unreachable!()
-    }
-
-    fn flush(&mut self) -> io::Result<()> {
-        Ok(())
+/// A connection that cannot be watched is closed.
+fn fate_of(watched: io::Result<()>) -> Fate {
+    match watched {
+        Ok(()) => Fate::Stays,
+        Err(_) => Fate::Ends,
     }
 }

@@ -1,21 +1,27 @@
-//! The port at which operators connect. One thread serves the connections one after the other.
+//! The port at which operators connect. One thread answers the lines of all connections, one line after the
+//! other.
 //!
-//! A connection gets its turn after a whole line of it has arrived, so a silent connection does not block
-//! the others. [`ControlPort::next`] waits for the next turn, and gives a [`ControlConnection`], which is
-//! read and written as a stream. While the thread waits for that stream, it also accepts connections and
-//! handles the waiting ones. If the peer of a connection is silent or reads no answers while another
-//! connection waits with a whole line, a read or write of the connection fails, which ends it.
+//! [`ControlPort::next`] waits for a whole line and gives it with its connection, and [`ControlPort::reply`]
+//! takes the reply. Connections take turns by lines, and no connection holds up another one: a part of a line is kept
+//! until the rest comes, and what a connection does not take of its reply is kept for it. [`LinePriority`] says
+//! which lines are urgent, and go before all others. The port can be one for listed users only
+//! ([`ControlPort::new`]).
 #![tactic(auto)]
 
 mod acceptor;
+mod admission;
 mod connection;
+mod connections;
 mod events;
-mod line_arrival;
+mod line_buffer;
 mod port;
+mod priority;
 mod readiness;
+mod reply;
 mod turn;
-mod waiting;
 
-pub use connection::ControlConnection;
+pub use connection::AfterReply;
+pub use connections::Asker;
 pub use events::ControlEvents;
 pub use port::ControlPort;
+pub use priority::LinePriority;

@@ -1,29 +1,29 @@
 //! The control port.
 
 use crate::acceptor::{Accepted, Acceptor};
-use crate::connection::ControlConnection;
+use crate::admission::{Admission, Admitted};
+use crate::connection::AfterReply;
+use crate::connections::{Asker, Connections};
 use crate::events::ControlEvents;
-use crate::readiness::{Readiness, Ready};
-use crate::waiting::{MOST_WAITING, Waiting};
+use crate::priority::LinePriority;
+use crate::readiness::{MOST_READY, Readiness, Ready};
+use crate::turn::{MOST_CONNECTIONS, most_connections};
+use bg_peers::Users;
 use libc::RLIMIT_NOFILE;
 use libc::types::rlimit;
-use std::alloc::Global;
+use std::alloc::{AllocError, Global};
 use std::io;
 use std::net::{Net, TcpListener, TcpStream};
 use std::sync::{Mutex, Wait};
 use std::time::{Clock, Duration, Instant};
 
 /// The number of accepts in a row before other events are handled.
-const MOST_ACCEPTS: u32 = 64;
+const MOST_ACCEPTS: usize = 64;
 
 /// The number of milliseconds between two calls of [`ControlEvents::second_passed`].
 const SECOND: u64 = 1_000;
 
-/// The waiting connections may have at most one in this many of the process's file descriptors.
-const DESCRIPTOR_SHARE: u64 = 4;
-
-/// The port at which operators connect. One thread takes its connections; other threads may share
-/// it.
+/// The port at which operators connect. One thread answers their lines; other threads may share it.
 #[derive(Drop)]
 pub struct ControlPort {
     readiness: Readiness,
@@ -34,9 +34,11 @@ pub struct ControlPort {
 /// The state that changes.
 #[derive(Drop)]
 struct State {
+    alloc: Global,
     /// `None` after the port was closed.
     acceptor: Option<Acceptor>,
-    waiting: Waiting,
+    admission: Admission,
+    connections: Connections,
     /// When the next call of `second_passed` is due.
     next_second: u64,
 }
@@ -44,24 +46,38 @@ struct State {
 /// The calls that are due to the events.
 #[derive(Drop)]
 struct News {
-    failure: Option<io::Error>,
+    accepts: AcceptNews,
     second_passed: bool,
 }
 
+/// What accepts have to report.
+#[derive(Drop)]
+struct AcceptNews {
+    failure: Option<io::Error>,
+    /// The number of connections that were turned away.
+    turned_away: u64,
+}
+
 impl ControlPort {
-    /// The port of a listener. Allocates the memory for 1,024 waiting connections. An error if this
-    /// allocation or the clock fails, if the system cannot create an epoll set or watch the listener, or if
-    /// the listener cannot be made non-blocking.
+    /// The port of a listener, for these users; `None` stands for all users. Allocates the memory for 1,024
+    /// connections. An error if this allocation or the clock fails, if the system cannot create an epoll set or
+    /// watch the listener, or if the listener cannot be made non-blocking.
+    ///
+    /// A connection of another user, and one of which the system does not tell the user ([`bg_peers::PeerTable::user_of`]), is
+    /// sent `refused NotAllowed` and closed. No line of it is given.
     pub fn new<R: Net + Clock>(
         rt: &R,
         alloc: Global,
         listener: TcpListener,
+        operators: Option<Users>,
     ) -> io::Result<ControlPort> {
         let acceptor = Acceptor::new(listener)?;
         let readiness = Readiness::new(rt, acceptor.listener())?;
         let state = State {
+            alloc,
             acceptor: Some(acceptor),
-            waiting: Waiting::new(alloc)?,
+            admission: Admission::new(alloc, operators),
+            connections: Connections::new(alloc)?,
             next_second: SECOND,
         };
         Ok(ControlPort {
@@ -71,90 +87,114 @@ impl ControlPort {
         })
     }
 
-    /// Waits for the connection that has the next turn: the one whose whole line arrived first. Bytes
-    /// without a line break are a line if the input has ended, or if they are more than a line may have.
+    /// Waits for the next line, puts it into `line` with its line end, and returns its connection.
     ///
-    /// At most 1,024 connections wait, and at most a quarter of the number of file descriptors that the
-    /// process may have open. If more come, or if an accept fails, the port closes the connection that has
-    /// made no progress for the longest time, provided that this is two seconds or more and that no whole
-    /// line of it has arrived. If there is none, and more come, it accepts no further connection. A failed
-    /// accept is tried again every 100 milliseconds.
+    /// A connection has one line answered, and then the next connection, in the order in which their lines
+    /// came. An urgent line ([`LinePriority`]) goes before all that wait, but not before an earlier line of its
+    /// own connection; after 16 such lines in a row, the line that came first goes.
     ///
-    /// The previous connection has to be ended before this call.
-    pub fn next<'a, R: Clock + Wait, E: ControlEvents>(
-        &'a self,
-        rt: &'a R,
-        events: &'a E,
-    ) -> ControlConnection<'a, R, E> {
+    /// A line is the bytes up to a line break, LF, or up to the end of the input if there are any. A line of which
+    /// 4,098 bytes have no line break is too long: it is skipped, and 4,098 spaces stand for it.
+    ///
+    /// The previous line has to be answered before, by [`ControlPort::reply`] or [`ControlPort::end`]. No line
+    /// of a connection is given before its last reply was taken whole. Until then the port keeps up to 65,536 bytes
+    /// of the reply, and the system what it can. A connection that takes nothing of a reply for ten seconds is
+    /// closed. Of the input of a connection, the port keeps at most 12,289 bytes.
+    ///
+    /// There are at most 1,024 connections, and at most a quarter of the number of file descriptors that the
+    /// process may have open. If more come, the port closes the connection that has been silent for the longest
+    /// time, for each. Those with a whole line that waits are closed last, and those with an urgent line
+    /// never. If an accept fails, the port closes the connection that has been silent for the longest time, if
+    /// that is two seconds or more and no whole line of it waits. A failed accept is tried again every
+    /// 100 milliseconds.
+    pub fn next<R: Clock + Wait, E: ControlEvents, P: LinePriority>(
+        &self,
+        rt: &R,
+        events: &E,
+        priority: &P,
+        line: &mut Vec<u8>,
+    ) -> Asker {
         for _ in rt.forever() {
-            if let Some(stream) = self.take_first(rt) {
-                return ControlConnection::new(self, rt, events, stream);
+            self.attend(rt, events, priority);
+            if let Some(asker) = self.state.lock(rt).connections.take_line(line) {
+                return asker;
             }
-            self.attend(rt, events, None);
         }
         unreachable!()
     }
 
-    /// Closes the listener and all connections that wait. From then on no connection comes, so a call of
+    /// Gives the reply to a line. The connection is closed if it fails, if the reply is one after which it
+    /// closes, or if more than 65,536 bytes would have to be kept.
+    pub fn reply<R: Clock + Wait, P: LinePriority>(
+        &self,
+        rt: &R,
+        asker: Asker,
+        reply: &[u8],
+        after: AfterReply,
+        priority: &P,
+    ) {
+        let now = self.now(rt);
+        let readiness = &self.readiness;
+        self.state
+            .lock(rt)
+            .connections
+            .reply(asker.key, reply, after, now, readiness, priority);
+    }
+
+    /// Closes the connection of a line, without a reply.
+    pub fn end<R: Wait>(&self, rt: &R, asker: Asker) {
+        self.state.lock(rt).connections.end(asker.key);
+    }
+
+    /// Closes the listener and all connections. From then on no line comes, so a call of
     /// [`ControlPort::next`] does not return.
     pub fn close<R: Wait>(&self, rt: &R) {
         let mut state = self.state.lock(rt);
         state.acceptor = None;
-        state.waiting.close();
+        state.connections.close();
     }
 
     /// The number of milliseconds since the start; 0 if the clock fails.
-    pub(crate) fn now<R: Clock>(&self, rt: &R) -> u64 {
+    fn now<R: Clock>(&self, rt: &R) -> u64 {
         match self.start.elapsed(rt) {
             Ok(passed) => millis(passed),
             Err(_) => 0,
         }
     }
 
-    /// Since when a connection has waited with a whole line, if any does.
-    pub(crate) fn line_since<R: Wait>(&self, rt: &R) -> Option<u64> {
-        self.state.lock(rt).waiting.line_since()
-    }
-
-    /// Takes the connection that has the next turn. Closes a connection that cannot be watched.
-    fn take_first<R: Wait>(&self, rt: &R) -> Option<TcpStream> {
-        let stream = self.state.lock(rt).waiting.take_first()?;
-        match self.readiness.give_turn(&stream) {
-            Ok(()) => Some(stream),
-            Err(_) => None,
-        }
-    }
-
-    /// Waits until a socket is ready, for at most this many milliseconds, and handles the listener and the
-    /// waiting connections. Returns whether a socket was ready.
-    pub(crate) fn attend<R: Clock + Wait, E: ControlEvents>(
+    /// Waits until a socket is ready, unless a line waits, and handles what is ready and what is due.
+    fn attend<R: Clock + Wait, E: ControlEvents, P: LinePriority>(
         &self,
         rt: &R,
         events: &E,
-        limit: Option<u64>,
-    ) -> bool {
-        let millis = self.millis_to_wait(rt, limit);
-        let ready = self.readiness.wait(millis);
+        priority: &P,
+    ) {
+        let mut ready = [Ready::Listener; MOST_READY];
+        let count = self.readiness.wait(self.millis_to_wait(rt), &mut ready);
         let now = self.now(rt);
-        let news = self.state.lock(rt).attend(ready, now, &self.readiness);
-        if let Some(reason) = &news.failure {
+        let mut state = self.state.lock(rt);
+        let news = state.attend(&ready[..count], now, &self.readiness, priority);
+        drop(state);
+        if let Some(reason) = &news.accepts.failure {
             events.accept_failed(reason);
+        }
+        if news.accepts.turned_away > 0 {
+            events.turned_away(news.accepts.turned_away);
         }
         if news.second_passed {
             events.second_passed();
         }
-        ready != Ready::Nothing
     }
 
-    /// The number of milliseconds that a wait may last: up to the limit, the next second and the
-    /// next accept.
-    fn millis_to_wait<R: Clock + Wait>(&self, rt: &R, limit: Option<u64>) -> i32 {
+    /// The number of milliseconds that a wait may last: none if a line waits, and otherwise up to the next
+    /// second and the next accept.
+    fn millis_to_wait<R: Clock + Wait>(&self, rt: &R) -> i32 {
         let now = self.now(rt);
         let state = self.state.lock(rt);
-        let mut millis = state.next_second.saturating_sub(now).min(SECOND);
-        if let Some(limit) = limit {
-            millis = millis.min(limit);
+        if state.connections.has_line() {
+            return 0;
         }
+        let mut millis = state.next_second.saturating_sub(now).min(SECOND);
         if let Some(acceptor) = &state.acceptor
             && let Some(pause) = acceptor.millis_to_wait(now)
         {
@@ -165,47 +205,94 @@ impl ControlPort {
 }
 
 impl State {
-    /// Handles what is ready, and accepts connections if that is due.
-    fn attend(&mut self, ready: Ready, now: u64, readiness: &Readiness) -> News {
-        match ready {
-            Ready::Nothing | Ready::Turn => {}
-            Ready::Listener => {
-                if let Some(acceptor) = &mut self.acceptor {
-                    acceptor.note_ready();
+    /// Handles what is ready, accepts connections if that is due, and closes those that take no reply.
+    fn attend<P: LinePriority>(
+        &mut self,
+        ready: &[Ready],
+        now: u64,
+        readiness: &Readiness,
+        priority: &P,
+    ) -> News {
+        for one in ready {
+            match *one {
+                Ready::Listener => self.note_listener(),
+                Ready::Connection { key, has_ended } => {
+                    self.connections
+                        .attend(key, has_ended, now, readiness, priority);
                 }
             }
-            Ready::Waiting { key, has_ended } => self.waiting.attend(key, has_ended, now),
+        }
+        let second_passed = self.passes_second(now);
+        if second_passed {
+            self.connections.end_given_up(now);
         }
         News {
-            failure: self.accept_due(now, readiness),
-            second_passed: self.passes_second(now),
+            accepts: self.accept_due(now, readiness),
+            second_passed,
         }
     }
 
-    /// Accepts the connections that have come, and adds them to the waiting ones. Returns a failure that
-    /// has to be reported.
-    fn accept_due(&mut self, now: u64, readiness: &Readiness) -> Option<io::Error> {
+    /// Notes that the listener is ready. Its connections are accepted after all else, so that no key of a
+    /// connection that was closed is given again before.
+    fn note_listener(&mut self) {
+        if let Some(acceptor) = &mut self.acceptor {
+            acceptor.note_ready();
+        }
+    }
+
+    /// Accepts the connections that have come, and keeps those that are served.
+    fn accept_due(&mut self, now: u64, readiness: &Readiness) -> AcceptNews {
+        let mut arrived = Vec::new(self.alloc);
+        let failure = self.accept_arrived(now, &mut arrived);
+        let count = arrived.len();
+        // without memory, none of them is served
+        let served = match self.admission.admit(arrived) {
+            Ok(admitted) => self.keep(admitted, readiness, now),
+            Err(AllocError) => 0,
+        };
+        AcceptNews {
+            failure,
+            turned_away: count.saturating_sub(served) as u64,
+        }
+    }
+
+    /// Accepts the connections that have come. Returns a failure that has to be reported.
+    fn accept_arrived(&mut self, now: u64, arrived: &mut Vec<TcpStream>) -> Option<io::Error> {
         let acceptor = self.acceptor.as_mut()?;
-        let most = most_waiting();
         for _ in 0..MOST_ACCEPTS {
             if acceptor.millis_to_wait(now) != Some(0) {
                 return None;
             }
-            if self.waiting.count() >= most && !self.waiting.close_stillest(now) {
+            let count = self.connections.count().saturating_add(arrived.len());
+            if count >= most_connections_now() && !self.connections.can_make_room() {
                 acceptor.put_off(now);
                 return None;
             }
             match acceptor.accept(now) {
-                // a connection that cannot be watched is closed
-                Accepted::Stream(stream) => drop(self.waiting.add(stream, readiness, now)),
+                // without memory, it is closed
+                Accepted::Stream(stream) => drop(arrived.push(stream)),
                 Accepted::Nothing => {}
                 Accepted::Failed(reason) => {
-                    self.waiting.close_stillest(now);
+                    self.connections.close_silent(now);
                     return acceptor.is_first_failure().then_some(reason);
                 }
             }
         }
         None
+    }
+
+    /// Keeps connections that are served, and returns their number. Each takes the place of another one if there is
+    /// no room.
+    fn keep(&mut self, admitted: Vec<Admitted>, readiness: &Readiness, now: u64) -> usize {
+        let count = admitted.len();
+        for Admitted { stream, user } in admitted {
+            if self.connections.count() >= most_connections_now() {
+                self.connections.make_room();
+            }
+            // a connection that cannot be watched is closed
+            drop(self.connections.add(stream, user, readiness, now));
+        }
+        count
     }
 
     /// Whether a second has passed since the last one that was reported.
@@ -218,19 +305,16 @@ impl State {
     }
 }
 
-/// The number of connections that may wait now.
-fn most_waiting() -> usize {
+/// The maximum number of connections now. The limit of descriptors may change.
+fn most_connections_now() -> usize {
     let mut limit = rlimit {
         rlim_cur: 0,
         rlim_max: 0,
     };
     if libc::getrlimit(RLIMIT_NOFILE, &mut limit) != 0 {
-        return MOST_WAITING;
+        return MOST_CONNECTIONS;
     }
-    let share = limit.rlim_cur / DESCRIPTOR_SHARE;
-    usize::try_from(share)
-        .unwrap_or(MOST_WAITING)
-        .clamp(1, MOST_WAITING)
+    most_connections(limit.rlim_cur)
 }
 
 fn millis(duration: Duration) -> u64 {

@@ -1,4 +1,5 @@
 //! Which sockets of the port are ready.
+ghost use Rattle.std.specs.Prelude.{◌≤◌, length};
 
 use libc::net::{
     EPOLL_CTL_ADD, EPOLL_CTL_MOD, EPOLLERR, EPOLLET, EPOLLHUP, EPOLLIN, EPOLLOUT, EPOLLRDHUP,
@@ -9,27 +10,23 @@ use std::io;
 use std::net::{Net, TcpListener, TcpStream};
 use std::os::fd::{AsRawFd, RawFd};
 
-/// The keys of the events of the listener, and of the connection that has its turn. The key of a
-/// waiting connection is smaller.
+/// The key of the events of the listener. The key of a connection is smaller.
 const LISTENER: u64 = u64::MAX;
 
-const TURN: u64 = u64::MAX - 1;
+/// The maximum number of sockets that a wait reports.
+pub const MOST_READY: usize = 64;
 
 /// What is ready.
 #[derive(Clone, Copy, Debug, Drop, PartialEq, Eq)]
 pub enum Ready {
-    /// Nothing: the wait timed out.
-    Nothing,
     /// Connections may be accepted.
     Listener,
-    /// Bytes of the waiting connection with this key have arrived, or its input has ended.
-    Waiting { key: usize, has_ended: bool },
-    /// The connection that has its turn can be read or written.
-    Turn,
+    /// The connection with this key can be read or written, or its input has ended.
+    Connection { key: usize, has_ended: bool },
 }
 
 /// The sockets of the port, in one epoll set. Each is watched for changes only (edge-triggered), so a
-/// line that is not complete yet is reported once.
+/// line that is not complete yet is reported once. A socket that is watched again is reported if it is ready.
 #[derive(Drop)]
 pub struct Readiness {
     set: Poll,
@@ -45,16 +42,21 @@ impl Readiness {
         Ok(readiness)
     }
 
-    /// Watches a waiting connection.
+    /// Watches the input of a new connection.
     pub fn watch(&self, stream: &TcpStream, key: usize) -> io::Result<()> {
         let events = EPOLLIN | EPOLLRDHUP;
         self.control(EPOLL_CTL_ADD, stream.as_raw_fd(), events, key as u64)
     }
 
-    /// Watches a connection that waited and has its turn now.
-    pub fn give_turn(&self, stream: &TcpStream) -> io::Result<()> {
-        let events = EPOLLIN | EPOLLOUT | EPOLLRDHUP;
-        self.control(EPOLL_CTL_MOD, stream.as_raw_fd(), events, TURN)
+    /// Watches the input of a connection again. What has arrived already is reported.
+    pub fn watch_input(&self, stream: &TcpStream, key: usize) -> io::Result<()> {
+        let events = EPOLLIN | EPOLLRDHUP;
+        self.control(EPOLL_CTL_MOD, stream.as_raw_fd(), events, key as u64)
+    }
+
+    /// Watches whether a connection takes bytes, and not its input.
+    pub fn watch_output(&self, stream: &TcpStream, key: usize) -> io::Result<()> {
+        self.control(EPOLL_CTL_MOD, stream.as_raw_fd(), EPOLLOUT, key as u64)
     }
 
     fn control(&self, operation: i32, fd: RawFd, events: u32, number: u64) -> io::Result<()> {
@@ -65,20 +67,26 @@ impl Readiness {
         Err(io::Error::from_raw_os_error(errno()))
     }
 
-    /// Waits until a socket is ready, for at most `millis` milliseconds.
-    pub fn wait(&self, millis: i32) -> Ready {
-        let mut events = [EpollEvent { events: 0, data: 0 }];
-        if epoll_wait(self.set.as_raw_fd(), &mut events, millis) == 0 {
-            return Ready::Nothing;
+    /// Waits until a socket is ready, for at most `millis` milliseconds, and puts what is ready at the front of
+    /// `ready`, in the order in which it became ready. Returns their number.
+    pub fn wait(&self, millis: i32, ready: &mut [Ready; MOST_READY]) -> usize
+        ensures { result ≤ 64 }
+    {
+        let mut events = [EpollEvent { events: 0, data: 0 }; MOST_READY];
+        let count = epoll_wait(self.set.as_raw_fd(), &mut events, millis);
+        for (place, event) in ready.iter_mut().zip(events.iter()) {
+            *place = ready_of(*event);
         }
-        let [event] = events;
-        match event.data {
-            LISTENER => Ready::Listener,
-            TURN => Ready::Turn,
-            key => Ready::Waiting {
-                key: key as usize,
-                has_ended: event.events & (EPOLLRDHUP | EPOLLHUP | EPOLLERR) != 0,
-            },
-        }
+        count
+    }
+}
+
+fn ready_of(event: EpollEvent) -> Ready {
+    match event.data {
+        LISTENER => Ready::Listener,
+        key => Ready::Connection {
+            key: key as usize,
+            has_ended: event.events & (EPOLLRDHUP | EPOLLHUP | EPOLLERR) != 0,
+        },
     }
 }
