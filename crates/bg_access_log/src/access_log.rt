@@ -3,7 +3,9 @@ ghost use Rattle.std.specs.Prelude.{◌≡◌, ◌++◌, if◌then◌else◌};
 
 use crate::entry::Entry;
 use crate::log_file::LogFile;
+use crate::notices::Notices;
 use crate::time_text::{TimeText, TimeTexts};
+use crate::trouble::{LogTrouble, Trouble};
 use std::alloc::Global;
 use std::io::Write;
 use std::sync::atomic::{AtomicBool, Ordering};
@@ -11,8 +13,13 @@ use std::sync::{Mutex, Wait};
 use std::time::{Clock, Duration};
 use std::{io, mem, thread};
 
-/// The maximum number of bytes of the queue. Further lines are lost and counted.
-const MOST_BYTES: usize = 1 << 22;
+/// The maximum number of bytes of the queue. Further lines are lost and counted. At 20,000 lines a second, 2,000 lines
+/// come between two writes. If a line has 250 bytes, as most have, the queue has room for the lines of 3 seconds, in which
+/// the disk may take nothing; if each line is as long as can be, 6,500 bytes, for those of 125 milliseconds.
+const MOST_BYTES: usize = 1 << 24;
+
+/// How often a thread tries to hand a notice to the writer, which holds the notices only while it takes them.
+const TRIES_TO_HAND_OVER: u32 = 10_000;
 
 /// The number of milliseconds between two writes, and the number of these pauses after which the writer
 /// opens the file again.
@@ -36,6 +43,8 @@ pub struct AccessLog {
     queue: Mutex<Queue>,
     /// Only the writer uses it.
     file: Mutex<LogFile>,
+    notices: Mutex<Notices>,
+    trouble: Trouble,
     is_over: AtomicBool,
 }
 
@@ -51,6 +60,8 @@ impl AccessLog {
                 lost: 0,
             }),
             file: Mutex::new(LogFile::open(alloc, path)?),
+            notices: Mutex::new(Notices::new(alloc)),
+            trouble: Trouble::new(),
             is_over: AtomicBool::new(false),
         })
     }
@@ -60,7 +71,7 @@ impl AccessLog {
         self.times.lock(rt).now(rt, self.alloc)
     }
 
-    /// Adds a line. If the queue would have more than 4,194,304 bytes, or if an allocation fails, the line
+    /// Adds a line. If the queue would have more than 16,777,216 bytes, or if an allocation fails, the line
     /// is lost and counted.
     pub fn add<R: Wait>(&self, rt: &R, entry: &Entry) {
         let line = entry.to_line(self.alloc);
@@ -71,15 +82,36 @@ impl AccessLog {
         };
         if !is_kept {
             queue.lost = queue.lost.saturating_add(1);
+            self.trouble.note_lost(1);
         }
     }
 
-    /// Writes the added lines every 100 milliseconds. If lines were lost, it writes a line with their number
-    /// when the file takes bytes again. It opens the file again about once a second. After
-    /// [`AccessLog::end`] it makes one last write and returns; lines that the file does not take then are
-    /// lost.
+    /// What operators are to be told now. Call it about once a second, and once more after
+    /// [`AccessLog::run_writer`] has returned. It waits for nothing.
+    pub fn take_trouble(&self) -> Option<LogTrouble> {
+        self.trouble.take()
+    }
+
+    /// Hands a line for standard error to the writer, if the log is standard error and the writer runs. Returns
+    /// whether that is so; otherwise the caller may write the line itself. Two threads must not both write: each would
+    /// ask first whether standard error takes 4,096 bytes, and one of them could then be blocked. It waits for nothing;
+    /// if more than 65,536 bytes of such lines wait, the line is lost.
+    pub fn hand_over(&self, line: &[u8]) -> bool {
+        for _ in 0..TRIES_TO_HAND_OVER {
+            if let Some(mut notices) = self.notices.try_lock() {
+                return notices.add(line);
+            }
+        }
+        true
+    }
+
+    /// Writes the added lines every 100 milliseconds, and sooner if the file takes them in parts. If lines were lost, it writes a line with their number
+    /// when the file takes bytes again. It opens the file again about once a second, but while a line is written only
+    /// in part, once the file has taken nothing for a minute. After [`AccessLog::end`] it makes one last write and
+    /// returns; lines that the file does not take then are lost.
     pub fn run_writer<R: Clock + Wait>(&self, rt: &R) {
         let mut file = self.file.lock(rt);
+        self.notices.lock(rt).set_taken(file.is_standard_error());
         let mut pauses = 0u32;
         for _ in rt.forever() {
             let is_over = self.is_over.load(Ordering::SeqCst);
@@ -87,11 +119,15 @@ impl AccessLog {
                 pauses = 0;
                 file.open_anew();
             }
-            self.write_out(rt, &mut file);
             if is_over {
+                self.write_last(rt, &mut file);
                 return;
             }
-            thread::sleep(rt, Duration::from_millis(PAUSE_MILLIS));
+            self.write_out(rt, &mut file);
+            self.trouble.note_write(file.last_error());
+            if !file.waits_for_room(PAUSE_MILLIS as i32) {
+                thread::sleep(rt, Duration::from_millis(PAUSE_MILLIS));
+            }
             pauses = pauses.saturating_add(1);
         }
     }
@@ -101,9 +137,23 @@ impl AccessLog {
         self.is_over.store(true, Ordering::SeqCst);
     }
 
-    /// Writes the queue, as far as the file takes it.
+    /// Writes the queue and the notices a last time, and notes the lines that the file does not take.
+    fn write_last<R: Clock + Wait>(&self, rt: &R, file: &mut LogFile) {
+        self.notices.lock(rt).set_taken(false);
+        self.write_out(rt, file);
+        let (bytes, _) = self.take(rt);
+        self.trouble.note_lost(lines_in(file.rest()));
+        self.trouble.note_lost(lines_in(&bytes));
+        self.trouble.note_write(None);
+    }
+
+    /// Writes the notices and the queue, as far as the file takes them.
     fn write_out<R: Clock + Wait>(&self, rt: &R, file: &mut LogFile) {
         if !file.write_rest() {
+            return;
+        }
+        let notices = self.notices.lock(rt).take(self.alloc);
+        if !file.write(notices) {
             return;
         }
         let (bytes, lost) = self.take(rt);
@@ -146,6 +196,11 @@ impl AccessLog {
         }
         line
     }
+}
+
+/// The number of lines that end in these bytes.
+fn lines_in(bytes: &[u8]) -> u64 {
+    bytes.iter().filter(|byte| **byte == b'\n').count() as u64
 }
 
 impl Queue {

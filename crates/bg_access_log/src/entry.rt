@@ -7,7 +7,7 @@ use std::alloc::Global;
 use std::borrow::CowStr;
 
 /// What is logged of a connection. The line has these keys in this order. The value of a key that is
-/// `None` is null.
+/// `None` is null; `slot_port` and `tries` are left out then.
 #[derive(Drop)]
 pub struct Entry<'a> {
     /// When the connection ended, as `AccessLog::time` gives it.
@@ -18,7 +18,7 @@ pub struct Entry<'a> {
     pub revision: Option<u64>,
     /// The number of the request.
     pub request: Option<u64>,
-    /// The port of the endpoint.
+    /// The port of the endpoint that was dialled last.
     pub port: Option<u16>,
     pub method: Option<CowStr<'a>>,
     /// The request target. The program gives at most its first 1,024 bytes.
@@ -38,6 +38,10 @@ pub struct Entry<'a> {
     pub duration_ms: u64,
     /// The number of milliseconds from when a worker got the connection to the first bytes of the response.
     pub upstream_ms: Option<u64>,
+    /// The port that the request was assigned. The program gives it only if another port was dialled last.
+    pub slot_port: Option<u16>,
+    /// The number of connects to endpoints that were tried. The program gives it only with `--redispatch`.
+    pub tries: Option<u32>,
 }
 
 impl Entry<'_> {
@@ -59,6 +63,8 @@ impl Entry<'_> {
         line.add_number(",\"response_bytes\":", Some(self.response_bytes))?;
         line.add_number(",\"duration_ms\":", Some(self.duration_ms))?;
         line.add_number(",\"upstream_ms\":", self.upstream_ms)?;
+        line.add_member(",\"slot_port\":", self.slot_port.map(u64::from))?;
+        line.add_member(",\"tries\":", self.tries.map(u64::from))?;
         line.add("}\n")?;
         Ok(line.into_bytes())
     }

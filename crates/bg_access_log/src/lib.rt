@@ -9,8 +9,11 @@ mod access_log;
 mod entry;
 mod line;
 mod log_file;
+mod notices;
 mod time_text;
+mod trouble;
 
 pub use access_log::AccessLog;
 pub use entry::Entry;
 pub use time_text::TimeText;
+pub use trouble::LogTrouble;

@@ -1,6 +1,6 @@
 //! A line of the log: an object of JSON.
 ghost use Rattle.std.specs.Prelude.{◌≡◌, ◌++◌, OnOk};
-ghost use Rattle.bg_access_log.specs.Lines.{number_text};
+ghost use Rattle.bg_access_log.specs.Lines.{member_text, number_text};
 
 use itoa::Buffer;
 use serde_json::Error;
@@ -42,6 +42,16 @@ impl Line {
         match number {
             Some(number) => self.add(Buffer::new().format(number)),
             None => self.add("null"),
+        }
+    }
+
+    /// Adds text, and then a number. Adds nothing if there is no number.
+    pub(crate) fn add_member(&mut self, before: &str, number: Option<u64>) -> Result<(), AllocError>
+        ensures { OnOk result (self.new.bytes.items ≡ self.old.bytes.items ++ member_text before.now number) }
+    {
+        match number {
+            Some(_) => self.add_number(before, number),
+            None => Ok(()),
         }
     }
 
