@@ -61,17 +61,21 @@ pub struct Clients<'a, R: Clock + Wait> {
     ports: &'a Ports,
     log: Option<&'a AccessLog>,
     telling: &'a Telling<'a>,
+    /// Whether a request may be dialled at another port than its ticket's.
+    redispatches: bool,
 }
 
 impl<'a, R: Clock + Wait> Clients<'a, R> {
     /// The clients that come to the ports. If there is a log, each ended connection is logged. Requests that are
-    /// refused because the history is full are counted for `telling`.
+    /// refused because the history is full are counted for `telling`. If the switch redispatches, the log has the
+    /// number of dials.
     pub fn new(
         rt: &'a R,
         alloc: Global,
         ports: &'a Ports,
         log: Option<&'a AccessLog>,
         telling: &'a Telling<'a>,
+        redispatches: bool,
     ) -> Clients<'a, R> {
         Clients {
             rt,
@@ -79,6 +83,7 @@ impl<'a, R: Clock + Wait> Clients<'a, R> {
             ports,
             log,
             telling,
+            redispatches,
         }
     }
 }
@@ -104,7 +109,7 @@ impl<'a, R: Clock + Wait> Accept for Clients<'a, R> {
             self.telling.note_refused_request();
         }
         if let Some(log) = self.log {
-            add_to_log(self.rt, self.alloc, log, &client, served);
+            add_to_log(self.rt, self.alloc, log, &client, served, self.redispatches);
         }
         // a request that entered was read to its end
         client.connection.end(served.entered.is_some());
@@ -118,6 +123,7 @@ fn add_to_log<R: Clock + Wait>(
     log: &AccessLog,
     client: &Client<R>,
     served: &Served,
+    redispatches: bool,
 ) {
     let connection = &client.connection;
     let (method, target) = match request_line(alloc, connection.first_bytes()) {
@@ -132,7 +138,9 @@ fn add_to_log<R: Clock + Wait>(
             service: service_name(client.service),
             revision: entered.map(|ticket| ticket.revision),
             request: entered.map(|ticket| ticket.number),
-            port: entered.map(|ticket| ticket.port),
+            port: served.route.map(|route| route.port),
+            slot_port: slot_port(served),
+            tries: tries(served, redispatches),
             method,
             target,
             status: status_of(served.end),
@@ -147,6 +155,26 @@ fn add_to_log<R: Clock + Wait>(
             },
         },
     );
+}
+
+/// The port of the ticket, if another port was dialled last.
+fn slot_port(served: &Served) -> Option<u16> {
+    let ticket = served.entered?;
+    let route = served.route?;
+    if route.port == ticket.port {
+        return None;
+    }
+    Some(ticket.port)
+}
+
+/// The number of ports that were dialled, if the switch redispatches.
+fn tries(served: &Served, redispatches: bool) -> Option<u32> {
+    let route = served.route?;
+    if redispatches {
+        Some(route.tries)
+    } else {
+        None
+    }
 }
 
 /// The name of a reason in the log. If a request is malformed or too large although its head has no fault,

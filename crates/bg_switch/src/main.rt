@@ -4,15 +4,18 @@
 mod carrying_out;
 mod clients;
 mod opening;
+mod operator_users;
 mod operators;
 mod ports;
 mod request_line;
+mod revision_ports;
 mod serve;
 mod telling;
 mod working;
 
 use crate::carrying_out::{check_buffered, replay_buffered};
-use crate::serve::serve;
+use crate::operator_users::operator_users;
+use crate::serve::{Settings, serve};
 use bg_access_log::AccessLog;
 use bg_command_line::{MessageTimeout, Order, OrderFault, TIMEOUT_VARIABLE, order};
 use bg_operator::{Keeping, tell_reasons, tell_reasons_before_script};
@@ -30,7 +33,8 @@ const ACCESS_LOG_VARIABLE: &str = "BG_SWITCH_ACCESS_LOG";
 ///
 /// The exit status is 0, also after `--version`, or 1 after a fault. It is 2 after words that are not an
 /// order, and after `--help`, whose text goes to standard error. It is 1 if the run ends early; the reason
-/// goes to standard error. It is also 1 if the access log cannot be opened; a notice says why.
+/// goes to standard error. It is also 1 if the access log cannot be opened, or the list of operators cannot be
+/// used; a notice says why.
 fn main(rt: HostRuntime) -> ExitCode {
     let order = match process_order(&rt) {
         Ok(order) => order,
@@ -43,16 +47,22 @@ fn main(rt: HostRuntime) -> ExitCode {
             let mut input = Keeping::new(rt.alloc(), rt.stdin());
             let (mut output, mut errors) = (rt.stdout(), rt.stderr());
             let timeout = message_timeout(&rt, &mut errors);
-            let log = match access_log(&rt, &mut errors) {
-                Ok(log) => log,
-                Err(_) => return ExitCode::FAILURE,
+            let Ok(operators) = operator_users(&rt, &mut errors) else {
+                return ExitCode::FAILURE;
+            };
+            let Ok(log) = access_log(&rt, &mut errors) else {
+                return ExitCode::FAILURE;
+            };
+            let settings = Settings {
+                timeout,
+                log: log.as_ref(),
+                operators,
             };
             serve(
                 &rt,
                 rt.alloc(),
                 site,
-                timeout,
-                log.as_ref(),
+                settings,
                 &mut input,
                 &mut output,
                 &mut errors,

@@ -11,8 +11,8 @@ use bg_access_log::AccessLog;
 use bg_book::{Book, Desk, Limits, OpenFault};
 use bg_command_line::MessageTimeout;
 use bg_control_port::ControlPort;
+use bg_endpoints::Directory;
 use bg_ledger::{Blanks, Names, Seat};
-use bg_operator::MOST_TURNS;
 use bg_report::report;
 use bg_revisions::Service;
 use bg_script::{Answer, BeforeOpen, FirstRevision, RunEnd};
@@ -32,9 +32,11 @@ pub struct Scene<'a> {
     pub alloc: Global,
     pub strategy: &'a Strategy,
     pub ports: &'a Ports,
-    /// The number of workers, including that of the preview service: 1 to 8. With any other number,
+    /// The number of workers, including those of the preview service: 1 to 2,048. With any other number,
     /// each `open` is refused.
     pub seats: u32,
+    /// How many of these workers serve the preview service.
+    pub previews: u32,
     /// The maximum number of connections that each worker takes.
     pub count: u64,
     /// Whether `quit` begins a graceful shutdown of the client ports.
@@ -43,12 +45,14 @@ pub struct Scene<'a> {
     pub timeout: MessageTimeout,
     /// The log of ended connections.
     pub log: Option<&'a AccessLog>,
+    /// The endpoints of the revisions, if a request may be dialled at another one than its ticket's.
+    pub directory: Option<&'a Directory>,
     /// What tells on standard error.
     pub telling: &'a Telling<'a>,
 }
 
-/// Answers operators, one after the other, until one opens a book. Clients are then served by that
-/// book to the end. Without a book, the run ends at `quit`.
+/// Answers the lines of operators, until one opens a book. Clients are then served by that book to the end.
+/// Without a book, the run ends at `quit`.
 pub fn await_open<'a, R, W: Write>(
     rt: &'a R,
     scene: &Scene<'a>,
@@ -58,20 +62,18 @@ pub fn await_open<'a, R, W: Write>(
 where
     R: Net<Listener = TcpListener, Stream = TcpStream> + Threads + Wait + Clock + Sync,
 {
+    let mut operator = Operator::new(rt, scene.alloc, scene.telling);
     for _ in rt.forever() {
-        let connection = control.next(rt, scene.telling);
-        if let Ok(mut operator) = Operator::new(scene.alloc, &connection) {
-            let done = answer_opener(rt, scene, control, &mut operator, output)?;
-            if done {
-                return Ok(());
-            }
+        let done = answer_opener(rt, scene, control, &mut operator, output)?;
+        if done {
+            return Ok(());
         }
     }
     unreachable!()
 }
 
-/// Answers an operator. Returns whether the run is done: clients were served to the end, or the
-/// operator quits. Gives its connection up after 2^24 refused `open`s.
+/// Answers a line of an operator. Returns whether the run is done: clients were served to the end, or the
+/// line is `quit`.
 fn answer_opener<'a, R, W: Write>(
     rt: &'a R,
     scene: &Scene<'a>,
@@ -82,26 +84,22 @@ fn answer_opener<'a, R, W: Write>(
 where
     R: Net<Listener = TcpListener, Stream = TcpStream> + Threads + Wait + Clock + Sync,
 {
-    for _ in 0..MOST_TURNS {
-        let first = match operator.before_open() {
-            Ok(BeforeOpen::Open(first)) => first,
-            Ok(BeforeOpen::Quit) => return Ok(true),
-            Ok(BeforeOpen::SpeaksHttp | BeforeOpen::End) | Err(_) => return Ok(false),
-        };
-        let blanks = Blanks::new();
-        match open_and_serve::<Brand, R, W>(rt, scene, control, blanks, &first, operator, output) {
-            Ok(told) => {
-                told?;
-                return Ok(true);
-            }
-            Err(fault) => {
-                if operator.say(Answer::OpenRefused(fault)).is_err() {
-                    return Ok(false);
-                }
-            }
+    let first = match operator.before_open(control) {
+        Ok(BeforeOpen::Open(first)) => first,
+        Ok(BeforeOpen::Quit) => return Ok(true),
+        Ok(BeforeOpen::SpeaksHttp | BeforeOpen::End) | Err(_) => return Ok(false),
+    };
+    let blanks = Blanks::new();
+    match open_and_serve::<Brand, R, W>(rt, scene, control, blanks, &first, operator, output) {
+        Ok(told) => {
+            told?;
+            Ok(true)
+        }
+        Err(fault) => {
+            operator.say(control, &Answer::OpenRefused(fault));
+            Ok(false)
         }
     }
-    Ok(false)
 }
 
 /// Opens the book, serves clients to the end, and writes the report and the number of calls.
@@ -117,11 +115,10 @@ fn open_and_serve<'a, N: Names + Send + Sync, R, W: Write>(
 where
     R: Net<Listener = TcpListener, Stream = TcpStream> + Threads + Wait + Clock + Sync,
     requires blanks { AreAllFor N.Names blanks }
-    requires seats { 1 ≤ scene.now.seats → scene.now.seats ≤ 8 → N.seats ≡ scene.now.seats }
+    requires seats { 1 ≤ scene.now.seats → scene.now.seats ≤ 2048 → N.seats ≡ scene.now.seats }
 {
-    let has_preview = scene.ports.of(Service::Preview).is_some();
-    let services = services_of(scene.alloc, scene.seats, has_preview)?;
-    let (book, mut seats) = Book::<N>::open(
+    let services = services_of(scene.alloc, scene.seats, scene.previews)?;
+    let (book, mut seats) = Book::<N>::open_with_many_seats(
         scene.alloc,
         scene.strategy,
         first.name.get(),
@@ -141,6 +138,7 @@ where
         operator,
     );
     scene.telling.tell_refusals();
+    scene.telling.tell_log();
     let book = desk.into_book();
     let reported = report(&book, output);
     let calls = calls_of(&seats);

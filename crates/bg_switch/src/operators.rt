@@ -1,90 +1,224 @@
-//! The connections of operators, one after the other.
+//! The lines of operators, answered one after the other.
+ghost use Rattle.std.specs.Prelude.{◌≡◌};
+ghost use Rattle.bg_switch.specs.Orders.{is_decision, is_order};
+ghost use Rattle.bg_switch.specs.Rollbacks.{ends_attempt, is_rollback, is_unsuccessful};
 
+use crate::revision_ports::{DownPorts, update};
 use crate::telling::Telling;
-use bg_book::Desk;
-use bg_control_port::{ControlConnection, ControlPort};
+use bg_book::{Control, Desk};
+use bg_control_port::{AfterReply, Asker, ControlPort, LinePriority};
+use bg_endpoints::Directory;
+use bg_history::AnalysisResult;
 use bg_ledger::Names;
-use bg_operator::OperatorLines;
+use bg_operator::{Command, LineFault, OperatorLines};
 use bg_script::{
     Answer, BeforeOpen, ControlEnd, RunEnd, answer_at_desk, answer_before_open, write_answer,
 };
 use std::alloc::Global;
-use std::io::{BufReader, BufWriter, Write};
 use std::sync::Wait;
 use std::time::Clock;
 
-/// The connection of an operator that has its turn.
+/// What the reply to a line that was carried out begins with.
+const CARRIED_OUT: &[u8] = b"ok ";
+
+/// Reads and answers the lines of operators.
 #[derive(Drop)]
-pub struct Operator<'c, 't, R: Clock + Wait> {
-    alloc: Global,
+pub struct Operator<'c, R: Clock + Wait> {
+    rt: &'c R,
+    telling: &'c Telling<'c>,
     lines: OperatorLines,
-    reader: BufReader<&'c ControlConnection<'c, R, Telling<'t>>>,
-    writer: BufWriter<&'c ControlConnection<'c, R, Telling<'t>>>,
+    rollbacks: RollbacksFirst,
+    /// The line that is being answered, with its line end.
+    line: Vec<u8>,
+    /// The reply to it.
+    reply: Vec<u8>,
+    /// Whose line it is, until it is answered.
+    asker: Option<Asker>,
 }
 
-impl<'c, 't, R: Clock + Wait> Operator<'c, 't, R> {
-    /// An error if the allocation for a buffer fails.
-    pub fn new(
-        alloc: Global,
-        connection: &'c ControlConnection<'c, R, Telling<'t>>,
-    ) -> Result<Operator<'c, 't, R>, RunEnd> {
-        let Ok(reader) = BufReader::new(alloc, connection) else {
-            return Err(RunEnd::OutOfMemory);
-        };
-        let Ok(writer) = BufWriter::new(alloc, connection) else {
-            return Err(RunEnd::OutOfMemory);
-        };
-        Ok(Operator {
-            alloc,
-            lines: OperatorLines::new(alloc),
-            reader,
-            writer,
-        })
-    }
-
-    /// Answers lines while no book is open.
-    pub fn before_open(&mut self) -> Result<BeforeOpen, RunEnd> {
-        answer_before_open(&mut self.lines, &mut self.reader, &mut self.writer)
-    }
-
-    /// Answers lines by the book of a desk. Counts, for `telling`, those that are refused because the history
-    /// is full.
-    pub fn at_desk<N: Names>(
-        &mut self,
-        rt: &R,
-        desk: &Desk<N>,
-        telling: &Telling,
-    ) -> Result<ControlEnd, RunEnd> {
-        answer_at_desk(
+impl<'c, R: Clock + Wait> Operator<'c, R> {
+    /// Allocates nothing; the memory for lines and replies is allocated when they come.
+    pub fn new(rt: &'c R, alloc: Global, telling: &'c Telling<'c>) -> Operator<'c, R> {
+        Operator {
             rt,
-            self.alloc,
+            telling,
+            lines: OperatorLines::new(alloc),
+            rollbacks: RollbacksFirst { alloc },
+            line: Vec::new(alloc),
+            reply: Vec::new(alloc),
+            asker: None,
+        }
+    }
+
+    /// Waits for the next line of any operator.
+    fn next(&mut self, control: &ControlPort) {
+        self.reply.clear();
+        let asker = control.next(self.rt, self.telling, &self.rollbacks, &mut self.line);
+        self.asker = Some(asker);
+    }
+
+    /// Answers the next line while no book is open.
+    pub fn before_open(&mut self, control: &ControlPort) -> Result<BeforeOpen, RunEnd> {
+        self.next(control);
+        let mut line = self.line.as_slice();
+        let end = answer_before_open(&mut self.lines, &mut line, &mut self.reply);
+        match &end {
+            Ok(BeforeOpen::Open(_)) => {}
+            Ok(BeforeOpen::Quit) => self.tell_order(),
+            Ok(BeforeOpen::End) => self.deliver(control, AfterReply::GoesOn),
+            Ok(BeforeOpen::SpeaksHttp) => self.deliver(control, AfterReply::Closes),
+            Err(_) => self.end(control),
+        }
+        end
+    }
+
+    /// Answers the next line by the book of a desk. Counts those that are refused because the history is full. The ports of a line `down` go to `down`. Returns whether the line is `quit`.
+    fn quits_at_desk<N: Names>(
+        &mut self,
+        alloc: Global,
+        desk: &Desk<N>,
+        control: &ControlPort,
+        down: &DownPorts<R>,
+    ) -> bool {
+        self.next(control);
+        let mut line = self.line.as_slice();
+        let end = answer_at_desk(
+            self.rt,
+            alloc,
             desk,
-            telling.refused_lines(),
+            self.telling.refused_lines(),
+            down,
             &mut self.lines,
-            &mut self.reader,
-            &mut self.writer,
-        )
+            &mut line,
+            &mut self.reply,
+        );
+        match end {
+            Ok(ControlEnd::Quit) => {
+                self.tell_order();
+                return true;
+            }
+            Ok(ControlEnd::End) => self.deliver(control, AfterReply::GoesOn),
+            Ok(ControlEnd::SpeaksHttp) => self.deliver(control, AfterReply::Closes),
+            Err(_) => self.end(control),
+        }
+        false
     }
 
-    /// Writes the answer to an `open`.
-    pub fn say(&mut self, answer: Answer) -> Result<(), RunEnd> {
-        if write_answer(&answer, &mut self.writer).is_err() {
-            return Err(RunEnd::WriteFailed);
-        }
-        match self.writer.flush() {
-            Ok(()) => Ok(()),
-            Err(_) => Err(RunEnd::WriteFailed),
+    /// Answers an `open`.
+    pub fn say(&mut self, control: &ControlPort, answer: &Answer) {
+        self.reply.clear();
+        match write_answer(answer, &mut self.reply) {
+            Ok(()) => self.deliver(control, AfterReply::GoesOn),
+            Err(_) => self.end(control),
         }
     }
 
-    /// Ends the connection, so that the next one gets its turn.
-    pub fn end(&self) {
-        self.writer.get_ref().close();
+    /// Gives the reply to the connection whose line it answers. Tells of the line if it was carried out.
+    fn deliver(&mut self, control: &ControlPort, after: AfterReply) {
+        if self.reply.starts_with(CARRIED_OUT) {
+            self.tell_order();
+        }
+        if let Some(asker) = self.asker.take() {
+            control.reply(self.rt, asker, &self.reply, after, &self.rollbacks);
+        }
+    }
+
+    /// Tells of the line, if it is an order and its user is known.
+    fn tell_order(&self) {
+        let Some(user) = self.asker.and_then(|asker| asker.user()) else {
+            return;
+        };
+        let mut line = self.line.as_slice();
+        if let Ok(Some(read)) = OperatorLines::new(self.rollbacks.alloc).next(&mut line)
+            && is_order(&read)
+        {
+            self.telling.tell_order(user, &self.line);
+        }
+    }
+
+    /// Closes the connection whose line could not be answered.
+    fn end(&mut self, control: &ControlPort) {
+        if let Some(asker) = self.asker.take() {
+            control.end(self.rt, asker);
+        }
     }
 }
 
-/// Answers the operator that opened the book, and then the next ones, up to `quit`. After the end
-/// or a failure of a connection, the next one gets its turn.
+/// Whether a line opens the book, changes the rollout by a decision, or ends the program.
+fn is_order(read: &Result<Command, LineFault>) -> bool
+    ensures { result ≡ is_order read.now }
+{
+    match read {
+        Ok(command) => match command {
+            Command::Control(event) => is_decision(event),
+            Command::Open { .. } | Command::Quit => true,
+            _ => false,
+        },
+        Err(_) => false,
+    }
+}
+
+/// Whether an event is one that somebody decides: each but a moment and a number of available endpoints.
+fn is_decision(event: &Control) -> bool
+    ensures { result ≡ is_decision event.now }
+{
+    !matches!(event, Control::Tick(_) | Control::Available { .. })
+}
+
+/// The lines that go before all others: those that end an attempt, by which services select the stable
+/// revision again.
+#[derive(Drop)]
+struct RollbacksFirst {
+    alloc: Global,
+}
+
+impl LinePriority for RollbacksFirst {
+    fn is_urgent(&self, mut line: &[u8]) -> bool {
+        match OperatorLines::new(self.alloc).next(&mut line) {
+            Ok(Some(read)) => ends_attempt(&read),
+            _ => false,
+        }
+    }
+}
+
+/// Whether a line is an `abort`, or a failed or erroneous verdict.
+fn ends_attempt(read: &Result<Command, LineFault>) -> bool
+    ensures { result ≡ ends_attempt read.now }
+{
+    match read {
+        Ok(command) => match command {
+            Command::Control(event) => is_rollback(event),
+            _ => false,
+        },
+        Err(_) => false,
+    }
+}
+
+/// Whether an event is an abort, or a failed or erroneous verdict.
+fn is_rollback(event: &Control) -> bool
+    ensures { result ≡ is_rollback event.now }
+{
+    match event {
+        Control::Abort => true,
+        Control::Verdict {
+            result: verdict,
+            ..
+        } => is_unsuccessful(*verdict),
+        _ => false,
+    }
+}
+
+fn is_unsuccessful(verdict: AnalysisResult) -> bool
+    ensures { result ≡ is_unsuccessful verdict }
+{
+    match verdict {
+        AnalysisResult::Successful => false,
+        AnalysisResult::Failed | AnalysisResult::Error => true,
+    }
+}
+
+/// Answers the `open` that opened the book, and then the lines of all operators, up to `quit`. The directory, if
+/// there is one, gets the ports of the revisions that exist after each line, before the next one is answered.
 pub fn answer_operators<'a, N: Names, R: Clock + Wait>(
     rt: &'a R,
     alloc: Global,
@@ -92,30 +226,33 @@ pub fn answer_operators<'a, N: Names, R: Clock + Wait>(
     opener: &mut Operator<R>,
     control: &'a ControlPort,
     telling: &'a Telling,
+    directory: Option<&'a Directory>,
 ) {
+    let down = DownPorts {
+        rt,
+        alloc,
+        directory,
+    };
     telling.note_open();
-    let has_quit = opener.say(Answer::Opened).is_ok() && quits(rt, desk, opener, telling);
-    opener.end();
-    if has_quit {
-        return;
-    }
+    update_directory(rt, alloc, desk, directory);
+    opener.say(control, &Answer::Opened);
     for _ in rt.forever() {
         telling.note_entries(desk.entries_used(rt));
-        let connection = control.next(rt, telling);
-        if let Ok(mut operator) = Operator::new(alloc, &connection)
-            && quits(rt, desk, &mut operator, telling)
-        {
+        if opener.quits_at_desk(alloc, desk, control, &down) {
             return;
         }
+        update_directory(rt, alloc, desk, directory);
     }
 }
 
-/// Answers the lines of an operator by the book of a desk. Returns whether they end with `quit`.
-fn quits<N: Names, R: Clock + Wait>(
+/// Gives the directory, if there is one, the ports of the revisions.
+fn update_directory<N: Names, R: Wait>(
     rt: &R,
+    alloc: Global,
     desk: &Desk<N>,
-    operator: &mut Operator<R>,
-    telling: &Telling,
-) -> bool {
-    operator.at_desk(rt, desk, telling) == Ok(ControlEnd::Quit)
+    directory: Option<&Directory>,
+) {
+    if let Some(directory) = directory {
+        update(rt, desk, alloc, directory);
+    }
 }

@@ -1,9 +1,12 @@
 //! The ports at which `serve` listens.
 
-use bg_client_port::{Bounds, ClientPort, most_descriptors, reserved_descriptors};
+use bg_client_port::{
+    Bounds, ClientPort, DescriptorLimits, descriptor_limits, reserved_descriptors,
+};
 use bg_command_line::{Connections, Site};
 use bg_control_port::ControlPort;
 use bg_endpoints::OwnPorts;
+use bg_peers::Users;
 use bg_revisions::Service;
 use std::alloc::Global;
 use std::net::{IpAddr, Ipv4Addr, Net, SocketAddr, TcpListener, TcpStream};
@@ -20,6 +23,9 @@ const CONTROL_DESCRIPTORS: usize = 6;
 const CONTROL_SHARE: usize = 4;
 
 const MOST_WAITING: usize = 1024;
+
+/// A notice says so if a client port may have fewer pending connections.
+const FEW_CONNECTIONS: usize = 64;
 
 /// The port that cannot be bound or set up, and the reason.
 #[derive(Debug, Drop)]
@@ -53,13 +59,15 @@ pub struct Ports {
 
 impl Ports {
     /// Listens at the ports of a site, which are bound in the order active, preview, control.
-    /// `request_seconds` is the timeout of a client's request. The error names the first port that cannot be
+    /// `request_seconds` is the timeout of a client's request. The control port serves the connections of
+    /// `operators`; `None` stands for all users. The error names the first port that cannot be
     /// bound. If all are bound, it names the first one for which another system call or an allocation fails.
     pub fn bind<R: Net<Listener = TcpListener, Stream = TcpStream> + Clock>(
         rt: &R,
         alloc: Global,
         site: &Site,
         request_seconds: u64,
+        operators: Option<Users>,
     ) -> Result<Ports, BindFault> {
         let active = Address::new(service_name(Service::Active), site.active);
         let preview = site
@@ -80,16 +88,17 @@ impl Ports {
         };
         let workers = u64::from(site.workers);
         let active_port = active.judged(clients.port(rt, active_listener, workers))?;
+        let workers = u64::from(site.preview_workers);
         let preview_port = match (preview, preview_listener) {
             (Some(preview), Some(listener)) => {
-                Some(preview.judged(clients.port(rt, listener, 1))?)
+                Some(preview.judged(clients.port(rt, listener, workers))?)
             }
             _ => None,
         };
         Ok(Ports {
             active: active_port,
             preview: preview_port,
-            control: control.judged(ControlPort::new(rt, alloc, control_listener))?,
+            control: control.judged(ControlPort::new(rt, alloc, control_listener, operators))?,
             own: OwnPorts {
                 active: site.active,
                 preview: site.preview,
@@ -156,18 +165,73 @@ impl ClientPorts {
     }
 }
 
+/// The number of workers of the preview port; 0 if there is no such port.
+pub fn preview_workers(site: &Site) -> u32 {
+    match site.preview {
+        Some(_) => u32::from(site.preview_workers),
+        None => 0,
+    }
+}
+
 /// The bounds on what may be pending at each client port.
 fn bounds_of(site: &Site) -> Bounds {
-    let ports = if site.preview.is_some() { 2 } else { 1 };
-    let workers = usize::from(site.workers).saturating_add(1);
-    let descriptors = most_descriptors();
+    let descriptors = descriptor_limits().soft;
+    Bounds::usual(descriptors, reserved_of(site, descriptors), ports_of(site))
+}
+
+/// The number of client ports.
+fn ports_of(site: &Site) -> usize {
+    if site.preview.is_some() { 2 } else { 1 }
+}
+
+/// The number of descriptors that are kept for all but pending connections, if there are so many in all.
+fn reserved_of(site: &Site, descriptors: usize) -> usize {
+    let workers = u32::from(site.workers).saturating_add(preview_workers(site));
     let waiting = (descriptors / CONTROL_SHARE).min(MOST_WAITING);
     let others = CONTROL_DESCRIPTORS.saturating_add(waiting);
-    Bounds::usual(
-        descriptors,
-        reserved_descriptors(ports, workers, others),
-        ports,
-    )
+    reserved_descriptors(ports_of(site), workers as usize, others)
+}
+
+/// That the limit on descriptors leaves few of them to pending connections.
+#[derive(Debug, Drop)]
+pub struct FewDescriptors {
+    limits: DescriptorLimits,
+    /// The number of pending connections that each client port may have.
+    connections: usize,
+    /// The number of descriptors that would be enough.
+    enough: usize,
+}
+
+impl FewDescriptors {
+    /// `None` if each client port may have 64 pending connections or more.
+    pub fn of(site: &Site) -> Option<FewDescriptors> {
+        let limits = descriptor_limits();
+        let connections = bounds_of(site).connections;
+        if connections >= FEW_CONNECTIONS {
+            return None;
+        }
+        let reserved = reserved_of(site, MOST_WAITING.saturating_mul(CONTROL_SHARE));
+        Some(FewDescriptors {
+            limits,
+            connections,
+            enough: Bounds::enough_descriptors(reserved, ports_of(site)),
+        })
+    }
+}
+
+impl fmt::Display for FewDescriptors {
+    fn fmt<W: fmt::Write>(&self, f: &mut fmt::Formatter<W>) -> fmt::Result {
+        let FewDescriptors {
+            limits,
+            connections,
+            enough,
+        } = self;
+        let DescriptorLimits { soft, hard } = limits;
+        write!(
+            f,
+            "ulimit -n is {soft} (hard limit {hard}), so each client port may have {connections} pending connections; {enough} descriptors would be enough"
+        )
+    }
 }
 
 /// The address at which a port is bound.

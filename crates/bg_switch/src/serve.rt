@@ -1,12 +1,15 @@
 //! `serve`: workers at the client ports, and operators at the control port.
 
 use crate::opening::{Scene, await_open};
-use crate::ports::{BindFault, Ports};
+use crate::ports::{BindFault, FewDescriptors, Ports, preview_workers, service_name};
 use crate::telling::Telling;
 use bg_access_log::AccessLog;
 use bg_command_line::{Connections, MessageTimeout, Site};
 use bg_control_port::ControlPort;
+use bg_endpoints::{Directory, Share};
 use bg_operator::{Keeping, tell_reasons};
+use bg_peers::Users;
+use bg_revisions::Service;
 use bg_script::{Finding, RunEnd, finding_of_input, write_finding};
 use std::alloc::Global;
 use std::io;
@@ -16,9 +19,19 @@ use std::sync::Wait;
 use std::thread::Threads;
 use std::time::Clock;
 
+/// What the environment sets.
+#[derive(Drop)]
+pub struct Settings<'l> {
+    /// The timeout within which a request or a response has to be complete.
+    pub timeout: MessageTimeout,
+    /// The log of ended connections.
+    pub log: Option<&'l AccessLog>,
+    /// The users whose connections the control port serves; `None` stands for all users.
+    pub operators: Option<Users>,
+}
+
 /// Reads the whole input as the JSON text of a strategy, and serves clients by this strategy and by the
-/// lines of operators. A request and a response each have to be complete within the timeout. If there is a
-/// log, each ended connection is logged. Returns the exit status: 1 if the strategy has a fault or a port
+/// lines of operators. Returns the exit status: 1 if the strategy has a fault or a port
 /// cannot be bound, for which it writes a line, and otherwise 0. The error is `ReadFailed` or `OutOfMemory`
 /// if the strategy cannot be read, and `WriteFailed` if a write to `output` fails.
 ///
@@ -33,8 +46,7 @@ pub fn serve<R, I: Read, W: Write, E: Write>(
     rt: &R,
     alloc: Global,
     site: Site,
-    timeout: MessageTimeout,
-    log: Option<&AccessLog>,
+    settings: Settings,
     input: &mut Keeping<I>,
     output: &mut W,
     errors: &mut E,
@@ -42,6 +54,11 @@ pub fn serve<R, I: Read, W: Write, E: Write>(
 where
     R: Net<Listener = TcpListener, Stream = TcpStream> + Threads + Wait + Clock + Sync,
 {
+    let Settings {
+        timeout,
+        log,
+        operators,
+    } = settings;
     let finding = finding_of_input(alloc, input)?;
     if let Some(text) = input.take_kept() {
         let _ = tell_reasons(alloc, &text, errors);
@@ -53,7 +70,8 @@ where
     if site.preview.is_some() && strategy.preview_service.is_none() {
         tell_useless_preview(errors);
     }
-    let ports = match Ports::bind(rt, alloc, &site, timeout.seconds()) {
+    tell_few_descriptors(&site, errors);
+    let ports = match Ports::bind(rt, alloc, &site, timeout.seconds(), operators) {
         Ok(ports) => ports,
         Err(fault) => {
             tell_bind_fault(&fault, errors);
@@ -62,19 +80,25 @@ where
         }
     };
     written(tell_listening(output))?;
-    let telling = Telling::new(alloc, &ports, &site);
+    let telling = Telling::new(alloc, &ports, &site, log);
+    let previews = preview_workers(&site);
+    let seats = u32::from(site.workers).saturating_add(previews);
+    let directory = directory_of(rt, alloc, &site, seats);
     let scene = Scene {
         alloc,
         strategy,
         ports: &ports,
-        seats: u32::from(site.workers) + u32::from(site.preview.is_some()),
+        seats,
+        previews,
         count: most_connections(site.connections),
         shuts_down: site.connections == Connections::Forever,
         timeout,
         log,
+        directory: directory.as_ref(),
         telling: &telling,
     };
     serve_at(rt, &scene, &ports.control, output)?;
+    tell_cut_responses(rt, &ports, errors);
     Ok(0)
 }
 
@@ -99,12 +123,55 @@ fn most_connections(connections: Connections) -> u64 {
     }
 }
 
+/// The directory of endpoints of a switch that forwards so many requests at a time; `None` without
+/// `--redispatch`.
+fn directory_of<R: Clock>(
+    rt: &R,
+    alloc: Global,
+    site: &Site,
+    concurrency: u32,
+) -> Option<Directory> {
+    if !site.redispatch {
+        return None;
+    }
+    let share = Share {
+        given: site.endpoint_limit,
+        concurrency,
+    };
+    Some(Directory::new(rt, alloc, share))
+}
+
 /// Writes the notice that the preview port has no effect.
 fn tell_useless_preview<E: Write>(errors: &mut E) {
     let _ = writeln!(
         errors,
         "bg_switch: the strategy has no previewService: requests at the preview port are answered 503"
     );
+}
+
+/// Writes that the limit on descriptors leaves few of them to pending connections, if it does.
+fn tell_few_descriptors<E: Write>(site: &Site, errors: &mut E) {
+    if let Some(few) = FewDescriptors::of(site) {
+        let _ = writeln!(errors, "bg_switch: {few}");
+    }
+}
+
+/// Writes how many responses were cut at each client port, if any were.
+fn tell_cut_responses<R: Wait, E: Write>(rt: &R, ports: &Ports, errors: &mut E) {
+    for service in [Service::Active, Service::Preview] {
+        if let Some(port) = ports.of(service) {
+            let cut = port.take_cut_responses(rt);
+            if cut.responses > 0 {
+                let _ = writeln!(
+                    errors,
+                    "bg_switch: responses of the {} port that were cut: {}, bytes that were not written: {}",
+                    service_name(service),
+                    cut.responses,
+                    cut.bytes
+                );
+            }
+        }
+    }
 }
 
 /// Writes which port cannot be bound, and why.

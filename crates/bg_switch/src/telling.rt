@@ -1,6 +1,7 @@
 //! The notices that are written to standard error while the ports are open.
 
 use crate::ports::{Ports, service_name};
+use bg_access_log::{AccessLog, LogTrouble};
 use bg_book::Limits;
 use bg_client_port::ClientPort;
 use bg_command_line::Site;
@@ -48,6 +49,21 @@ enum Notice<'a> {
         lines: u64,
         requests: u64,
     },
+    /// What the user with this number has ordered.
+    Ordered {
+        user: u32,
+        line: &'a str,
+    },
+    /// The number of connections of other users since the last such notice.
+    TurnedAway {
+        connections: u64,
+    },
+    LogTakesNothing {
+        reason: &'a io::Error,
+    },
+    LogLinesLost {
+        lost: u64,
+    },
 }
 
 impl fmt::Display for Notice<'_> {
@@ -77,6 +93,16 @@ impl fmt::Display for Notice<'_> {
                 f,
                 "the history is full; lines refused: {lines}, requests refused: {requests}"
             ),
+            Notice::Ordered { user, line } => write!(f, "user {user}: {line}"),
+            Notice::TurnedAway { connections } => write!(
+                f,
+                "connections at the control port that are not of the users of BG_SWITCH_OPERATORS: {connections}"
+            ),
+            Notice::LogTakesNothing { reason } => write!(
+                f,
+                "the access log takes nothing: {reason}; its lines wait, and then are lost"
+            ),
+            Notice::LogLinesLost { lost } => write!(f, "the access log: lines lost: {lost}"),
         }
     }
 }
@@ -102,16 +128,19 @@ impl Told {
 
 /// Writes notices to standard error while the ports are open: fewer threads than ordered, failed
 /// accepts, a port that is closed because its workers have taken all their connections, a history that is
-/// nearly full, and lines and requests that are refused because it is full. Each is written once, or once
-/// for each client port, with two exceptions. Failed accepts at the control port are told once for each
-/// series of failures. The last notice is written each second in which something was refused. A failed
-/// write changes nothing else.
+/// nearly full, lines and requests that are refused because it is full, an access log that takes nothing
+/// or has lost lines, and, if only listed users are served, their orders and the connections of others. Each is
+/// written once, or once for each client port, with these exceptions. Failed accepts at the control port, and a log
+/// that takes nothing, are told once for each series of failures. Refusals, and connections of others, are told each
+/// second in which something was refused. Each order is told. A failed write changes nothing else.
 #[derive(Drop)]
 pub struct Telling<'p> {
     alloc: Global,
     ports: &'p Ports,
-    /// The number of workers of the active service.
+    log: Option<&'p AccessLog>,
+    /// The number of workers of the active service, and of the preview service.
     workers: usize,
+    preview_workers: usize,
     of_active: Told,
     of_preview: Told,
     is_open: AtomicBool,
@@ -122,15 +151,24 @@ pub struct Telling<'p> {
     refused_lines: AtomicU64,
     /// The number of such requests.
     refused_requests: AtomicU64,
+    /// The number of connections that were turned away at the control port, since the last notice about that.
+    turned_away: AtomicU64,
 }
 
 impl<'p> Telling<'p> {
     /// No notice was written yet, and no book is open.
-    pub fn new(alloc: Global, ports: &'p Ports, site: &Site) -> Telling<'p> {
+    pub fn new(
+        alloc: Global,
+        ports: &'p Ports,
+        site: &Site,
+        log: Option<&'p AccessLog>,
+    ) -> Telling<'p> {
         Telling {
             alloc,
             ports,
+            log,
             workers: usize::from(site.workers),
+            preview_workers: usize::from(site.preview_workers),
             of_active: Told::new(),
             of_preview: Told::new(),
             is_open: AtomicBool::new(false),
@@ -138,6 +176,7 @@ impl<'p> Telling<'p> {
             nearly_full: AtomicBool::new(false),
             refused_lines: AtomicU64::new(0),
             refused_requests: AtomicU64::new(0),
+            turned_away: AtomicU64::new(0),
         }
     }
 
@@ -175,6 +214,39 @@ impl<'p> Telling<'p> {
         }
     }
 
+    /// Tells of the access log: that its file takes nothing, once for each series of failed writes, and how many lines
+    /// were lost.
+    pub fn tell_log(&self) {
+        match self.log {
+            Some(log) => match log.take_trouble() {
+                Some(LogTrouble::TakesNothing(reason)) => self.tell(&Notice::LogTakesNothing {
+                    reason: &reason,
+                }),
+                Some(LogTrouble::LinesLost(lost)) => self.tell(&Notice::LogLinesLost { lost }),
+                None => {}
+            },
+            None => {}
+        }
+    }
+
+    /// Tells whose order was carried out: the line of an operator, and the number of its user.
+    pub fn tell_order(&self, user: u32, line: &[u8]) {
+        if let Ok(line) = str::from_utf8(line) {
+            self.tell(&Notice::Ordered {
+                user,
+                line: line.trim_end(),
+            });
+        }
+    }
+
+    /// Tells how many connections were turned away, if any were since the last call.
+    fn tell_turned_away(&self) {
+        let connections = self.turned_away.swap(0, Ordering::SeqCst);
+        if connections > 0 {
+            self.tell(&Notice::TurnedAway { connections });
+        }
+    }
+
     /// Checks a client port.
     fn look_at(&self, service: Service, is_late: bool) {
         let Some(port) = self.ports.of(service) else {
@@ -198,7 +270,7 @@ impl<'p> Telling<'p> {
         let told = self.told_of(service);
         let ordered = match service {
             Service::Active => self.workers,
-            Service::Preview => 1,
+            Service::Preview => self.preview_workers,
         };
         let begun = client_port.workers_begun();
         if begun < ordered {
@@ -223,6 +295,14 @@ impl<'p> Telling<'p> {
         }
     }
 
+    /// Whether the writer of the access log writes the line, since both go to standard error.
+    fn hands_over(&self, line: &[u8]) -> bool {
+        match self.log {
+            Some(log) => log.hand_over(line),
+            None => false,
+        }
+    }
+
     fn tell_once(&self, is_told: &AtomicBool, notice: &Notice) {
         if !is_told.swap(true, Ordering::SeqCst) {
             self.tell(notice);
@@ -233,7 +313,10 @@ impl<'p> Telling<'p> {
     /// served by this thread, and do not wait for whoever reads it.
     fn tell(&self, notice: &Notice) {
         let mut line = Vec::new(self.alloc);
-        if writeln!(line, "bg_switch: {notice}").is_ok() && takes_a_line() {
+        if writeln!(line, "bg_switch: {notice}").is_err() || self.hands_over(&line) {
+            return;
+        }
+        if takes_a_line() {
             let _ = libc::write(STDERR_FILENO, &line);
         }
     }
@@ -254,7 +337,12 @@ impl ControlEvents for Telling<'_> {
         self.tell(&Notice::ControlAcceptsFail { reason });
     }
 
+    fn turned_away(&self, connections: u64) {
+        self.turned_away.fetch_add(connections, Ordering::SeqCst);
+    }
+
     fn second_passed(&self) {
+        self.tell_turned_away();
         if !self.is_open.load(Ordering::SeqCst) {
             return;
         }
@@ -263,5 +351,6 @@ impl ControlEvents for Telling<'_> {
         self.look_at(Service::Active, is_late);
         self.look_at(Service::Preview, is_late);
         self.tell_refusals();
+        self.tell_log();
     }
 }

@@ -21,22 +21,18 @@ use std::sync::Wait;
 use std::thread::{Threads, join_mut};
 use std::time::Clock;
 
-/// The service of each of this many workers. The worker of the preview service comes last. If no
-/// threads can be started, it takes its connections first, because std then serves the seats from the
-/// last one on.
-pub fn services_of(alloc: Global, seats: u32, has_preview: bool) -> Result<Vec<Service>, AllocError>
-    ensures len { IfOk result (λ services. length services.items ≡ seats) }
-    ensures each { IfOk result (λ services. services.items ≡ services_in seats has_preview) }
+/// The service of each of this many workers. The last `previews` of them serve the preview service. If the
+/// system refuses threads, std serves the seats of a thread from the last one on, so the last worker
+/// always runs.
+pub fn services_of(alloc: Global, workers: u32, previews: u32) -> Result<Vec<Service>, AllocError>
+    ensures len { IfOk result (λ services. length services.items ≡ workers) }
+    ensures each { IfOk result (λ services. services.items ≡ services_in workers previews) }
 {
-    let actives = if has_preview {
-        seats.saturating_sub(1)
-    } else {
-        seats
-    };
+    let previews = previews.min(workers);
+    let actives = workers - previews;
     let mut services = vec![in alloc; Service::Active; actives as usize]?;
-    if actives < seats {
-        services.push(Service::Preview)?;
-    }
+    let mut others = vec![in alloc; Service::Preview; previews as usize]?;
+    services.append(&mut others)?;
     Ok(services)
 }
 
@@ -61,6 +57,7 @@ where
     let shuts_down = scene.shuts_down;
     let ports = scene.ports;
     let telling = scene.telling;
+    let directory = scene.directory;
     join_mut(
         rt,
         &mut ||
@@ -68,7 +65,7 @@ where
             ensures { AllWorked count seats.entry.now seats.exit.now }
         { work_beside_log(rt, scene, desk, services, seats, count) },
         &mut || {
-            answer_operators(rt, scene.alloc, desk, operator, control, telling);
+            answer_operators(rt, scene.alloc, desk, operator, control, telling, directory);
             control.close(rt);
             if shuts_down {
                 ports.close_client_ports(rt);
@@ -150,8 +147,16 @@ where
     ensures { AllWorked count seats.old seats.new }
 {
     let desk_gate = DeskGate::new(rt, desk);
-    let clients = Clients::new(rt, scene.alloc, scene.ports, scene.log, scene.telling);
-    let endpoints = Endpoints::new(rt, scene.ports.own, response_timeout(scene.timeout));
+    let clients = Clients::new(
+        rt,
+        scene.alloc,
+        scene.ports,
+        scene.log,
+        scene.telling,
+        scene.directory.is_some(),
+    );
+    let timeout = response_timeout(scene.timeout);
+    let endpoints = Endpoints::new(rt, scene.ports.own, timeout, scene.directory);
     run_workers(
         rt,
         scene.alloc,

@@ -1,0 +1,20 @@
+-- Which lines of operators are orders.
+use Rattle.std.specs.Prelude.{Bool, true, false, Result, Ok}
+use Rattle.bg_operator.specs.declared.command.Command.{Command}
+use Rattle.bg_operator.specs.declared.command.Command.TheVariants.{Control, Open, Quit}
+use Rattle.bg_operator.specs.declared.line_fault.LineFault.{LineFault}
+use Rattle.bg_rollout.specs.declared.control.Control.{Control as Event}
+use Rattle.bg_rollout.specs.declared.control.Control.TheVariants.{Available, Tick}
+
+-- an event that somebody decides: each but a moment and a number of available endpoints
+abbrev pub is_decision : Event → Bool
+is_decision (Tick moment) = false
+is_decision (Available revision size) = false
+is_decision _ = true
+
+-- whether a line opens the book, changes the rollout by a decision, or ends the program
+abbrev pub is_order : Result Command LineFault → Bool
+is_order (Ok (Control event)) = is_decision event
+is_order (Ok (Open name ports)) = true
+is_order (Ok Quit) = true
+is_order _ = false
