@@ -2,5 +2,6 @@
 
 mod compaction;
 mod limits;
+mod many_seats;
 mod runs;
 pub(crate) mod samples;

@@ -3,6 +3,7 @@
 mod calls;
 mod cut;
 mod gathering;
+mod many_seats;
 pub(crate) mod rows;
 pub(crate) mod scripts;
 mod threads;

@@ -1,7 +1,7 @@
 //! Clients, an endpoint and a gate.
 
 use bg_book::{EnterFault, GoOn, Left, Ticket};
-use bg_forward::{ClientStream, Dial, Gate};
+use bg_forward::{ClientStream, Dial, Dialled, Gate};
 use bg_http::Duplex;
 use bg_ledger::{Names, Seat};
 use bg_revisions::Service;
@@ -257,16 +257,17 @@ impl Drop for Upstream<'_> {
 impl<'a> Dial for Endpoint<'a> {
     type Stream = Upstream<'a>;
 
-    fn dial(&self, port: u16) -> io::Result<Upstream<'a>> {
+    fn dial(&self, port: u16) -> Dialled<Upstream<'a>> {
         self.seen.dialled.fetch_add(1, Ordering::SeqCst);
         if port != self.port {
-            return Err(io::Error::from(ErrorKind::ConnectionRefused));
+            return Dialled::once(port, Err(io::Error::from(ErrorKind::ConnectionRefused)));
         }
-        Ok(Upstream {
+        let upstream = Upstream {
             stream: FakeStream::new(self.alloc, self.answer, self.pace),
             wanted: self.wanted,
             seen: self.seen,
-        })
+        };
+        Dialled::once(port, Ok(upstream))
     }
 }
 

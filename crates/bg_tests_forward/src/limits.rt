@@ -11,7 +11,7 @@ use crate::messages::{CHUNKS, GET};
 use crate::ports::{Counts, Ports, Turn, Uses};
 use crate::samples::strategy;
 use bg_book::{Desk, Limits, laws as book_laws};
-use bg_forward::{DeskGate, Dial, run_workers};
+use bg_forward::{DeskGate, Dial, Dialled, run_workers};
 use bg_ledger::{Blanks, Names, Seat};
 use bg_revisions::Service;
 use std::alloc::Global;
@@ -30,8 +30,9 @@ struct Endpoint {
 impl Dial for Endpoint {
     type Stream = FakeStream<'static>;
 
-    fn dial(&self, _port: u16) -> io::Result<FakeStream<'static>> {
-        Ok(FakeStream::new(self.alloc, CHUNKS.as_bytes(), Pace::steady()))
+    fn dial(&self, port: u16) -> Dialled<FakeStream<'static>> {
+        let stream = FakeStream::new(self.alloc, CHUNKS.as_bytes(), Pace::steady());
+        Dialled::once(port, Ok(stream))
     }
 }
 

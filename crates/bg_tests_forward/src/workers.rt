@@ -9,7 +9,7 @@ use crate::fakes::{FakeStream, Pace};
 use crate::messages::{CHUNKS, CHUNKS_ON, GET};
 use crate::samples::strategy;
 use bg_book::{Control, Desk, EnterFault, GoOn, Left, Limits, Ticket, laws as book_laws};
-use bg_forward::{Accept, ClientStream, DeskGate, Dial, Gate, Served, run_workers};
+use bg_forward::{Accept, ClientStream, DeskGate, Dial, Dialled, Gate, Served, run_workers};
 use bg_http::Duplex;
 use bg_ledger::{Blanks, Names, Seat};
 use bg_revisions::Service;
@@ -181,13 +181,14 @@ impl Write for Upstream<'_> {
 impl<'a> Dial for Endpoint<'a> {
     type Stream = Upstream<'a>;
 
-    fn dial(&self, _port: u16) -> io::Result<Upstream<'a>> {
+    fn dial(&self, port: u16) -> Dialled<Upstream<'a>> {
         let before = self.course.dialled.fetch_add(1, Ordering::SeqCst);
-        Ok(Upstream {
+        let upstream = Upstream {
             stream: FakeStream::new(self.alloc, CHUNKS.as_bytes(), Pace::steady()),
             waits: before == 0,
             course: self.course,
-        })
+        };
+        Dialled::once(port, Ok(upstream))
     }
 }
 

@@ -23,7 +23,7 @@ pub fn available() -> Control {
     }
 }
 
-/// A book and its eight seats. It cannot be dropped: it ends in [`Desk::close`].
+/// A book and its seats, eight or more. It cannot be dropped: it ends in [`Desk::close`].
 pub struct Desk<N: Names> {
     opened: OpenBook<N>,
 }
@@ -37,6 +37,24 @@ impl<N: Names> Desk<N> {
         let ports = [9001, 9002];
         let usual = Limits::usual();
         let opened = OpenBook::open(alloc, strategy, "v1", &ports, 8, usual, blanks)?;
+        Ok(Desk { opened })
+    }
+
+    /// Opens a book of this many seats.
+    pub fn open_with_many_seats(
+        alloc: Global,
+        strategy: &Strategy,
+        seats: u32,
+        blanks: Blanks,
+    ) -> Result<Desk<N>, Stop>
+        requires blanks { AreAllFor N.Names blanks }
+        requires seats { N.seats ≡ seats }
+    {
+        let ports = [9001, 9002];
+        let usual = Limits::usual();
+        let opened = OpenBook::open_with_many_seats(
+            alloc, strategy, "v1", &ports, seats, usual, blanks,
+        )?;
         Ok(Desk { opened })
     }
 
@@ -59,8 +77,15 @@ impl<N: Names> Desk<N> {
         self.call(&Call::Leave { seat: place })
     }
 
+    /// Writes the moment, the number of open requests of revision 1, and the number of entries in use.
+    pub fn write_summary<W: fmt::Write>(&self, f: &mut fmt::Formatter<W>) -> fmt::Result {
+        let book = self.opened.book();
+        let (moment, open, used) = (book.moment(), book.open_count(1), book.entries_used());
+        write!(f, "moment {moment} open {open} used {used}")
+    }
+
     /// Makes a call.
-    fn call(&mut self, call: &Call) -> Result<(), Stop> {
+    pub fn call(&mut self, call: &Call) -> Result<(), Stop> {
         Stop::unless_done(&self.opened.call(call))
     }
 

@@ -11,7 +11,7 @@ use crate::state::State;
 use crate::stop::Stop;
 use crate::strategies::base_strategy;
 use bg_book::{Book, Desk, EnterFault, GoOn, Left, Limits, Question, Ticket, laws as book_laws};
-use bg_forward::{DeskGate, Dial, End, Exchange, Gate, serve_in_memory};
+use bg_forward::{DeskGate, Dial, Dialled, End, Exchange, Gate, serve_in_memory};
 use bg_ledger::{Blanks, Names, Seat};
 use bg_revisions::Service;
 use bg_rollout::{MOST_ENTRIES, PLACES_OF_A_REQUEST};
@@ -69,10 +69,11 @@ struct Endpoint;
 impl Dial for Endpoint {
     type Stream = InputStream<'static>;
 
-    fn dial(&self, _port: u16) -> io::Result<InputStream<'static>> {
-        Ok(InputStream {
+    fn dial(&self, port: u16) -> Dialled<InputStream<'static>> {
+        let stream = InputStream {
             input: RESPONSE.as_bytes(),
-        })
+        };
+        Dialled::once(port, Ok(stream))
     }
 }
 

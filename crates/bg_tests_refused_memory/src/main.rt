@@ -15,6 +15,7 @@ mod each_growth;
 mod forwarding;
 mod histories;
 mod input_stream;
+mod many_seats;
 mod messages;
 mod open_lists;
 mod page;
@@ -34,6 +35,7 @@ fn main(rt: HostRuntime) -> Result<(), Stop> {
     audits::make_calls(&rt)?;
     open_lists::make_calls(&rt)?;
     desks::make_calls(&rt)?;
+    many_seats::make_calls(&rt)?;
     rooms::make_calls(&rt)?;
     each_growth::make_calls(&rt)?;
     messages::make_calls(&rt)?;

@@ -115,7 +115,9 @@ fn play<P: Player>(
             Command::Leave { seat } => reply(&player.call(&Call::Leave { seat }), answers)?,
             Command::Report => player.report(answers)?,
             Command::Compact => writeln!(answers, "compacted {}", player.compact())?,
-            Command::Open { .. } | Command::Quit => return Err(LineFault::UnknownWord.into()),
+            Command::Open { .. } | Command::Down { .. } | Command::Quit => {
+                return Err(LineFault::UnknownWord.into());
+            }
         }
     }
     Ok(())

@@ -69,7 +69,7 @@ fn tick<N: Names, R: Wait>(rt: &R, desk: &Desk<N>) {
 }
 
 /// Serves the seats, and makes the ticks in parallel.
-fn work_and_tick<N: Names + Send + Sync, R: Threads + Wait + Sync>(
+pub(super) fn work_and_tick<N: Names + Send + Sync, R: Threads + Wait + Sync>(
     rt: &R,
     desk: &Desk<N>,
     seats: &mut [Seat<N>],

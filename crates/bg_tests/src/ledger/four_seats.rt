@@ -1,5 +1,5 @@
-//! The intended use of the crate: new ledgers, a function over `Names` that pairs four seats, uses them from two
-//! threads and reunites them, and a caller that names the ledgers.
+//! The intended use of the crate: new tokens, a function over `Names` that pairs four seats, uses them from two
+//! threads and reunites them, and a caller that picks their names.
 ghost use Rattle.std.specs.Prelude.{◌≡◌, ◌<◌, ◌+◌, ◌*◌, ◌^◌, [], ◌∷◌};
 ghost use Rattle.bg_ledger.specs.Blanks.{AreAllFor};
 ghost use Rattle.bg_ledger.specs.Holdings.{fresh, after_enter, after_leave};
@@ -119,10 +119,11 @@ fn work_four_seats<N: Names + Send + Sync, R: Threads + Wait + Sync>(
     requires seats { N.seats ≡ 4 }
     ensures { result ≡ (2 * few) ∷ (2 * few) ∷ (2 * many) ∷ (2 * many) ∷ [] }
 {
-    let (first_record, first) = pair::<N>(0, blanks.first);
-    let (second_record, second) = pair::<N>(1, blanks.second);
-    let (third_record, third) = pair::<N>(2, blanks.third);
-    let (fourth_record, fourth) = pair::<N>(3, blanks.fourth);
+    let mut blanks = blanks;
+    let (first_record, first) = pair::<N>(0, &mut blanks);
+    let (second_record, second) = pair::<N>(1, &mut blanks);
+    let (third_record, third) = pair::<N>(2, &mut blanks);
+    let (fourth_record, fourth) = pair::<N>(3, &mut blanks);
     let records = Mutex::new(Records {
         first: first_record,
         second: second_record,

@@ -75,22 +75,22 @@ fn drop_once(rt: HostRuntime) -> Result<(), Fail> {
 
 #[test]
 fn links_as_many_nodes_as_there_may_be(rt: HostRuntime) -> Result<(), Fail> {
-    let mut lists = OpenLists::new(rt.alloc(), 256)?;
-    for node in 0..256 {
+    let mut lists = OpenLists::new(rt.alloc(), 2048)?;
+    for node in 0..2048 {
         put(&rt, &mut lists, 63, node, node as u64);
     }
-    assert_eq!(rt; lists.len(63), 256);
+    assert_eq!(rt; lists.len(63), 2048);
     assert_eq!(rt; take(&rt, &mut lists, 0), 0);
-    assert_eq!(rt; take(&rt, &mut lists, 255), 255);
+    assert_eq!(rt; take(&rt, &mut lists, 2047), 2047);
     let mut kept = Vec::new(rt.alloc());
-    for node in 1..255 {
+    for node in 1..2047 {
         if node % 2 == 1 {
             assert_eq!(rt; take(&rt, &mut lists, node), node as u64);
         } else {
             kept.push((node, node as u64))?;
         }
     }
-    assert_eq!(rt; kept.len(), 127);
+    assert_eq!(rt; kept.len(), 1023);
     assert!(rt; holds(&lists, 63, &kept));
     Ok(())
 }

@@ -8,18 +8,20 @@ use crate::script::streams::Unflushed;
 use bg_book::{Book, Desk, Limits};
 use bg_ledger::{Blanks, Names};
 use bg_operator::OperatorLines;
-use bg_script::{BeforeOpen, ControlEnd, RunEnd, answer_at_desk, answer_before_open};
-use std::alloc::Global;
+use bg_script::{BeforeOpen, ControlEnd, MarksDown, RunEnd, answer_at_desk, answer_before_open};
+use std::alloc::{AllocError, Global};
+use std::cell::RefCell;
+use std::io::Write;
 use std::marker::Brand;
 use std::sync::Wait;
 use std::sync::atomic::{AtomicU64, Ordering};
 use std::test::Fail;
 
 const BEFORE: &str =
-    "tick 1\nenter 0 active\nleave 0\njump\nreport\nopen\nopen v1 9001 9002\ntick 2\n";
+    "tick 1\nenter 0 active\nleave 0\njump\nreport\ndown 9001\ndown\nopen\nopen v1 9001 9002\ntick 2\n";
 
 const BEFORE_ANSWERS: &str =
-    "refused NotOpen\nrefused NotHere\nrefused NotHere\nfault UnknownWord\nrefused NotOpen\nfault WrongCount\n";
+    "refused NotOpen\nrefused NotHere\nrefused NotHere\nfault UnknownWord\nrefused NotOpen\nrefused NotOpen\nrefused NotOpen\nfault WrongCount\n";
 
 const AT_DESK: &str =
     "open v1 9001 9002\nenter 0 active\nleave 0\navailable 1 2\ntick 3\ntick 2\ntick\nreport\r\nquit now\nquit\nreport\n";
@@ -45,6 +47,15 @@ const AT_FULL_DESK: &str =
 const AT_FULL_DESK_ANSWERS: &str =
     "ok 0\nok 0\nok 0\nok 0\ncompacted 1\nok 0\nrefused HistoryFull\n";
 
+const DOWN: &str =
+    "down 9001 9002\ndown 9002 9001 9002\ndown 9001 0\ndown 9001 65536\ndown 9002\ndown 9001 7\ndown x 9001\ndown\ndown 65535 1\n";
+
+const DOWN_ANSWERS: &str =
+    "ok 2\nrefused BadPorts\nrefused BadPorts\nfault BadNumber\nok 1\nrefused OutOfMemory\nfault BadNumber\nok 0\nok 2\n";
+
+/// The ports of each line that is carried out.
+const DOWN_PORTS: &str = "[9001, 9002]\n[9002]\n[]\n[65535, 1]\n";
+
 #[test]
 fn leaves_an_open_to_the_caller(rt: HostRuntime) -> Result<(), Fail> {
     let mut reader = BEFORE.as_bytes();
@@ -62,12 +73,33 @@ fn leaves_an_open_to_the_caller(rt: HostRuntime) -> Result<(), Fail> {
     Ok(())
 }
 
-/// How the lines ended, the answers to them, and how many were refused because the history is full.
+/// How the lines ended, the answers to them, how many were refused because the history is full, the ports of each
+/// line `down`, and the number of entries of the history.
 #[derive(Drop)]
 struct Answered {
     end: Result<ControlEnd, RunEnd>,
     answers: Vec<u8>,
     refused_for_room: u64,
+    down: Vec<u8>,
+    entries: u64,
+}
+
+/// Writes the ports of each call, in a line of its own. A call with the port 7 fails.
+#[derive(Drop)]
+struct Written {
+    text: RefCell<Vec<u8>>,
+}
+
+impl MarksDown for Written {
+    fn set_down(&self, ports: &[u16]) -> Result<(), AllocError> {
+        let Ok(mut text) = self.text.try_borrow_mut() else {
+            return Err(AllocError);
+        };
+        if ports.contains(&7) {
+            return Err(AllocError);
+        }
+        writeln!(text, "{ports:?}").map_err(|_| AllocError)
+    }
 }
 
 fn answer<N: Names, R: Wait>(
@@ -86,13 +118,27 @@ fn answer<N: Names, R: Wait>(
     let (book, seats) = Book::<N>::open(alloc, &strategy, "v1", &[9001, 9002], 1, limits, blanks)?;
     let desk = Desk::new(book);
     let refused = AtomicU64::new(0);
-    let end = answer_at_desk(rt, alloc, &desk, &refused, &mut taken, lines, &mut answers);
+    let written = Written {
+        text: RefCell::new(Vec::new(alloc)),
+    };
+    let end = answer_at_desk(
+        rt,
+        alloc,
+        &desk,
+        &refused,
+        &written,
+        &mut taken,
+        lines,
+        &mut answers,
+    );
     let history = desk.into_book().close(seats);
     expect_audited(alloc, &history, &strategy)?;
     Ok(Answered {
         end,
         answers,
         refused_for_room: refused.load(Ordering::SeqCst),
+        down: written.text.into_inner(),
+        entries: history.len(),
     })
 }
 
@@ -146,6 +192,33 @@ fn compacts_a_full_history_and_asks_again(rt: HostRuntime) -> Result<(), Fail> {
         AT_FULL_DESK_ANSWERS.as_bytes()
     );
     assert_eq!(rt; answered.refused_for_room, 1);
+    Ok(())
+}
+
+/// The receiver gets the ports of each line that is carried out, and no others. The history does not change.
+#[test]
+fn hands_over_the_ports_that_are_down(rt: HostRuntime) -> Result<(), Fail> {
+    let none = answer_lines(&rt, rt.alloc(), &mut "".as_bytes())?;
+    let answered = answer_lines(&rt, rt.alloc(), &mut DOWN.as_bytes())?;
+    assert_eq!(rt; answered.end, Ok(ControlEnd::End));
+    assert_eq!(rt; answered.answers.as_slice(), DOWN_ANSWERS.as_bytes());
+    assert_eq!(rt; answered.down.as_slice(), DOWN_PORTS.as_bytes());
+    assert_eq!(rt; answered.entries, none.entries);
+    assert!(rt; none.down.is_empty());
+    Ok(())
+}
+
+/// A line of 4,096 bytes has room for 682 ports of five digits.
+#[test]
+fn hands_over_as_many_ports_as_a_line_can_name(rt: HostRuntime) -> Result<(), Fail> {
+    let mut line = Vec::new(rt.alloc());
+    write!(line, "down")?;
+    for port in 10000..10682u16 {
+        write!(line, " {port}")?;
+    }
+    assert_eq!(rt; line.len(), 4096);
+    let answered = answer_lines(&rt, rt.alloc(), &mut line.as_slice())?;
+    assert_eq!(rt; answered.answers.as_slice(), b"ok 682\n".as_slice());
     Ok(())
 }
 
