@@ -4,7 +4,7 @@
 set -eu
 cd "$(dirname -- "$0")"
 # What a run before this one remembers.
-rm -f plan.json.state plan.json.state.copy
+rm -f plan.json.state*
 pages=$(mktemp -d)
 started=
 end() {

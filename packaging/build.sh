@@ -1,0 +1,149 @@
+#!/bin/sh
+# Makes the package of the program and its tools, from the built program (or the one that BG_SWITCH_PROGRAM names):
+#   packaging/build.sh version        prints the version
+#   packaging/build.sh stage FOLDER   puts the files of the package into FOLDER, which is new, as they lie below /; without the
+#                                     completions and the manual pages of bgctl
+#   packaging/build.sh dist           makes out/bg-switch-VERSION-linux-ARCHITECTURE.tar.gz of them
+#   packaging/build.sh deb            makes out/bg-switch_VERSION_ARCHITECTURE.deb of them
+# `deb` needs Debian's dpkg-dev and debhelper.
+set -eu
+cd "$(dirname -- "$0")/.."
+umask 022
+program=${BG_SWITCH_PROGRAM:-crates/bg_switch/out/bg_switch}
+archive=usr/share/bg-switch/bg_switch_tools.pyz
+
+fail() {
+    echo "packaging: $*" >&2
+    exit 1
+}
+
+# The version is that of the program's source.
+version() {
+    found=$(sed -n 's/^const VERSION: &str = "\([0-9.]*\)";$/\1/p' crates/bg_command_line/src/command_line.rt)
+    [ -n "$found" ] || fail 'crates/bg_command_line/src/command_line.rt has no VERSION'
+    echo "$found"
+}
+
+# architecture: Debian's name of it, as dpkg-dev gives it, and else the kernel's name.
+architecture() {
+    dpkg --print-architecture 2> /dev/null || uname -m
+}
+
+# put MODE FILE PLACE: copies a file to its place in the folder.
+put() {
+    install -D -m "$1" -- "$2" "$root/$3"
+}
+
+put_program() {
+    [ -x "$program" ] || fail "there is no program $program: make build"
+    printed=$("$program" --version) || fail "$program --version fails"
+    [ "$printed" = "bg_switch $(version)" ] || fail "$program is $printed, and the sources are $(version): make build"
+    put 755 "$program" usr/bin/bg_switch
+    # a script can stand in for the program
+    if head -c 4 "$program" | grep -q ELF; then
+        strip --strip-all "$root/usr/bin/bg_switch"
+    fi
+}
+
+# put_tool NAME COMMAND: a command that runs as bin/NAME does, from the one file of the tools.
+put_tool() {
+    word=$(sed -n "s|^exec .* -B .*/\.\./lib\" \([a-z]*\) \"\\\$@\"\$|\1|p" "bin/$1")
+    [ -n "$word" ] || fail "bin/$1 has no line that runs a tool of lib/"
+    printf '#!/bin/sh\nexec /usr/bin/python3 -B /%s %s "$@"\n' "$archive" "$word" > "$root/usr/bin/$2"
+    chmod 755 "$root/usr/bin/$2"
+}
+
+put_tools() {
+    install -d "$root/${archive%/*}"
+    make --no-print-directory --silent tools ARCHIVE="$root/$archive" > /dev/null
+    chmod 644 "$root/$archive"
+    for tool in operator controller analysis dashboard; do
+        put_tool "$tool" "bg-$tool"
+    done
+    put_tool bgctl bgctl
+}
+
+# The units, the users, the rotation of the access log, and the Rollout with which the switch starts.
+put_service() {
+    for unit in examples/production/*.service; do
+        put 644 "$unit" "lib/systemd/system/${unit##*/}"
+    done
+    put 644 examples/production/sysusers.conf usr/lib/sysusers.d/bg-switch.conf
+    put 644 examples/production/logrotate.conf etc/logrotate.d/bg-switch
+    put 644 examples/production/rollout.json etc/bg/rollout.json
+    install -d "$root/var/lib/bg"
+}
+
+# The pages keep their folders, so that links between them lead to a file.
+put_documents() {
+    documents=usr/share/doc/bg-switch
+    for file in README.md CHANGELOG.md docs/*; do
+        put 644 "$file" "$documents/$file"
+    done
+    find examples -type f ! -name '*.state*' ! -path '*/__pycache__/*' | while read -r file; do
+        mode=644
+        [ ! -x "$file" ] || mode=755
+        put "$mode" "$file" "$documents/$file"
+    done
+}
+
+# put_share FOLDER: the completions and the manual pages of bgctl. They are made by Debian's tools, and left out without them.
+put_share() {
+    scripts/bgctl_share.py "$1/usr/share" > /dev/null ||
+        echo 'packaging: the package has no completions and no manual pages of bgctl' >&2
+}
+
+# stage FOLDER: the folder is new.
+stage() {
+    root=$1
+    [ ! -e "$root" ] || fail "$root is there already"
+    install -d "$root/usr/bin"
+    put_program
+    put_tools
+    put_service
+    put_documents
+}
+
+# Folders stay out of the archive, so that unpacking it at / changes no folder that is there.
+dist() {
+    name=bg-switch-$(version)
+    rm -rf "out/package/$name"
+    stage "out/package/$name"
+    put_share "out/package/$name"
+    file=out/$name-linux-$(architecture).tar.gz
+    (cd out/package && find "$name" ! -type d | LC_ALL=C sort) |
+        tar --create --gzip --file "$file" --directory out/package --owner=root:0 --group=root:0 --files-from -
+    echo "$file"
+}
+
+# Debian's changelog has one entry, since CHANGELOG.md has the changes. Its date is that of the last change of the sources.
+debian_changelog() {
+    date=$(git log -1 --format=%cD 2> /dev/null || date -R -r CHANGELOG.md)
+    maintainer=$(sed -n 's/^Maintainer: //p' packaging/debian/control)
+    printf 'bg-switch (%s) unstable; urgency=medium\n\n  * /usr/share/doc/bg-switch/CHANGELOG.md has the changes.\n\n -- %s  %s\n' \
+        "$(version)" "$maintainer" "$date"
+}
+
+deb() {
+    for needed in dpkg-buildpackage dh; do
+        command -v "$needed" > /dev/null || fail "$needed is missing: apt-get install dpkg-dev debhelper"
+    done
+    sources=out/package/source
+    rm -rf "$sources"
+    install -d "$sources"
+    stage "$sources/root"
+    put_share "$sources/root"
+    cp -R packaging/debian "$sources/debian"
+    debian_changelog > "$sources/debian/changelog"
+    (cd "$sources" && dpkg-buildpackage --build=binary --unsigned-changes --unsigned-buildinfo) > out/package/log 2>&1 ||
+        { cat out/package/log >&2; fail 'dpkg-buildpackage fails'; }
+    file=bg-switch_$(version)_$(architecture).deb
+    mv "out/package/$file" "out/$file"
+    echo "out/$file"
+}
+
+case ${1-} in
+    version | dist | deb) [ $# -eq 1 ] || fail "$1 takes no words"; "$1" ;;
+    stage) [ $# -eq 2 ] || fail 'stage FOLDER'; stage "$2" ;;
+    *) fail 'version, stage FOLDER, dist or deb is wanted' ;;
+esac
