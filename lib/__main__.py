@@ -1,15 +1,16 @@
-"""The tools, by their names. bin/operator, bin/controller, bin/analysis and bin/dashboard start them, and so does the one file
-that `make tools` makes."""
+"""The tools, by their names. bin/bgctl, bin/operator, bin/controller, bin/analysis and bin/dashboard start them, and so does the
+one file that `make tools` makes."""
 import contextlib
 import io
 import os
 import sys
 
 from bg_switch_tools import analysis_command, controller_command, operator_command
+from bg_switch_tools.bgctl import bgctl_command
 from bg_switch_tools.dashboard import dashboard_command
 
-TOOLS = {"operator": operator_command.main, "controller": controller_command.main, "analysis": analysis_command.main,
-         "dashboard": dashboard_command.main}
+TOOLS = {"bgctl": bgctl_command.main, "operator": operator_command.main, "controller": controller_command.main,
+         "analysis": analysis_command.main, "dashboard": dashboard_command.main}
 
 
 def prepare_streams() -> None:
@@ -28,7 +29,7 @@ def prepare_streams() -> None:
 def main() -> int:
     prepare_streams()
     if len(sys.argv) < 2 or sys.argv[1] not in TOOLS:
-        print("operator, controller, analysis or dashboard is wanted, and the words of that tool after it", file=sys.stderr)
+        print("bgctl, operator, controller, analysis or dashboard is wanted, and the words of that tool after it", file=sys.stderr)
         return 2
     return TOOLS[sys.argv[1]](sys.argv[2:])
 

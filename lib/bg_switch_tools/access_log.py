@@ -4,11 +4,13 @@ A line is an object of JSON for each connection that ended (docs/DASHBOARD.md ha
 where N lines could not be written before it.
 """
 import datetime
+import functools
 import json
+import operator
 import os
 import stat
 import time
-from collections.abc import Mapping
+from collections.abc import Callable, Mapping, Sequence
 from typing import BinaryIO, NamedTuple
 
 ENDS = ("answered", "refused", "closed", "read_failed", "write_failed")
@@ -17,15 +19,21 @@ LONGEST_LINE = 65536  # bytes; a target is cut at 1,024 before it is escaped
 PIECE = 1 << 22  # bytes that are read at a time
 READ_ON_SECONDS = 10.0  # seconds for which a file is read on after another one has taken its place
 SERVER_ERROR = 500
+NO_ENDPOINT = "no_endpoint"  # the reason of a 503 whose service had no available endpoint
+MOST_TIMES = 4096  # texts of times whose seconds are remembered: many lines end within one millisecond
 GREATEST = 1 << 64  # no number of the switch is as large, and each up to it can be counted and written as a float
 
 TEXT, COUNT, NUMBER, NOTHING = (str,), (int,), (int, float), type(None)
-# The members of a line, each with the types that it can have. `bool` is none of them, though it is an `int`.
+# The members of a line, each with the types that it can have.
 MEMBERS: Mapping[str, tuple[type, ...]] = {
     "service": TEXT, "revision": (*COUNT, NOTHING), "request": (*COUNT, NOTHING), "port": (*COUNT, NOTHING),
     "method": (*TEXT, NOTHING), "target": (*TEXT, NOTHING), "status": (*COUNT, NOTHING), "end": TEXT,
     "reason": (*TEXT, NOTHING), "request_bytes": (*COUNT, NOTHING), "response_bytes": (*COUNT, NOTHING), "duration_ms": NUMBER,
     "upstream_ms": (*NUMBER, NOTHING)}
+# Members that a line need not have.
+OPTIONAL: Mapping[str, tuple[type, ...]] = {"slot_port": (*COUNT, NOTHING), "tries": (*COUNT, NOTHING)}
+TYPES = {**MEMBERS, **OPTIONAL}
+REQUIRED = operator.itemgetter(*MEMBERS)
 
 
 class NoEntry(ValueError):
@@ -33,7 +41,8 @@ class NoEntry(ValueError):
 
 
 class Entry(NamedTuple):
-    """A connection that ended. `time` counts seconds from 1970; `revision` and `request` are numbers of the switch."""
+    """A connection that ended. `time` counts seconds from 1970; `revision` and `request` are numbers of the switch; `slot_port`
+    is the port of the request's slot where the endpoint at another one, `port`, was dialled; `tries` counts its connects."""
     time: float
     service: str
     revision: int | None
@@ -48,16 +57,28 @@ class Entry(NamedTuple):
     response_bytes: int | None
     duration_ms: float
     upstream_ms: float | None
+    slot_port: int | None = None
+    tries: int | None = None
 
     @property
     def is_error(self) -> bool:
         """Whether the client got a status from 500 on, or no answer."""
         return self.status is None or self.status >= SERVER_ERROR
 
+    @property
+    def is_without_endpoint(self) -> bool:
+        """Whether it was refused since the revision that its service selects had no available endpoint: it names none."""
+        return self.revision is None and self.reason == NO_ENDPOINT
+
+    @property
+    def begun(self) -> float:
+        """When the connection was accepted, in seconds from 1970."""
+        return self.time - self.duration_ms / 1000
+
 
 class Lost(NamedTuple):
-    """So many lines could not be written."""
-    time: float
+    """So many lines could not be written. The time is None where the switch had none."""
+    time: float | None
     lost: int
 
 
@@ -65,6 +86,11 @@ def seconds_of(told: object) -> float:
     """The seconds from 1970 of a time as RFC 3339 has it."""
     if not isinstance(told, str):
         raise NoEntry("its time is no text")
+    return _seconds_of_text(told)
+
+
+@functools.lru_cache(MOST_TIMES)
+def _seconds_of_text(told: str) -> float:
     try:
         read = datetime.datetime.fromisoformat(told)
     except ValueError:
@@ -85,30 +111,61 @@ def _refuse(name: str) -> object:
 
 
 DECODER = json.JSONDecoder(parse_constant=_refuse)  # `json.loads` would make one for each line
+WHITESPACE = b" \t\r\n"  # of JSON
 
 
-def _judged(told: Mapping[str, object], name: str) -> object:
-    """The value of a member. `NoEntry` where it is missing, or of a wrong type."""
-    value = told.get(name)
-    if type(value) not in MEMBERS[name] or name not in told:
-        raise NoEntry(f"its {name} is none that a line can have")
-    if isinstance(value, (int, float)) and not 0 <= value < GREATEST:
-        raise NoEntry(f"its {name} is below 0, or too large")
-    return value
+def _fault(told: Mapping[str, object]) -> str:
+    """What is wrong with the members of a line; empty where nothing is."""
+    for name, types in TYPES.items():
+        value = told.get(name)
+        if type(value) not in types or (name in MEMBERS and name not in told):
+            return f"its {name} is none that a line can have"
+        if isinstance(value, (int, float)) and not 0 <= value < GREATEST:
+            return f"its {name} is below 0, or too large"
+    return ""
+
+
+@functools.lru_cache
+def _numbers_of(types: tuple[type, ...]) -> Callable[[Sequence[object]], tuple[float, ...]] | None:
+    """What takes the numbers out of the values of members that have these types; None where one can't have its type. `bool` is
+    no type of a member, though it is an `int`."""
+    if not all(each in known for each, known in zip(types, TYPES.values())):
+        return None
+    places = [place for place, each in enumerate(types) if each is not str and each is not NOTHING]
+    return operator.itemgetter(places[0], *places)  # the first one twice, since of a single place it would give no tuple
+
+
+def _values(told: Mapping[str, object]) -> tuple[object, ...]:
+    """The values of the members of a line. `NoEntry` where one is missing or wrong: what `_fault` says, found in less time."""
+    try:
+        values = (*REQUIRED(told), *map(told.get, OPTIONAL))
+    except KeyError:
+        raise NoEntry(_fault(told)) from None
+    take = _numbers_of(tuple(map(type, values)))
+    if take is None or min(numbers := take(values)) < 0 or max(numbers) >= GREATEST:
+        raise NoEntry(_fault(told))
+    return values
+
+
+def _object(line: bytes) -> dict[str, object]:
+    """The object of a line."""
+    try:
+        text = line.strip(WHITESPACE).decode()
+        told, end = DECODER.raw_decode(text)
+    except (ValueError, RecursionError):
+        raise NoEntry("it is no JSON") from None
+    if end != len(text) or not isinstance(told, dict):
+        raise NoEntry("it is no object")
+    return told
 
 
 def read_line(line: bytes) -> Entry | Lost:
     """The values of a line, without its end. `NoEntry` where it is none of an access log; further members are passed over."""
-    try:
-        told = DECODER.decode(line.decode())
-    except (ValueError, RecursionError):
-        raise NoEntry("it is no JSON") from None
-    if not isinstance(told, dict):
-        raise NoEntry("it is no object")
-    ended = seconds_of(told.get("time"))
-    if type(told.get("lost")) is int and 0 <= told["lost"] < GREATEST:
-        return Lost(ended, told["lost"])
-    entry = Entry(ended, *(_judged(told, name) for name in MEMBERS))  # type: ignore[arg-type]
+    told = _object(line)
+    lost = told.get("lost")
+    if type(lost) is int and 0 <= lost < GREATEST:
+        return Lost(None if told.get("time") is None else seconds_of(told["time"]), lost)
+    entry = Entry._make((seconds_of(told.get("time")), *_values(told)))
     if entry.service not in CLIENT_SERVICES or entry.end not in ENDS:
         raise NoEntry("its service or end is none that a line can have")
     return entry
@@ -116,7 +173,8 @@ def read_line(line: bytes) -> Entry | Lost:
 
 def written(entry: Entry) -> bytes:
     """The line of an entry, with its end, as the switch writes it."""
-    return (json.dumps({**entry._asdict(), "time": time_text(entry.time)}) + "\n").encode("ascii")
+    told = {name: value for name, value in entry._asdict().items() if value is not None or name not in OPTIONAL}
+    return (json.dumps({**told, "time": time_text(entry.time)}) + "\n").encode("ascii")
 
 
 class Batch(NamedTuple):

@@ -1,173 +1,121 @@
-"""bin/analysis: judges a revision by its requests in the access log of the switch."""
+"""bin/analysis: judges a revision by its requests in the access log of the switch, or by a query of Prometheus."""
 import argparse
 import contextlib
-import os
-import time
 from collections.abc import Sequence
 
 from bg_switch_tools.access_log import Follower
-from bg_switch_tools.connection import Unreachable, ask
-from bg_switch_tools.measuring import FAILED, NOT_JUDGED, SUCCESSFUL, Analyser, Limits, Measurement
-from bg_switch_tools.reports import NoReport, read_report
-from bg_switch_tools.words import count_of, milliseconds_of, port_of, seconds_of, share_of
+from bg_switch_tools.durations import duration_of, milliseconds_of, positive_duration_of, value_of
+from bg_switch_tools.log_analysis import LogAnalysis
+from bg_switch_tools.measuring import Limits
+from bg_switch_tools.subject import subject_of
+from bg_switch_tools.verdicts import NOT_JUDGED, NotJudged, tell
+from bg_switch_tools.words import count_of, port_of, share_of
 
-USAGE = "bin/analysis --log FILE [--revision NAME] --seconds N [options]"
-ABOUT = """Judges a revision by its requests in the access log of the switch, from now on: those with a status from 500 on, and
-those without an answer, are errors."""
+USAGE = """bin/analysis --log FILE [--revision NAME] --seconds N [options]
+       bin/analysis --prometheus URL --query QUERY (--at-most X | --at-least X) --count N [options]"""
+ABOUT = """Judges a revision, from now on: by its requests in the access log of the switch, of which those with a status from 500 on,
+and those without an answer, are errors; or by a query of Prometheus. Requests that found no endpoint of the revision are errors too."""
 END = """
 In a plan's "analyses" it finds the revision that it judges by itself:
-  "post": ["/usr/local/bin/analysis", "--log", "/var/log/bg/access.log", "--seconds", "60", "--errors-at-most", "1%",
+  "post": ["/usr/bin/bg-analysis", "--log", "/var/log/bg/access.log", "--seconds", "1m", "--errors-at-most", "1%",
            "--requests-at-least", "50"]
+  "post": ["/usr/bin/bg-analysis", "--prometheus", "http://127.0.0.1:9090", "--interval", "10s", "--count", "6", "--at-most", "1%",
+           "--query", "sum(rate(errors{revision='{{args.revision}}'}[1m])) / sum(rate(requests{revision='{{args.revision}}'}[1m]))"]
 Elsewhere --revision names it: by its number, or by its name together with --control.
 
-Every so many seconds (--every) a measurement judges the requests since the one before. One with fewer requests than
---requests-at-least judges nothing yet: its requests count with the next one's.
+By the access log, every so many seconds (--every) a measurement judges the requests since the one before. One with fewer requests
+than --requests-at-least judges nothing yet: its requests count with the next one's. One without a request, after some with requests,
+has failed. By Prometheus, each measurement is a query; one without data, or whose value is not a number, is inconclusive.
+
+A duration is 60, 60s, 1m or 1h.
 
 Exit status: 0 where the limits held to the end; 1 as soon as more measurements than --failures have failed; 2 where the revision
-can't be judged: too few requests came, the log can't be read, or the words are wrong.
+can't be judged: too few requests came, the log can't be read, measurements are inconclusive, Prometheus gives no answer, or the
+words are wrong.
 """
-LOOK = 0.25  # seconds between two looks into the log
-WAIT = 10.0  # seconds for the switch to answer
-CATCH_UP = 3.0  # seconds at the end for what stands in the log: the switch makes a log that was renamed anew within one
 INTERRUPTED = 130
-
-
-class NotJudged(Exception):
-    """The revision can't be judged. The text says why."""
-
-
-def tell(text: str) -> None:
-    """Prints a line. Where nobody takes it any more, the exit status still tells the verdict."""
-    with contextlib.suppress(OSError):
-        print(text, flush=True)
+OF_LOG = ("errors_at_most", "p99_at_most", "requests_at_least", "by_endpoint", "silence_allowed")
+OF_PROMETHEUS = ("query", "at_most", "at_least", "count", "inconclusive", "query_errors", "initial_delay")
 
 
 def parser() -> argparse.ArgumentParser:
     made = argparse.ArgumentParser(prog="analysis", usage=USAGE, description=ABOUT, epilog=END,
                                    formatter_class=argparse.RawDescriptionHelpFormatter)
-    made.add_argument("--log", required=True, metavar="FILE", help="the access log of the switch, BG_SWITCH_ACCESS_LOG")
+    source = made.add_mutually_exclusive_group(required=True)
+    source.add_argument("--log", metavar="FILE", help="the access log of the switch, BG_SWITCH_ACCESS_LOG")
+    source.add_argument("--prometheus", metavar="URL", help="a Prometheus server, such as http://127.0.0.1:9090")
     made.add_argument("--revision", default="", metavar="NAME", help="the name of the revision, or its number")
-    made.add_argument("--control", type=port_of, metavar="PORT", help="the control port, which is asked for the number of a name")
-    made.add_argument("--seconds", type=seconds_of, required=True, metavar="N", help="how long the limits have to hold")
-    made.add_argument("--every", type=seconds_of, default=5.0, metavar="N", help="the seconds between two measurements (5)")
-    made.add_argument("--errors-at-most", type=share_of, metavar="1%", help="the share of errors")
-    made.add_argument("--p99-at-most", type=milliseconds_of, metavar="300ms", help="the 99th percentile of the duration")
-    made.add_argument("--requests-at-least", type=count_of, default=1, metavar="N", help="what a measurement needs (1)")
-    made.add_argument("--failures", type=count_of, default=0, metavar="N", help="how many measurements may fail (0)")
-    made.add_argument("--by-endpoint", action="store_true",
-                      help="durations are those of the endpoint, without the time that clients take")
+    made.add_argument("--control", type=port_of, metavar="PORT",
+                      help="the control port, which is asked for the number of a name, and for what services select")
+    made.add_argument("--seconds", type=positive_duration_of, metavar="N", help="how long the limits have to hold")
+    made.add_argument("--every", "--interval", type=positive_duration_of, default=5.0, metavar="N",
+                      help="the seconds between two measurements (5)")
+    made.add_argument("--failures", "--failure-limit", type=count_of, default=0, metavar="N", help="how many measurements may fail (0)")
+    add_log_options(made.add_argument_group("by the access log"))
+    add_prometheus_options(made.add_argument_group("by Prometheus"))
     return made
 
 
-def number_of_revision(told: str, control: int | None) -> int:
-    """The number of the revision to be judged. `NotJudged` where it can't be known."""
-    name, number = os.environ.get("BG_REVISION"), os.environ.get("BG_REVISION_NUMBER", "")
-    if told in ("", name) and number.isdigit():
-        return int(number)
-    if told.isascii() and told.isdigit():
-        return int(told)
-    if not told:
-        raise NotJudged("no revision is told: --revision names it, where no controller runs this")
-    if control is None:
-        raise NotJudged(f"the number of {told} is not known: --control tells the port to ask, or --revision the number")
-    try:
-        report = read_report(ask(control, b"report", WAIT))
-    except (Unreachable, NoReport) as reason:
-        raise NotJudged(f"the number of {told} is not known: {reason}") from None
-    revision = report.named(told) if report else None
-    if revision is None:
-        raise NotJudged(f"the switch has no revision {told}")
-    return revision.number
+def add_log_options(group: "argparse._ArgumentGroup") -> None:
+    group.add_argument("--errors-at-most", type=share_of, metavar="1%", help="the share of errors")
+    group.add_argument("--p99-at-most", type=milliseconds_of, metavar="300ms", help="the 99th percentile of the duration")
+    group.add_argument("--requests-at-least", type=count_of, metavar="N", help="what a measurement needs (1)")
+    group.add_argument("--by-endpoint", action="store_true",
+                       help="durations are those of the endpoint, without the time that clients take")
+    group.add_argument("--silence-allowed", action="store_true", help="a measurement without a request has not failed")
 
 
-class Run:
-    """An analysis that runs."""
-
-    def __init__(self, follower: Follower, number: int, title: str, limits: Limits) -> None:
-        self.follower = follower
-        self.number = number
-        self.title = title
-        self.analyser = Analyser(limits)
-
-    def look(self, deadline: float) -> None:
-        """Takes in what has come into the log, up to a time: a log can grow faster than it is read."""
-        while True:
-            batch = self.follower.read()
-            self.analyser.take([entry for entry in batch.entries if entry.revision == self.number])
-            if batch.lost or batch.unreadable:
-                self.tell(f"{batch.lost} lines were lost by the switch, {batch.unreadable} can't be read")
-            if not self.follower.has_more or time.monotonic() >= deadline:
-                return
-
-    def look_at_the_rest(self) -> None:
-        """Takes in what stands in the log at the end. `NotJudged` where it can't be read, or grows faster than it is read."""
-        deadline = time.monotonic() + CATCH_UP
-        while True:
-            self.look(deadline)
-            fault = self.follower.fault or ("it grows faster than it is read" if self.follower.has_more else "")
-            if not fault:
-                return
-            if time.monotonic() >= deadline:
-                raise NotJudged(f"the log {self.follower.path}: {fault}")
-            time.sleep(LOOK)
-
-    def tell(self, text: str) -> None:
-        tell(f"analysis of {self.title}: {text}")
-
-    def tell_measurement(self, seconds: float, measurement: Measurement | None) -> None:
-        if measurement is None:
-            self.tell(f"{seconds:g} s: {len(self.analyser.waiting)} requests are too few, and wait")
-            return
-        self.tell(f"{seconds:g} s: {measurement.text()}: {'; '.join(measurement.problems) or 'the limits hold'}")
-
-    def until(self, deadline: float) -> None:
-        """Takes in what comes up to a time."""
-        while (left := deadline - time.monotonic()) > 0:
-            time.sleep(min(left, LOOK))
-            self.look(deadline)
-
-    def judge(self, seconds: float, every: float) -> int:
-        """Measures to the end, or up to the failure that is one too many. Gives the exit status."""
-        begun, at = time.monotonic(), 0.0
-        while at < seconds:
-            at = min(at + every, seconds)
-            self.until(begun + at)
-            is_last = at >= seconds
-            if is_last:
-                self.look_at_the_rest()
-            measurement = self.analyser.measure_rest() if is_last else self.analyser.measure()
-            if measurement or self.analyser.waiting or not is_last:
-                self.tell_measurement(at, measurement)
-            if self.analyser.has_failed:
-                self.tell(f"failed: {self.analyser.failed} measurements of which {self.analyser.limits.failures} may fail")
-                return FAILED
-        if not self.analyser.has_judged:
-            raise NotJudged(f"{len(self.analyser.waiting)} requests came in {seconds:g} seconds, and "
-                            f"{self.analyser.limits.requests} are needed")
-        self.tell("the limits held to the end")
-        return SUCCESSFUL
+def add_prometheus_options(group: "argparse._ArgumentGroup") -> None:
+    group.add_argument("--query", metavar="QUERY", help="in PromQL; {{args.revision}} and {{args.revision-number}} are replaced")
+    group.add_argument("--at-most", type=value_of, metavar="X", help="each value of the result is this at most, such as 0.01 or 1%%")
+    group.add_argument("--at-least", type=value_of, metavar="X", help="each value of the result is this at least")
+    group.add_argument("--count", type=count_of, metavar="N", help="the number of measurements, in place of --seconds")
+    group.add_argument("--inconclusive", "--inconclusive-limit", type=count_of, metavar="N",
+                       help="how many measurements may be inconclusive (0)")
+    group.add_argument("--query-errors", "--consecutive-error-limit", type=count_of, metavar="N",
+                       help="how many queries in a row may have no answer (4)")
+    group.add_argument("--initial-delay", type=duration_of, metavar="N", help="the seconds before the first measurement (0)")
 
 
-def run(given: argparse.Namespace) -> int:
-    number = number_of_revision(given.revision, given.control)
-    follower = Follower(given.log)
-    if follower.fault:
-        raise NotJudged(f"the log {given.log}: {follower.fault}")
-    name = given.revision or os.environ.get("BG_REVISION", "")
-    title = f"revision {number}" if name.isdigit() or not name else f"revision {number} {name}"
-    limits = Limits(given.errors_at_most, given.p99_at_most, given.requests_at_least, given.failures, given.by_endpoint)
-    return Run(follower, number, title, limits).judge(given.seconds, given.every)
+def judge_by_log(given: argparse.Namespace) -> int:
+    subject = subject_of(given.revision, given.control)
+    requests = 1 if given.requests_at_least is None else given.requests_at_least
+    limits = Limits(given.errors_at_most, given.p99_at_most, requests, given.failures, given.by_endpoint, given.silence_allowed)
+    with contextlib.closing(Follower(given.log)) as follower:
+        if follower.fault:
+            raise NotJudged(f"the log {given.log}: {follower.fault}")
+        return LogAnalysis(follower, subject, limits).judge(given.seconds, given.every)
+
+
+def fault_of(given: argparse.Namespace) -> str:
+    """What is wrong with words that are each right; empty where nothing is."""
+    foreign = [name for name in (OF_PROMETHEUS if given.log is not None else OF_LOG) if getattr(given, name) not in (None, False)]
+    if foreign:
+        form = "--prometheus" if given.log is not None else "--log"
+        return f"--{foreign[0].replace('_', '-')} belongs to {form}"
+    if given.log is not None:
+        if given.seconds is None:
+            return "--seconds is wanted"
+        has_limit = given.errors_at_most is not None or given.p99_at_most is not None
+        return "" if has_limit else "a limit is wanted: --errors-at-most, --p99-at-most or both"
+    from bg_switch_tools import prometheus_command  # here, since HTTP would make each start of the other tools slower
+    return prometheus_command.fault_of(given)
+
+
+def judge(given: argparse.Namespace) -> int:
+    if given.log is not None:
+        return judge_by_log(given)
+    from bg_switch_tools import prometheus_command
+    return prometheus_command.judge(given)
 
 
 def main(words: Sequence[str]) -> int:
     made = parser()
     given = made.parse_args(words)
-    if given.errors_at_most is None and given.p99_at_most is None:
-        made.error("a limit is wanted: --errors-at-most, --p99-at-most or both")
-    if given.seconds <= 0 or given.every <= 0:
-        made.error("--seconds and --every are above 0")
+    if fault := fault_of(given):
+        made.error(fault)
     try:
-        return run(given)
+        return judge(given)
     except NotJudged as reason:
         tell(f"analysis: it can't be judged: {reason}")
         return NOT_JUDGED

@@ -4,6 +4,7 @@ import time
 from bg_switch_tools.changes import changes, is_another_book
 from bg_switch_tools.connection import Connection, Unreachable
 from bg_switch_tools.log import Log
+from bg_switch_tools.lost import last_seen
 from bg_switch_tools.meanings import was_carried_out
 from bg_switch_tools.reports import SERVICES, Report, read_report
 
@@ -16,6 +17,8 @@ class Book:
     def __init__(self, log: Log) -> None:
         self.log = log
         self.latest: Report | None = None  # the latest report of the book that is open
+        self.seen = 0.0  # the time of the latest report
+        self.lost: Report | None = None  # the latest report of the book that was open before, up to the next opening
         self.was_lost = False  # whether the book of an earlier report was found to be gone
         self.has_ordered = False  # whether an order was carried out since the latest report
         self.refused: dict[str, float] = {}  # by the line: from when on its refusal is told again
@@ -26,6 +29,8 @@ class Book:
         self.has_ordered = False
         if self.latest and (report is None or is_another_book(self.latest, report)):
             self.log.say("switch", "the switch was started again: the book that was open is gone")
+            self.log.say("switch", last_seen(self.latest, time.monotonic() - self.seen))
+            self.lost = self.latest
             self.leave()
             self.was_lost = True
         if report is not None:
@@ -43,7 +48,7 @@ class Book:
             self.log.say("switch", f"a book is open: phase {report.phase}, {selected}")
         for change in changes(self.latest, report) if self.latest else []:
             self.log.say("change", change)
-        self.latest = report
+        self.latest, self.seen = report, time.monotonic()
 
     def open_report(self, connection: Connection) -> Report:
         """The report of a book that was open before on this connection."""

@@ -4,7 +4,8 @@ from collections.abc import Sequence
 from bg_switch_tools.meanings import LINES, Line
 
 COMMANDS = (
-    Line("status", "shows the state in one line; status 0 where it is steady or an attempt runs, 1 where it was aborted",
+    Line("status", "shows the state in one line; status 0 where it is steady or an attempt runs, 1 where it was aborted, "
+         "3 where no endpoint of the active revision is available",
          "status"),
     Line("wait CONDITION..", "waits until all conditions hold; status 0 then, 1 as soon as they can't come without a new order, "
          "2 at the timeout", "wait phase=paused newest=web-v2 --timeout 60"),

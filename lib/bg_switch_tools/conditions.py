@@ -169,9 +169,14 @@ class Conditions:
         self.newest = [each.name for each in self.conditions if isinstance(each, ServiceIs) and each.service == "newest"]
         self.seen = Seen()
 
-    def outlook(self, report: Report) -> Outlook:
-        """Whether all hold by this report, which is later than those before; `never` tells of the first that can't come."""
+    def outlook(self, report: Report, coming: str | None = None) -> Outlook:
+        """Whether all hold by this report, which is later than those before; `never` tells of the first that can't come. Up to the
+        deploy of a revision that a plan announces (`coming`) nothing holds, and everything may come; the attempt is its own."""
+        if coming and coming not in self.newest:
+            self.newest.append(coming)
         self.seen.take_in(report, self.newest)
+        if coming:
+            return MAY_COME
         outlooks = [condition.outlook(report, self.seen) for condition in self.conditions]
         # a deploy that is awaited changes what can come
         if not any(name not in self.seen.names for name in self.newest):

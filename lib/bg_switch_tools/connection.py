@@ -1,7 +1,7 @@
 """Connections to the control port of a switch.
 
-The switch serves the connections of its control port one after the other. A tool therefore opens a connection for one line or
-a few, and closes it: several operators, a watcher and a controller work side by side, and an idle prompt holds nobody up.
+The connections of the control port take turns by lines. A tool opens a connection for one line or a few, and closes it, so it
+takes no place at the port while it sends nothing.
 """
 import contextlib
 import socket
@@ -15,6 +15,7 @@ HOST = "127.0.0.1"
 PAUSE = 0.1  # seconds between two tries to connect
 SHORTEST = 0.001  # seconds; a socket takes a timeout of 0 for "do not block"
 LONGEST_LINE = 65536  # bytes without a line end, above which the peer is no switch
+NOT_ALLOWED = "refused NotAllowed"  # what a connection of a user is sent whose orders are not taken, before it is closed
 LONGEST_REPORT = 80  # lines; a report has 7, and one for each of at most 64 revisions
 
 
@@ -94,7 +95,7 @@ class Connection:
             try:
                 piece = self.receive()
             except TimeoutError:
-                raise Unreachable(f"port {self.port} gives no answer: another connection holds it, or the switch takes no "
+                raise Unreachable(f"port {self.port} gave no answer in time: the switch is stopped or busy, or takes no "
                                   "lines any more") from None
             if not piece:
                 raise Unreachable("the switch has ended the connection")
@@ -104,12 +105,18 @@ class Connection:
         line, self.unread = self.unread.split(b"\n", 1)
         return line.decode("ascii", "replace")
 
+    def _not_allowed(self) -> Unreachable:
+        return Unreachable(f"the switch at port {self.port} takes no orders of this user: its BG_SWITCH_OPERATORS lists others")
+
     def _no_switch(self) -> Unreachable:
         return Unreachable(f"what answers at port {self.port} is no switch")
 
     def reply_to(self, line: bytes) -> list[str]:
-        """The lines of the reply to a line that was sent. A report has several; every other reply has one."""
+        """The lines of the reply to a line that was sent. A report has several; every other reply has one. `Unreachable` where
+        the switch takes no orders of this user."""
         replies = [self.next_line()]
+        if replies[0] == NOT_ALLOWED:
+            raise self._not_allowed()
         if words_of(line) == [b"report"] and was_carried_out(replies[0]):
             while replies[-1] != "end":
                 if not replies[0].startswith("moment ") or len(replies) > LONGEST_REPORT:
@@ -133,13 +140,17 @@ class Connection:
         return self.answer(line.encode("ascii"))[0]
 
     def quit(self) -> None:
-        """Sends `quit`, which has no reply, and waits up to the deadline for the switch to end the connection."""
+        """Sends `quit`, which has no reply, and waits up to the deadline for the switch to end the connection. `Unreachable` where
+        it takes no orders of this user."""
         self.send(b"quit")
+        got = b""
         try:
-            while self.receive():
-                pass
+            while piece := self.receive():
+                got = (got + piece)[:LONGEST_LINE]
         except TimeoutError:
             pass
+        if got.startswith(NOT_ALLOWED.encode("ascii")):
+            raise self._not_allowed()
 
 
 def ask(port: int, line: bytes, wait: float) -> list[str]:

@@ -5,7 +5,7 @@ from typing import NamedTuple
 
 from bg_switch_tools.access_log import Entry
 
-SUCCESSFUL, FAILED, NOT_JUDGED = 0, 1, 2
+SILENCE = "no request has come"
 
 
 class Limits(NamedTuple):
@@ -16,6 +16,7 @@ class Limits(NamedTuple):
     requests: int
     failures: int
     by_endpoint: bool = False  # whether durations are those of the endpoint, and not of the whole request
+    is_silence_allowed: bool = False  # whether a window without a request is no failure
 
 
 class Request(NamedTuple):
@@ -25,6 +26,8 @@ class Request(NamedTuple):
 
 
 def request_of(entry: Entry, limits: Limits) -> Request:
+    if entry.is_without_endpoint:
+        return Request(True, None)  # a refusal is fast, and says nothing of the revision's durations
     return Request(entry.is_error, entry.upstream_ms if limits.by_endpoint else entry.duration_ms)
 
 
@@ -41,55 +44,82 @@ class Measurement(NamedTuple):
     problems: tuple[str, ...]
 
     def text(self) -> str:
+        if not self.requests:
+            return "0 requests"
         p99 = "" if self.p99 is None else f", p99 {self.p99:.4g} ms"
         return f"{self.requests} requests, {self.errors} errors ({self.errors / self.requests:.2%}){p99}"
 
 
+def _p99(requests: Sequence[Request], missing: int = 0) -> float | None:
+    """The 99th percentile of the durations and of so many that are missing, each of which counts as 0; None where no request
+    has a duration."""
+    durations = sorted(request.duration for request in requests if request.duration is not None)
+    return quantile([0.0] * missing + durations, 0.99) if durations else None
+
+
+def _problems(errors: float, p99: float | None, limits: Limits) -> tuple[str, ...]:
+    """The limits that a share of errors and a 99th percentile exceed; one that is None exceeds none."""
+    found = []
+    if limits.errors is not None and errors > limits.errors:
+        found.append(f"errors are above {limits.errors * 100:g}%")
+    if limits.p99 is not None and p99 is not None and p99 > limits.p99:
+        found.append(f"p99 is above {limits.p99:g} ms")
+    return tuple(found)
+
+
 def measure(requests: Sequence[Request], limits: Limits) -> Measurement:
     """The measurement of these requests, of which there is one or more."""
-    errors = sum(request.is_error for request in requests)
-    durations = sorted(request.duration for request in requests if request.duration is not None)
-    p99 = quantile(durations, 0.99) if durations else None
-    problems = []
-    if limits.errors is not None and errors / len(requests) > limits.errors:
-        problems.append(f"errors are above {limits.errors * 100:g}%")
-    if limits.p99 is not None and (p99 is None or p99 > limits.p99):
-        problems.append("no endpoint has answered" if p99 is None else f"p99 is above {limits.p99:g} ms")
-    return Measurement(len(requests), errors, p99, tuple(problems))
+    errors, p99 = sum(request.is_error for request in requests), _p99(requests)
+    problems = _problems(errors / len(requests), p99, limits)
+    if limits.p99 is not None and p99 is None:
+        problems += ("no endpoint has answered",)
+    return Measurement(len(requests), errors, p99, problems)
+
+
+def measure_few(requests: Sequence[Request], limits: Limits) -> Measurement:
+    """The measurement of requests that are too few and which no others follow. It has only those problems that it would also
+    have if all requests that are missing had been answered at once and without an error."""
+    errors, missing = sum(request.is_error for request in requests), max(limits.requests - len(requests), 0)
+    problems = _problems(errors / (len(requests) + missing), _p99(requests, missing), limits)
+    return Measurement(len(requests), errors, _p99(requests), problems)
 
 
 class Analyser:
-    """Measures requests as they come. A measurement judges those since the one before it; where they are too few it waits for
-    more of them. At the end, those that are left are judged together with the requests of the last measurement."""
+    """Measures requests window by window. Those of a window are judged by themselves; where they are too few, they wait, and are
+    judged together with those of the next window, but never with requests that were judged before."""
 
     def __init__(self, limits: Limits) -> None:
         self.limits = limits
         self.waiting: list[Request] = []  # not judged yet
-        self.judged: list[Request] = []  # by the last measurement
-        self.has_last_failed = False
-        self.failed = 0
+        self.came = 0  # requests of the present window
+        self.has_seen = False  # whether an earlier window had requests
+        self.measured = self.failed = 0  # measurements
 
     def take(self, entries: Sequence[Entry]) -> None:
         self.waiting += [request_of(entry, self.limits) for entry in entries]
+        self.came += len(entries)
 
-    def measure(self) -> Measurement | None:
-        """A measurement of what waits, or None where that is too little."""
+    def end_window(self, can_be_silent: bool = True) -> Measurement | None:
+        """A measurement of what waits, or None where that is too little. A window without a request that follows one with some
+        is a failed measurement; `can_be_silent` is false for a window that says nothing where it has none, such as a short one."""
+        came, self.came = self.came, 0
+        if came == 0 and self.has_seen and can_be_silent and not self.limits.is_silence_allowed:
+            return self._counted(Measurement(0, 0, None, (SILENCE,)))
+        self.has_seen = self.has_seen or came > 0
         if len(self.waiting) < max(self.limits.requests, 1):
             return None
-        self.judged, self.waiting, self.has_last_failed = self.waiting, [], False
-        return self._counted(measure(self.judged, self.limits))
+        waiting, self.waiting = self.waiting, []
+        return self._counted(measure(waiting, self.limits))
 
-    def measure_rest(self) -> Measurement | None:
-        """The last measurement, or None where nothing is left to be judged, or nothing was judged before."""
-        if (last := self.measure()) or not self.waiting or not self.judged:
-            return last
-        self.judged, self.waiting = self.judged + self.waiting, []
-        return self._counted(measure(self.judged, self.limits))
+    def end_rest(self) -> Measurement | None:
+        """The failed measurement of what still waits after the last window; None where it has not failed, or where no window was
+        measured: requests that are too few in all are not judged."""
+        rest = measure_few(self.waiting, self.limits) if self.waiting and self.has_judged else None
+        return self._counted(rest) if rest and rest.problems else None
 
     def _counted(self, measurement: Measurement) -> Measurement:
-        """Counts a measurement that has failed; the last one is counted once, also where it is made again with the rest."""
-        self.failed += bool(measurement.problems) and not self.has_last_failed
-        self.has_last_failed = bool(measurement.problems)
+        self.measured += 1
+        self.failed += bool(measurement.problems)
         return measurement
 
     @property
@@ -98,4 +128,4 @@ class Analyser:
 
     @property
     def has_judged(self) -> bool:
-        return bool(self.judged)
+        return self.measured > 0

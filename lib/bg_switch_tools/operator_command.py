@@ -5,15 +5,17 @@ import os
 import sys
 from collections.abc import Iterable, Sequence
 
+from bg_switch_tools.coming import Announced
 from bg_switch_tools.commands import examples, help_lines
 from bg_switch_tools.conditions import FORMS, Conditions, WrongCondition
 from bg_switch_tools.connection import Unreachable, ask, words_of
 from bg_switch_tools.meanings import with_meaning
 from bg_switch_tools.ordering import Reply, carry_out
+from bg_switch_tools.plan_reading import WrongPlan
 from bg_switch_tools.prompting import Command, Prompt, confirm_shutdown
 from bg_switch_tools.reports import NoReport, Report, as_json, read_report
 from bg_switch_tools.tables import in_one_line
-from bg_switch_tools.waiting import TOO_LATE, wait_for
+from bg_switch_tools.waiting import TOO_LATE, nothing_comes, wait_for
 from bg_switch_tools.watching import dated, watch
 from bg_switch_tools.words import port_of, seconds_of
 
@@ -26,9 +28,11 @@ END = f"""
 Conditions of wait: {FORMS}.
 
 Exit status: 0 where every line was carried out; 1 where one was refused or faulty, at which it stops; 2 where the switch gave no
-answer in time, or the words are wrong. docs/LINES.md has each line and its replies.
+answer in time, or the words are wrong; 3 of `status` where no endpoint of the active revision is available, so that clients are
+answered 503. docs/LINES.md has each line and its replies.
 """
 INTERRUPTED = 130
+DARK = 3  # the exit status of `status` where live traffic has no endpoint
 COMMANDS = ("status", "wait", "watch", "shutdown", "help")
 
 
@@ -46,7 +50,9 @@ def parser() -> argparse.ArgumentParser:
     made.add_argument("--json", action="store_true", help="prints each reply, the status and what was waited for as JSON")
     made.add_argument("--idempotent", action="store_true",
                       help="a deploy of the revision that is running or stable already is carried out")
-    made.add_argument("--yes", action="store_true", help="`shutdown` does not ask")
+    made.add_argument("--yes", action="store_true", help="`shutdown` does not ask, and a `tick` more than a day ahead is sent")
+    made.add_argument("--plan", metavar="PLAN",
+                      help="`wait` first waits until the controller has deployed the last revision of this plan")
     return made
 
 
@@ -61,6 +67,7 @@ class Operator:
         self.is_json: bool = given.json
         self.is_idempotent: bool = given.idempotent
         self.is_sure: bool = given.yes
+        self.plan: str | None = given.plan
 
     def tell(self, text: str) -> None:
         print(f"operator: {text}", file=sys.stderr, flush=True)
@@ -84,7 +91,7 @@ class Operator:
         """Carries lines out, in turn, up to `quit`. Gives the exit status."""
         status = 0
         for line in lines:
-            reply = carry_out(self.port, line, self.wait, self.is_idempotent)
+            reply = carry_out(self.port, line, self.wait, self.is_idempotent, self.is_sure)
             self.show(reply)
             if words_of(line) == [b"quit"]:
                 break
@@ -95,23 +102,32 @@ class Operator:
         return status
 
     def status(self) -> int:
-        """Shows the state in one line. The exit status is 0 where it is steady or an attempt runs, and else 1."""
+        """Shows the state in one line. The exit status is 0 where it is steady or an attempt runs, `DARK` where no endpoint of
+        the active revision is available, and else 1."""
         report = read_report(ask(self.port, b"report", self.wait))
         if self.is_json:
             self.show_json({"phase": None} if report is None else as_json(report))
         else:
             print(in_one_line(report))
+        if report is not None and report.service("active").available == 0:
+            self.tell(f"no endpoint of {report.service('active').title()}, which is active, is available")
+            return DARK
         return 1 if report is None or report.phase == "aborted" else 0
 
     def wait_for(self, texts: Sequence[str]) -> int:
         """Waits for conditions. Each change meanwhile is told on standard error."""
         before: list[Report] = []
+        try:
+            announced = Announced(self.plan).name if self.plan else nothing_comes
+        except WrongPlan as wrong:
+            self.tell(f"{self.plan} is no plan: {wrong}")
+            return TOO_LATE
 
         def see(report: Report) -> None:
             for change in dated(before[-1], report) if before else []:
                 self.tell(change)
             before[:] = [report]
-        waited = wait_for(self.port, Conditions(texts), self.timeout, self.wait, see)
+        waited = wait_for(self.port, Conditions(texts), self.timeout, self.wait, see, announced)
         if self.is_json:
             report = as_json(waited.report) if waited.report else None
             self.show_json({"status": waited.status, "reason": waited.reason or None, "report": report})
@@ -176,8 +192,10 @@ def judge_words(made: argparse.ArgumentParser, given: argparse.Namespace) -> Non
         made.error("--timeout goes with wait; --wait says how long to wait for an answer")
     if given.idempotent and command not in ("", "deploy"):
         made.error("--idempotent goes with deploy")
-    if given.yes and command != "shutdown":
-        made.error("--yes goes with shutdown")
+    if given.yes and command not in ("", "shutdown", "tick"):
+        made.error("--yes goes with shutdown and tick")
+    if given.plan is not None and command != "wait":
+        made.error("--plan goes with wait")
 
 
 def run(given: argparse.Namespace) -> int:

@@ -4,7 +4,10 @@ from typing import NamedTuple
 
 from bg_switch_tools.connection import Connection, Unreachable, ask, sent, words_of
 from bg_switch_tools.meanings import meaning_of, was_carried_out
+from bg_switch_tools.moments import DAY
 from bg_switch_tools.reports import NoReport, Report, as_json, read_report
+
+LONGEST_NUMBER = 20  # digits, as the switch reads a number
 
 
 class Reply(NamedTuple):
@@ -23,16 +26,33 @@ class Reply(NamedTuple):
         return {"line": self.line, "reply": "\n".join(self.lines), "carried_out": self.carried_out, "meaning": self.meaning}
 
 
-def carry_out(port: int, line: bytes, wait: float, is_idempotent: bool) -> Reply:
-    """Sends a line on a connection of its own. `Unreachable` where the switch does not answer."""
+def carry_out(port: int, line: bytes, wait: float, is_idempotent: bool, is_sure: bool = False) -> Reply:
+    """Sends a line on a connection of its own. `Unreachable` where the switch does not answer. A tick far ahead is sent only by
+    somebody who is sure."""
     words, text = words_of(line), line.decode("utf-8", "replace")
     if words[:1] == [b"deploy"]:
         return _deploy(port, line, wait, is_idempotent)
+    if words[:1] == [b"tick"] and not is_sure:
+        return _tick(port, line, wait)
     lines = ask(port, line, wait)
     if not lines:
         return Reply(text, lines, True, None)
     report = read_report(lines) if words == [b"report"] else None
     return Reply(text, lines, was_carried_out(lines[0]), meaning_of(lines[0]), None, report)
+
+
+def _tick(port: int, line: bytes, wait: float) -> Reply:
+    """Sends a tick, unless its moment lies more than a day ahead: no later tick could ever take it back."""
+    text, told = line.decode("utf-8", "replace"), words_of(line)[1:]
+    with Connection(port, wait) as connection:
+        before = read_report(connection.answer(b"report"))
+        moment = int(told[0]) if len(told) == 1 and told[0].isdigit() and len(told[0]) <= LONGEST_NUMBER else 0
+        if before and moment > before.moment + DAY:
+            why = (f"not sent: moment {moment} is more than a day ahead of moment {before.moment}, and no moment can be taken back; "
+                   "--yes sends it")
+            return Reply(text, [], False, why, why)
+        lines = sent(connection, line, wait)
+    return Reply(text, lines, was_carried_out(lines[0]), meaning_of(lines[0]))
 
 
 def _deploy(port: int, line: bytes, wait: float, is_idempotent: bool) -> Reply:

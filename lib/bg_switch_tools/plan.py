@@ -35,19 +35,35 @@ class Analyses:
 @dataclasses.dataclass(frozen=True)
 class Progress:
     """Within how many seconds an attempt has to make progress (Argo's `progressDeadlineSeconds`), and whether it is aborted
-    else (`progressDeadlineAbort`)."""
+    else (`progressDeadlineAbort`). After `outage` seconds without an endpoint that is up behind live traffic, an attempt that
+    has switched goes back."""
     seconds: float = 600
     abort: bool = False
+    outage: float = 5
+
+
+@dataclasses.dataclass(frozen=True)
+class Commands:
+    """The commands that start and stop an endpoint, and the one that is told each event; each may take `timeout` seconds. An
+    empty one is not run."""
+    start: tuple[str, ...] = ()
+    stop: tuple[str, ...] = ()
+    notify: tuple[str, ...] = ()
+    timeout: float = 60
 
 
 @dataclasses.dataclass(frozen=True)
 class Plan:
-    """A whole plan. `revisions` go from the first one to the one that is to be live."""
+    """A whole plan. `revisions` go from the first one to the one that is to be live. `services` are the ports of the active and
+    the preview service, where the plan names them. `redispatch` says whether the switch passes over endpoints that are down."""
     control: int
     health: Health
     analyses: Analyses
     progress: Progress
     revisions: tuple[PlannedRevision, ...]
+    commands: Commands = Commands()
+    redispatch: bool = True
+    services: Mapping[str, int] = dataclasses.field(default_factory=dict)
 
     @property
     def first(self) -> PlannedRevision:

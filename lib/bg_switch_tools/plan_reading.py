@@ -1,11 +1,16 @@
 """Reads a plan, and judges it as a whole before any of it is used."""
-from bg_switch_tools.judging import GREATEST_PORT, JsonObject, Judge, decoded
-from bg_switch_tools.plan import Analyses, Health, Plan, PlannedRevision, Progress
+from bg_switch_tools.judging import GREATEST_PORT, JsonObject, Judge
+from bg_switch_tools.plan import Analyses, Commands, Health, Plan, PlannedRevision, Progress
+from bg_switch_tools.plan_limits import judge_limits
+from bg_switch_tools.plan_text import value_of
 
 LARGEST = 1 << 20  # bytes of a plan
 MOST_REVISIONS = 64
 LONGEST = 86400  # seconds: above each interval and limit of a plan stands a day
 MOST_FAILURES = 1000
+COMMANDS = ("start", "stop", "notify")
+SERVICES = ("active", "preview")
+KEYS = ("control", *SERVICES, "health", "analyses", "progress", "redispatch", *COMMANDS, "timeout", "revisions")
 
 
 class WrongPlan(Exception):
@@ -37,9 +42,16 @@ def read_analyses(judge: Judge, told: object, place: str) -> Analyses:
 
 
 def read_progress(judge: Judge, told: object, place: str) -> Progress:
-    members = judge.members(told, place, ("seconds", "abort"))
+    members = judge.members(told, place, ("seconds", "abort", "outage"))
     return Progress(seconds(judge, members, "seconds", place, Progress.seconds),
-                    judge.member(members, "abort", place, judge.flag, Progress.abort))
+                    judge.member(members, "abort", place, judge.flag, Progress.abort),
+                    seconds(judge, members, "outage", place, Progress.outage))
+
+
+def read_commands(judge: Judge, members: JsonObject) -> Commands:
+    none: tuple[str, ...] = ()
+    start, stop, notify = (judge.member(members, key, "", judge.command, none) for key in COMMANDS)
+    return Commands(start, stop, notify, seconds(judge, members, "timeout", "", Commands.timeout))
 
 
 def read_revision(judge: Judge, told: object, place: str) -> PlannedRevision:
@@ -50,14 +62,32 @@ def read_revision(judge: Judge, told: object, place: str) -> PlannedRevision:
 
 
 def compare(judge: Judge, revisions: tuple[PlannedRevision, ...], place: str) -> None:
-    """Notes names that stand twice, and revisions that have not as many ports as the first one."""
+    """Notes names that stand twice, ports that two revisions have, and revisions that have not as many ports as the first one."""
     names = [revision.name for revision in revisions]
+    first: dict[int, str] = {}  # by the port: its place in the revision that has it first
     for number, revision in enumerate(revisions):
         if revision.name and revision.name in names[:number]:
             judge.note(f"{place}[{number}].name", f'"{revision.name}" stands at {place}[{names.index(revision.name)}].name already')
         if revision.ports and revisions[0].ports and len(revision.ports) != len(revisions[0].ports):
             judge.note(f"{place}[{number}].ports", f"has {len(revision.ports)}, and {place}[0].ports has "
                        f"{len(revisions[0].ports)}: each revision has one port for each replica")
+        places = {port: f"{place}[{number}].ports[{index}]" for index, port in enumerate(revision.ports)}
+        for port in (port for port in places if port in first):
+            judge.note(places[port], f"{port} stands at {first[port]} already: an endpoint serves one revision")
+        first = {**places, **first}
+
+
+def compare_ports(judge: Judge, plan: Plan) -> None:
+    """Notes ports of the switch itself that are named twice, or as those of an endpoint."""
+    own = {plan.control: "control"}
+    for key, port in plan.services.items():
+        if port in own:
+            judge.note(key, f"{port} stands at {own[port]} already")
+        own.setdefault(port, key)
+    for number, revision in enumerate(plan.revisions):
+        for index, port in enumerate(revision.ports):
+            if port in own:
+                judge.note(f"revisions[{number}].ports[{index}]", f"{port} is a port of the switch itself, as {own[port]} says")
 
 
 def read_revisions(judge: Judge, told: object, place: str) -> tuple[PlannedRevision, ...]:
@@ -75,16 +105,25 @@ def read_plan(text: bytes) -> Plan:
     if len(text) > LARGEST:
         raise WrongPlan([f"it has more than {LARGEST} bytes"])
     try:
-        told = decoded(text)
+        told = value_of(text)
     except ValueError as error:
-        raise WrongPlan([f"it is no JSON: {error}"]) from None
-    members = judge.members(told, "", ("control", "health", "analyses", "progress", "revisions"), ("control", "revisions"))
+        raise WrongPlan([str(error)]) from None
+    members = judge.members(told, "", KEYS, ("control", "revisions"))
+
+    def port(value: object, place: str) -> int:
+        return judge.whole_number(value, place, 1, GREATEST_PORT)
     plan = Plan(
-        judge.member(members, "control", "", lambda value, at: judge.whole_number(value, at, 1, GREATEST_PORT), 1),
+        judge.member(members, "control", "", port, 1),
         judge.member(members, "health", "", lambda value, at: read_health(judge, value, at), Health()),
         judge.member(members, "analyses", "", lambda value, at: read_analyses(judge, value, at), Analyses({})),
         judge.member(members, "progress", "", lambda value, at: read_progress(judge, value, at), Progress()),
-        judge.member(members, "revisions", "", lambda value, at: read_revisions(judge, value, at), ()))
+        judge.member(members, "revisions", "", lambda value, at: read_revisions(judge, value, at), ()),
+        read_commands(judge, members),
+        judge.member(members, "redispatch", "", judge.flag, True),
+        {key: port(members[key], key) for key in SERVICES if key in members})
+    if not judge.problems:
+        compare_ports(judge, plan)
+        judge_limits(judge, plan)
     if judge.problems:
         raise WrongPlan(judge.problems)
     return plan

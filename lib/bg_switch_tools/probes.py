@@ -2,7 +2,8 @@
 import asyncio
 import errno
 import threading
-from collections.abc import Collection, Iterable
+import time
+from collections.abc import Collection, Iterable, Sequence
 
 from bg_switch_tools.connection import HOST
 from bg_switch_tools.plan import Health
@@ -92,6 +93,8 @@ class Probes:
     def __init__(self) -> None:
         self.health = Health()
         self.failed: dict[int, int] = {}  # by port: failures in a row, once a probe has ended
+        self.failing_since: dict[int, float] = {}  # by port: when the first of the failures in a row was seen
+        self.generation: dict[int, int] = {}  # by port: how often what was known of it was forgotten
         self.tasks: dict[int, asyncio.Task[None]] = {}
         self.watched: frozenset[int] = frozenset()
         self.loop = asyncio.new_event_loop()
@@ -108,26 +111,56 @@ class Probes:
         for port in set(self.tasks) - ports:
             self.tasks.pop(port).cancel()
             self.failed.pop(port, None)
+            self.failing_since.pop(port, None)
         for port in ports - set(self.tasks):
             self.tasks[port] = self.loop.create_task(self._probe(port))
 
     async def _probe(self, port: int) -> None:
         while True:
-            begun = self.loop.time()
-            self._take_in(port, await is_up(port, self.health))
+            begun, generation = self.loop.time(), self.generation.get(port)
+            up = await is_up(port, self.health)
+            if generation == self.generation.get(port):
+                self._take_in(port, up)
             await asyncio.sleep(begun + self.health.interval - self.loop.time())
 
     def _take_in(self, port: int, up: bool | None) -> None:
         """The first probe alone decides; later on an endpoint is down after so many failures in a row."""
         if up is True:
             self.failed[port] = 0
+            self.failing_since.pop(port, None)
         elif up is False:
+            self.failing_since.setdefault(port, time.monotonic())
             self.failed[port] = self.failed.get(port, self.health.failures) + 1
+
+    def forget(self, port: int) -> None:
+        """What is known of an endpoint holds no longer, since a command starts or stops it: its next probe decides alone."""
+        self.generation[port] = self.generation.get(port, 0) + 1
+        self.failed.pop(port, None)
+
+    def is_down(self, port: int) -> bool | None:
+        """Whether an endpoint is down; None where it was not probed yet."""
+        failed = self.failed.get(port)
+        return None if failed is None else failed >= self.health.failures
+
+    def _downs(self, ports: Iterable[int]) -> list[bool] | None:
+        """Whether each of these endpoints is down, or None where one was not probed yet."""
+        downs = [self.is_down(port) for port in ports]
+        return None if None in downs else [down is True for down in downs]
 
     def first_up(self, ports: Iterable[int]) -> int | None:
         """How many of the first of these endpoints are up, or None where one was not probed yet."""
-        failures = [self.failed.get(port) for port in ports]
-        if None in failures:
-            return None
-        is_down = [failed is not None and failed >= self.health.failures for failed in failures]
-        return [*is_down, True].index(True)
+        downs = self._downs(ports)
+        return None if downs is None else [*downs, True].index(True)
+
+    def count_up(self, ports: Iterable[int]) -> int | None:
+        """How many of these endpoints are up, or None where one was not probed yet."""
+        downs = self._downs(ports)
+        return None if downs is None else downs.count(False)
+
+    def outage(self, ports: Sequence[int]) -> float:
+        """For how many seconds no probe of these endpoints has succeeded, where all of them are down; else 0. The seconds count
+        from the first failed probe of the endpoint that failed last."""
+        since = [self.failing_since.get(port) for port in ports]
+        if not ports or None in since or not all(self.is_down(port) for port in ports):
+            return 0.0
+        return time.monotonic() - max(moment for moment in since if moment is not None)

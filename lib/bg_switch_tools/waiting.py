@@ -19,8 +19,15 @@ class Waited(NamedTuple):
     report: Report | None
 
 
-def wait_for(port: int, conditions: Conditions, timeout: float, wait: float, see: Callable[[Report], None]) -> Waited:
-    """Waits for conditions, for `timeout` seconds at most. `see` is given each report.
+def nothing_comes() -> str | None:
+    """What a wait that knows of no plan takes for announced."""
+    return None
+
+
+def wait_for(port: int, conditions: Conditions, timeout: float, wait: float, see: Callable[[Report], None],
+             announced: Callable[[], str | None] = nothing_comes) -> Waited:
+    """Waits for conditions, for `timeout` seconds at most. `see` is given each report. `announced` gives the revision whose
+    deploy a plan announces: up to that deploy the wait goes on.
 
     A switch that does not answer within `wait` seconds, or has no book yet, is asked again.
     """
@@ -28,6 +35,7 @@ def wait_for(port: int, conditions: Conditions, timeout: float, wait: float, see
     report: Report | None = None
     state = "the switch was not asked"
     while True:
+        coming = announced()  # before the report: what was deployed by then, the report shows
         try:
             report = read_report(ask(port, b"report", max(min(wait, deadline - time.monotonic()), PAUSE)))
             state = in_one_line(report)
@@ -35,10 +43,11 @@ def wait_for(port: int, conditions: Conditions, timeout: float, wait: float, see
             report, state = None, str(error)
         if report is not None:
             see(report)
-            outlook = conditions.outlook(report)
+            outlook = conditions.outlook(report, coming)
             if outlook.holds or outlook.never:
                 return Waited(REACHED if outlook.holds else NEVER, outlook.never, report)
         if time.monotonic() + PAUSE >= deadline:
             break
         time.sleep(PAUSE)
+    state += f"; the controller has not deployed {coming} by the plan yet" if coming else ""
     return Waited(TOO_LATE, f"{' '.join(conditions.texts)} does not hold after {timeout:g} seconds: {state}", report)

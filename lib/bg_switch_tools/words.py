@@ -42,17 +42,6 @@ def share_of(text: str) -> float:
     return float(decimal.Decimal(told) / 100)
 
 
-def milliseconds_of(text: str) -> float:
-    """The milliseconds of a text such as `300ms` or `1.5s`."""
-    for unit, factor in (("ms", 1), ("s", 1000)):
-        if text.endswith(unit):
-            number = number_of(text.removesuffix(unit)) * factor
-            if 0 <= number <= LONGEST * 1000:
-                return number
-            break
-    raise argparse.ArgumentTypeError(f"a duration is wanted, such as 300ms or 1.5s, and not {text!r}")
-
-
 def count_of(text: str) -> int:
     if not text.isascii() or not text.isdigit() or len(text) > 9:
         raise argparse.ArgumentTypeError(f"a whole number is wanted, and not {text!r}")

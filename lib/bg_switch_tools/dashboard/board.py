@@ -1,11 +1,12 @@
 """What the dashboard knows of a switch: its reports, its requests, and what has happened."""
 import secrets
 import time
-from collections.abc import Sequence
+from collections.abc import Mapping, Sequence
 from typing import TypedDict
 
-from bg_switch_tools.access_log import Batch, Entry
+from bg_switch_tools.access_log import CLIENT_SERVICES, Batch, Entry
 from bg_switch_tools.changes import changes, is_another_book
+from bg_switch_tools.dashboard.alarms import alarms
 from bg_switch_tools.dashboard.steps import Attempt, orders, steps
 from bg_switch_tools.dashboard.totals import Totals
 from bg_switch_tools.dashboard.traffic import KEPT, SLOT, Traffic
@@ -18,8 +19,8 @@ MOST_OF_A_BATCH = 20  # failed requests that one look adds
 
 
 class Happening(TypedDict):
-    """Something that happened. `kind` is `switch`, `abort`, `change`, `order`, `silence`, `answer` or `log`; `mark` is the
-    text of its mark in the charts, where it has one."""
+    """Something that happened. `kind` is `switch`, `abort`, `change`, `order`, `alarm`, `silence`, `answer`, `log` or `fault`;
+    `mark` is the text of its mark in the charts, where it has one."""
     id: int
     time: float
     moment: int | None
@@ -37,10 +38,13 @@ class Board:
         self.is_read_only = is_read_only
         self.session = secrets.token_hex(8)  # by which a page notices that another dashboard has taken the place
         self.report: Report | None = None
+        self.earlier: Report | None = None  # of the same book, before the last one
         self.has_asked = False  # whether the switch has answered before
         self.fault = "the switch has not been asked yet"
         self.since = time.time()  # when it began to answer, or not to
         self.log_fault = ""
+        self.own_fault = ""  # what has ended the last look, where it was not expected
+        self.own_faults = 0
         self.attempt = Attempt()
         self.names: dict[int, str] = {}  # of revisions, by their numbers in the book that is open
         self.traffic = Traffic()
@@ -64,16 +68,41 @@ class Board:
             self.fault, self.since = "", time.time()
         before, self.report = self.report, report
         is_another = before is not None and report is not None and is_another_book(before, report)
+        self.earlier = None if is_another else before
         if report is None or is_another:
             self.names = {}
         if report is not None:
             self.names.update({number: revision.name for number, revision in report.revisions.items()})
+            self.totals.begin(report)
             self.totals.take_changes(None if is_another else before, report)
             self.attempt.take(report)
         is_first, self.has_asked = not self.has_asked, True
         for change in changes(before, report) if not is_first else []:
             kind = "switch" if change.startswith("active: ") else "abort" if change.endswith(" -> aborted") else "change"
             self.say(kind, change, self._mark(kind, report))
+        self._say_alarms(None if is_another else before, report)
+
+    def _say_alarms(self, before: Report | None, now: Report | None) -> None:
+        """Says which alarms have come between two reports, and which have gone. A book that is new has no endpoint yet, which
+        has no mark."""
+        was, is_now = alarms(before), alarms(now)
+        for alarm in is_now:
+            if alarm not in was:
+                self.say("alarm", alarm["text"], "" if before is None else "no endpoint")
+        if was and not is_now and now is not None:
+            active = now.service("active")
+            self.say("answer", f"an endpoint of {active.name} is up again: {active.available} of {active.desired}")
+
+    def take_fault(self, fault: str) -> bool:
+        """Takes in what has ended a look, or with an empty text that none has. Gives whether that is new."""
+        is_new = fault != self.own_fault
+        if is_new and fault:
+            self.say("fault", f"the dashboard could not look at the switch: {fault}; some requests may not be counted")
+        elif is_new:
+            self.say("answer", "the dashboard looks at the switch again")
+        self.own_fault = fault
+        self.own_faults += bool(fault)
+        return is_new
 
     @staticmethod
     def _mark(kind: str, report: Report | None) -> str:
@@ -90,12 +119,13 @@ class Board:
 
     def take_batch(self, batch: Batch, fault: str, is_counted: bool = True) -> None:
         """Takes in what has come into the log. What stood there before the dashboard began is shown, and not counted."""
+        selected = {service: self._selected(service) if is_counted else "" for service in CLIENT_SERVICES}
         for entry in batch.entries:
-            revision = self.name(entry.revision)
+            revision = selected[entry.service] if entry.is_without_endpoint else self.name(entry.revision)
             self.traffic.add(entry, revision)
             if is_counted:
                 self.totals.add(entry, revision)
-        self._take_failed([entry for entry in batch.entries if entry.is_error])
+        self._take_failed([entry for entry in batch.entries if entry.is_error], selected)
         if batch.lost:
             self.say("log", f"the switch could not write {batch.lost} lines of its log")
         self.totals.lost += batch.lost
@@ -104,10 +134,17 @@ class Board:
             self.say("log", f"the log {self.log_path} can't be read: {fault}" if fault else f"the log {self.log_path} is read")
         self.log_fault = fault
 
-    def _take_failed(self, entries: Sequence[Entry]) -> None:
+    def _selected(self, service: str) -> str:
+        """The name of the revision that a service has selected in the last two reports; empty where it is none."""
+        if self.report is None or self.earlier is None or self.report.selected[service] != self.earlier.selected[service]:
+            return ""
+        return self.report.service(service).name
+
+    def _take_failed(self, entries: Sequence[Entry], selected: Mapping[str, str]) -> None:
         for entry in entries[-MOST_OF_A_BATCH:]:
+            revision = selected[entry.service] if entry.is_without_endpoint else self.name(entry.revision)
             self.failed.append({
-                "id": self.next_id, "time": entry.time, "service": entry.service, "revision": self.name(entry.revision),
+                "id": self.next_id, "time": entry.time, "service": entry.service, "revision": revision, "port": entry.port,
                 "method": entry.method, "target": entry.target, "status": entry.status, "end": entry.end, "reason": entry.reason,
                 "duration_ms": entry.duration_ms})
             self.next_id += 1
@@ -126,6 +163,7 @@ class Board:
         return {
             "time": now, "session": self.session, "control": self.control, "read_only": self.is_read_only,
             "switch": {"answers": not self.fault, "fault": self.fault, "since": self.since},
+            "alarms": alarms(report) if not self.fault else [], "fault": self.own_fault,
             "log": {"path": self.log_path, "fault": self.log_fault, "lost": self.totals.lost,
                     "unreadable": self.totals.unreadable},
             "report": as_json(report) if report else None,

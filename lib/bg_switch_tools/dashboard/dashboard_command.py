@@ -1,5 +1,6 @@
 """bin/dashboard: shows a running switch as a web page, and gives its metrics."""
 import argparse
+import os
 import sys
 from collections.abc import Sequence
 
@@ -46,6 +47,6 @@ def main(words: Sequence[str]) -> int:
     try:
         server.run(Board(given.port, given.log, given.read_only), given.listen)
     except OSError as error:
-        print(f"dashboard: port {given.listen} can't be had: {error.strerror}", file=sys.stderr)
+        print(f"dashboard: port {given.listen} can't be had: {os.strerror(error.errno or 0)}", file=sys.stderr)
         return 1
     return 0

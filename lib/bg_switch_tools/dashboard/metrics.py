@@ -4,39 +4,57 @@ from collections.abc import Iterable, Iterator, Mapping, Sequence
 import prometheus_client
 from prometheus_client.core import CounterMetricFamily, GaugeMetricFamily, HistogramMetricFamily, Metric
 
+from bg_switch_tools.dashboard.alarms import without_endpoint
 from bg_switch_tools.dashboard.board import Board
-from bg_switch_tools.dashboard.totals import Labels, Tally
-from bg_switch_tools.reports import PHASES, SERVICES, Report, Revision
+from bg_switch_tools.dashboard.totals import Labels, Totals
+from bg_switch_tools.reports import PHASES, SERVICES, Report
 
 CONTENT_TYPE = prometheus_client.CONTENT_TYPE_LATEST
 # The phases of Argo Rollouts.
 ARGO_PHASES = {"steady": "Healthy", "aborted": "Degraded", "paused": "Paused"}
 LABELS = list(Labels._fields)
+# The names that metrics had before, which are those of exporters that can run beside the dashboard.
+OLD_NAMES = {
+    "bg_switch_rollout_info": "rollout_info",
+    "bg_switch_rollout_events": "rollout_events",
+    "bg_switch_replicas_desired": "rollout_info_replicas_desired",
+    "bg_switch_replicas_available": "rollout_info_replicas_available",
+    "bg_switch_replicas_unavailable": "rollout_info_replicas_unavailable",
+    "bg_switch_http_requests": "nginx_http_requests",
+    "bg_switch_http_request_duration_seconds": "nginx_ingress_controller_request_duration_seconds",
+    "bg_switch_http_response_duration_seconds": "nginx_ingress_controller_response_duration_seconds"}
+Values = Iterable[tuple[Sequence[str], float]]
 
 
 def _gauge(name: str, text: str, value: float) -> Metric:
     return GaugeMetricFamily(name, text, value)
 
 
-def _by(name: str, text: str, label: str, values: Mapping[str, float]) -> Metric:
-    """A gauge with one label."""
-    made = GaugeMetricFamily(name, text, labels=[label])
-    for value, number in values.items():
-        made.add_metric([value], number)
-    return made
-
-
-def _histogram(name: str, text: str, tallies: Mapping[Labels, Tally]) -> Metric:
-    made = HistogramMetricFamily(name, text, labels=LABELS)
-    for labels, tally in tallies.items():
-        made.add_metric(labels, tally.buckets(), tally.sum)
-    return made
-
-
-def _counter(name: str, text: str, labels: list[str], values: Iterable[tuple[Sequence[str], float]]) -> Metric:
-    made = CounterMetricFamily(name, text, labels=labels)
+def _gauges(name: str, text: str, labels: Sequence[str], values: Values) -> Metric:
+    made = GaugeMetricFamily(name, text, labels=list(labels))
     for each, number in values:
         made.add_metric(each, number)
+    return made
+
+
+def _by(name: str, text: str, label: str, values: Mapping[str, float]) -> Metric:
+    """A gauge with one label."""
+    return _gauges(name, text, [label], [([value], number) for value, number in values.items()])
+
+
+def _counter(name: str, text: str, labels: Sequence[str], values: Values) -> Metric:
+    made = CounterMetricFamily(name, text, labels=list(labels))
+    for each, number in values:
+        made.add_metric(each, number)
+    return made
+
+
+def _histogram(name: str, text: str, totals: Totals, of_upstream: bool) -> Metric:
+    made = HistogramMetricFamily(name, text, labels=LABELS)
+    for labels, counted in totals.items():
+        tally = counted.upstream if of_upstream else counted.durations
+        if not tally.is_empty:
+            made.add_metric(labels, tally.buckets(), tally.sum)
     return made
 
 
@@ -45,15 +63,11 @@ def _of_revisions(report: Report) -> Iterator[Metric]:
 
     def each(name: str, text: str, values: Mapping[str, float]) -> Metric:
         return _by(name, text, "revision", values)
-
-    def missing(revision: Revision) -> int:
-        return revision.desired - revision.available
-    yield each("rollout_info_replicas_desired", "Endpoints that the revision wants.",
-               {one.name: one.desired for one in revisions})
-    yield each("rollout_info_replicas_available", "Endpoints of the revision that can take requests.",
+    yield each("bg_switch_replicas_desired", "Endpoints that the revision wants.", {one.name: one.desired for one in revisions})
+    yield each("bg_switch_replicas_available", "Endpoints of the revision that can take requests.",
                {one.name: one.available for one in revisions})
-    yield each("rollout_info_replicas_unavailable", "Endpoints that the revision wants and that can't take requests.",
-               {one.name: missing(one) for one in revisions})
+    yield each("bg_switch_replicas_unavailable", "Endpoints that the revision wants and that can't take requests.",
+               {one.name: one.desired - one.available for one in revisions})
     yield each("bg_switch_open_requests", "Requests of the revision that are being served.",
                {one.name: one.open for one in revisions})
     yield each("bg_switch_draining", "Whether the scale-down of the revision waits for its open requests.",
@@ -63,19 +77,52 @@ def _of_revisions(report: Report) -> Iterator[Metric]:
 
 
 def _of_report(report: Report) -> Iterator[Metric]:
-    info = GaugeMetricFamily("rollout_info", "The strategy and the phase, in the words of Argo Rollouts.",
-                             labels=["strategy", "phase"])
-    info.add_metric(["blueGreen", ARGO_PHASES.get(report.phase, "Progressing")], 1)
-    yield info
+    yield _gauges("bg_switch_rollout_info", "The strategy and the phase, in the words of Argo Rollouts.", ["strategy", "phase"],
+                  [(["blueGreen", ARGO_PHASES.get(report.phase, "Progressing")], 1)])
     yield _by("bg_switch_phase", "The phase: 1 for the one that the switch is in.", "phase",
               {phase: phase == report.phase for phase in PHASES})
-    selected = GaugeMetricFamily("bg_switch_selected", "The revision that is selected, 1 for each.",
-                                 labels=["service", "revision"])
-    for service in SERVICES:
-        selected.add_metric([service, report.service(service).name], 1)
-    yield selected
+    yield _gauges("bg_switch_selected", "The revision that is selected, 1 for each.", ["service", "revision"],
+                  [([service, report.service(service).name], 1) for service in SERVICES])
+    yield _by("bg_switch_service_without_endpoint", "Whether no endpoint is up of the revision that the service selects.", "service",
+              without_endpoint(report))
     yield _gauge("bg_switch_moment_seconds", "The moment of the switch, in seconds from its start.", report.moment)
     yield from _of_revisions(report)
+
+
+def _of_requests(totals: Totals) -> Iterator[Metric]:
+    yield _counter("bg_switch_http_requests", "Requests that ended.", LABELS,
+                   [(labels, counted.requests) for labels, counted in totals.items()])
+    yield _counter("bg_switch_response_bytes", "Bytes of responses.", LABELS,
+                   [(labels, counted.bytes) for labels, counted in totals.items()])
+    yield _counter("bg_switch_redispatched_requests", "Requests of which another endpoint was dialled than that of their slot.",
+                   LABELS, [(labels, counted.redispatched) for labels, counted in totals.items()])
+    yield _counter("bg_switch_connect_retries", "Connects to endpoints after the first one of each request.", LABELS,
+                   [(labels, counted.retries) for labels, counted in totals.items()])
+    yield _histogram("bg_switch_http_request_duration_seconds", "From the connection of a client to its end.", totals, False)
+    yield _histogram("bg_switch_http_response_duration_seconds", "From the dial of an endpoint to its response.", totals, True)
+
+
+def _of_board(board: Board) -> Iterator[Metric]:
+    totals = board.totals
+    yield _gauge("bg_switch_up", "Whether the switch answers at its control port.", not board.fault)
+    if board.report and not board.fault:
+        yield from _of_report(board.report)
+    yield _counter("bg_switch_rollout_events", "Changes, by the reason of the event of Argo Rollouts.", ["reason"],
+                   [([reason], count) for reason, count in totals.events.items()])
+    yield from _of_requests(totals)
+    yield _counter("bg_switch_log_lines_lost", "Lines that the switch could not write into its log.", [], [([], totals.lost)])
+    yield _counter("bg_switch_log_lines_unreadable", "Lines of the log that the dashboard could not read.", [],
+                   [([], totals.unreadable)])
+    yield _counter("bg_switch_dashboard_faults", "Looks of the dashboard that ended by a fault of its own.", [],
+                   [([], board.own_faults)])
+
+
+def _renamed(metric: Metric, name: str) -> Metric:
+    """The same metric by its old name."""
+    text = f"The old name of {metric.name}, which goes with the next version."
+    made = Metric(name, text, metric.type)
+    made.samples = [sample._replace(name=name + sample.name.removeprefix(metric.name)) for sample in metric.samples]
+    return made
 
 
 class Collector:
@@ -85,21 +132,10 @@ class Collector:
         self.board = board
 
     def collect(self) -> Iterator[Metric]:
-        board, totals = self.board, self.board.totals
-        yield _gauge("bg_switch_up", "Whether the switch answers at its control port.", not board.fault)
-        if board.report and not board.fault:
-            yield from _of_report(board.report)
-        events = [([reason], count) for reason, count in totals.events.items()]
-        yield _counter("rollout_events", "Changes, by the reason of the event of Argo Rollouts.", ["reason"], events)
-        yield _counter("nginx_http_requests", "Requests that ended.", LABELS, totals.requests.items())
-        yield _counter("bg_switch_response_bytes", "Bytes of responses.", LABELS, totals.bytes.items())
-        yield _histogram("nginx_ingress_controller_request_duration_seconds", "From the connection of a client to its end.",
-                         totals.durations)
-        yield _histogram("nginx_ingress_controller_response_duration_seconds", "From the dial of an endpoint to its response.",
-                         totals.upstream)
-        yield _counter("bg_switch_log_lines_lost", "Lines that the switch could not write into its log.", [], [([], totals.lost)])
-        yield _counter("bg_switch_log_lines_unreadable", "Lines of the log that the dashboard could not read.", [],
-                       [([], totals.unreadable)])
+        for metric in _of_board(self.board):
+            yield metric
+            if metric.name in OLD_NAMES:
+                yield _renamed(metric, OLD_NAMES[metric.name])
 
 
 def registry_of(board: Board) -> prometheus_client.CollectorRegistry:

@@ -6,6 +6,8 @@ import importlib.resources
 import json
 import logging
 import secrets
+import socket
+import traceback
 from collections.abc import AsyncIterator, Awaitable, Callable
 
 from aiohttp import http_exceptions, web
@@ -25,6 +27,7 @@ BACKLOG = 1 << 25  # bytes of the log that are read when the dashboard begins
 MOST_WAITING = 100  # updates that a listener may be behind
 MOST_LISTENERS = 64
 LARGEST_ORDER = 4096  # bytes
+LONGEST_FAULT = 300  # characters of an exception that are told
 LAST_SECOND = 1  # second for requests and streams to end after a signal
 FILES = {"dashboard.css": "text/css", "dashboard.js": "text/javascript", "charts.js": "text/javascript",
          "parts.js": "text/javascript", "icon.svg": "image/svg+xml"}
@@ -94,9 +97,13 @@ class Server:
             await task
 
     async def look_always(self) -> None:
+        """Looks again and again, whatever happens."""
         while True:
-            is_counted = not (self.follower and self.follower.is_behind)
-            self.take(*await asyncio.to_thread(self.look), is_counted)
+            try:
+                is_counted = not (self.follower and self.follower.is_behind)
+                self.take(*await asyncio.to_thread(self.look), is_counted)
+            except Exception as error:  # none is expected; without the looks that follow, the page would show what is long past
+                self.take_fault(error)
             with contextlib.suppress(TimeoutError):
                 await asyncio.wait_for(self.soon.wait(), SOON if self.follower and self.follower.has_more else PAUSE)
             self.soon.clear()
@@ -110,6 +117,13 @@ class Server:
         except (Unreachable, NoReport) as reason:
             return batch, str(reason)
 
+    def take_fault(self, error: Exception) -> None:
+        """Takes in what has ended a look: the page says it, and standard error, once for each series of the same."""
+        if self.board.take_fault(f"{type(error).__name__}: {error}"[:LONGEST_FAULT]):
+            traceback.print_exception(error)
+        with contextlib.suppress(Exception):
+            self.tell()
+
     def take(self, batch: Batch | None, seen: Report | None | str, is_counted: bool) -> None:
         """Takes in what was seen, and tells it to all who listen."""
         if isinstance(seen, str):
@@ -118,6 +132,7 @@ class Server:
             self.board.take_report(seen)
         if batch and self.follower:
             self.board.take_batch(batch, self.follower.fault, is_counted)
+        self.board.take_fault("")
         self.tell()
 
     def tell(self) -> None:
@@ -204,4 +219,6 @@ def run(board: Board, listen: int) -> None:
         application.on_startup.append(tell)
         return application
     logging.getLogger("aiohttp.server").addFilter(is_worth_telling)
-    web.run_app(made(), host=HOST, port=listen, print=lambda *_: None, access_log=None, shutdown_timeout=LAST_SECOND)
+    # aiohttp would tell a port that can't be had with a trace
+    with socket.create_server((HOST, listen)) as listener:
+        web.run_app(made(), sock=listener, print=lambda *_: None, access_log=None, shutdown_timeout=LAST_SECOND)

@@ -1,9 +1,11 @@
 """Numbers that only grow, as metrics want them: requests and their durations, and what has happened."""
+import bisect
 import collections
-from typing import NamedTuple, TypeVar
+from collections.abc import Iterator
+from typing import NamedTuple
 
-from bg_switch_tools.access_log import Entry
-from bg_switch_tools.dashboard.traffic import class_of
+from bg_switch_tools.access_log import CLIENT_SERVICES, Entry
+from bg_switch_tools.dashboard.traffic import CLASSES, NO_ANSWER, class_of
 from bg_switch_tools.reports import SERVICES, Report
 
 # The ends of the buckets of durations, in seconds.
@@ -18,15 +20,6 @@ class Labels(NamedTuple):
     status: str
 
 
-Counted = TypeVar("Counted")
-
-
-def drop(counted: dict[Labels, Counted], revision: str) -> None:
-    """Counts no longer by the name of this revision."""
-    for labels in [labels for labels in counted if labels.revision == revision]:
-        del counted[labels]
-
-
 class Tally:
     """Durations: how many are in each bucket, and their sum in seconds."""
 
@@ -36,8 +29,12 @@ class Tally:
 
     def add(self, milliseconds: float) -> None:
         seconds = milliseconds / 1000
-        self.counts[next((place for place, end in enumerate(BUCKETS) if seconds <= end), len(BUCKETS))] += 1
+        self.counts[bisect.bisect_left(BUCKETS, seconds)] += 1
         self.sum += seconds
+
+    @property
+    def is_empty(self) -> bool:
+        return not any(self.counts)
 
     def buckets(self) -> list[tuple[str, float]]:
         """Each end as a text with how many durations are not above it."""
@@ -48,26 +45,54 @@ class Tally:
         return found
 
 
+class Counted:
+    """Requests that are counted together: `redispatched` are those of which another endpoint was dialled than that of the slot,
+    `retries` the connects after the first one of each."""
+
+    def __init__(self) -> None:
+        self.requests = self.bytes = self.redispatched = self.retries = 0
+        self.durations = Tally()
+        self.upstream = Tally()
+
+    def add(self, entry: Entry) -> None:
+        self.requests += 1
+        self.bytes += entry.response_bytes or 0
+        self.redispatched += entry.slot_port is not None
+        self.retries += max((entry.tries or 0) - 1, 0)
+        self.durations.add(entry.duration_ms)
+        if entry.upstream_ms is not None:
+            self.upstream.add(entry.upstream_ms)
+
+
 class Totals:
     """All that has come since the dashboard began."""
 
     def __init__(self) -> None:
-        self.requests: collections.Counter[Labels] = collections.Counter()
-        self.durations: collections.defaultdict[Labels, Tally] = collections.defaultdict(Tally)
-        self.upstream: collections.defaultdict[Labels, Tally] = collections.defaultdict(Tally)
-        self.bytes: collections.Counter[Labels] = collections.Counter()
+        self.counted: dict[Labels, Counted] = {}
         self.events: collections.Counter[str] = collections.Counter()
         self.names: dict[str, None] = {}  # of revisions, by when they were seen first
         self.lost = self.unreadable = 0
 
     def add(self, entry: Entry, revision: str) -> None:
         labels = Labels(entry.service, revision or "none", class_of(entry.status))
-        self._know(labels.revision)
-        self.requests[labels] += 1
-        self.bytes[labels] += entry.response_bytes or 0
-        self.durations[labels].add(entry.duration_ms)
-        if entry.upstream_ms is not None:
-            self.upstream[labels].add(entry.upstream_ms)
+        counted = self.counted.get(labels)
+        if counted is None:
+            self._know(labels.revision)
+            counted = self.counted[labels] = Counted()
+        counted.add(entry)
+
+    def begin(self, report: Report) -> None:
+        """Counts from 0 on what services are about to get: of a counter that begins with a larger number, Prometheus would not
+        see the first requests, and of one that is missing it has no rate."""
+        for service in CLIENT_SERVICES:
+            revision = report.service(service).name
+            if Labels(service, revision, NO_ANSWER) not in self.counted:
+                self._know(revision)
+                for each in CLASSES:
+                    self.counted.setdefault(Labels(service, revision, each), Counted())
+
+    def items(self) -> Iterator[tuple[Labels, Counted]]:
+        yield from self.counted.items()
 
     def _know(self, revision: str) -> None:
         """Counts by the name of this revision from now on, and no longer by one that is too old."""
@@ -75,10 +100,8 @@ class Totals:
         if len(self.names) > MOST_REVISIONS:
             oldest = next(iter(self.names))
             del self.names[oldest]
-            for counts in (self.requests, self.bytes):
-                drop(counts, oldest)
-            for tallies in (self.durations, self.upstream):
-                drop(tallies, oldest)
+            for labels in [labels for labels in self.counted if labels.revision == oldest]:
+                del self.counted[labels]
 
     def take_changes(self, before: Report | None, now: Report) -> None:
         """Counts what has changed between two reports, by the reasons of the events of Argo Rollouts."""

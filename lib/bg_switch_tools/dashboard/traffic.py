@@ -1,5 +1,6 @@
 """Requests of the last ten minutes, counted by time, revision and class of status."""
 import collections
+import functools
 import math
 from collections.abc import Iterator, Sequence
 from typing import TypedDict
@@ -11,9 +12,12 @@ KEPT = 600  # seconds
 RECENT = 30  # seconds of which the present rates are told
 LEAST, FACTOR = 0.05, 1.05  # of the bins of durations: the end of the first one in milliseconds, and the step between two
 NO_ANSWER = "none"
+CLASSES = ("1xx", "2xx", "3xx", "4xx", "5xx", NO_ANSWER)
 ERRORS = ("5xx", NO_ANSWER)
+SCALE = 1 / math.log(FACTOR)
 
 
+@functools.lru_cache(1024)
 def class_of(status: int | None) -> str:
     """The class of a status, as `5xx`; `none` where there was no answer. One outside 100 to 599, which has no class, counts as
     `5xx` (RFC 9110, section 15)."""
@@ -29,7 +33,7 @@ class Durations:
         self.bins: collections.Counter[int] = collections.Counter()
 
     def add(self, duration: float) -> None:
-        self.bins[math.ceil(math.log(max(duration, LEAST) / LEAST, FACTOR))] += 1
+        self.bins[math.ceil(math.log(max(duration, LEAST) / LEAST) * SCALE)] += 1
 
     def take(self, other: "Durations") -> None:
         self.bins += other.bins
@@ -45,19 +49,28 @@ class Durations:
 
 
 class Cell:
-    """The requests of one revision in one slot."""
+    """The requests of one revision in one slot; `ports` and `failed_ports` count them, and the errors of them, by the port of the
+    endpoint that was dialled."""
 
     def __init__(self) -> None:
         self.counts: collections.Counter[str] = collections.Counter()
         self.durations = Durations()
+        self.ports: collections.Counter[int] = collections.Counter()
+        self.failed_ports: collections.Counter[int] = collections.Counter()
 
     def add(self, entry: Entry) -> None:
         self.counts[class_of(entry.status)] += 1
         self.durations.add(entry.duration_ms)
+        if entry.port is not None:
+            self.ports[entry.port] += 1
+            if entry.is_error:
+                self.failed_ports[entry.port] += 1
 
     def take(self, other: "Cell") -> None:
         self.counts += other.counts
         self.durations.take(other.durations)
+        self.ports += other.ports
+        self.failed_ports += other.failed_ports
 
 
 class CellJson(TypedDict):
@@ -74,12 +87,20 @@ class SlotJson(TypedDict):
     cells: list[CellJson]
 
 
+class RecentOfPort(TypedDict):
+    """What became of the requests of an endpoint in the last seconds: `errors` is a share."""
+    port: int
+    requests_per_second: float
+    errors: float
+
+
 class Recent(TypedDict):
     """What became of a revision's requests in the last seconds."""
     requests_per_second: float
     errors: float
     p50: float
     p99: float
+    ports: list[RecentOfPort]
 
 
 class Traffic:
@@ -91,7 +112,13 @@ class Traffic:
 
     def add(self, entry: Entry, revision: str) -> None:
         begins = int(entry.time) // SLOT * SLOT
-        self.slots.setdefault(begins, {}).setdefault(revision, Cell()).add(entry)
+        cells = self.slots.get(begins)
+        if cells is None:
+            cells = self.slots[begins] = {}
+        cell = cells.get(revision)
+        if cell is None:
+            cell = cells[revision] = Cell()
+        cell.add(entry)
         self.changed.add(begins)
 
     def forget(self, now: float) -> None:
@@ -127,4 +154,9 @@ def _cells(cells: dict[str, Cell]) -> Iterator[CellJson]:
 def _recent(cell: Cell) -> Recent:
     total = cell.counts.total()
     return {"requests_per_second": round(total / RECENT, 1), "errors": sum(cell.counts[each] for each in ERRORS) / total,
-            "p50": cell.durations.quantile(0.5), "p99": cell.durations.quantile(0.99)}
+            "p50": cell.durations.quantile(0.5), "p99": cell.durations.quantile(0.99), "ports": list(_of_ports(cell))}
+
+
+def _of_ports(cell: Cell) -> Iterator[RecentOfPort]:
+    for port, count in sorted(cell.ports.items()):
+        yield {"port": port, "requests_per_second": round(count / RECENT, 1), "errors": cell.failed_ports[port] / count}

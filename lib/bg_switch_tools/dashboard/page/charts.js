@@ -1,10 +1,12 @@
 // Charts over time, drawn as SVG: bars of requests, and lines of durations.
 
-import {byId, chip, clock, colour, drawn, element, milliseconds, percent, rate, shortClock, span, titleOf} from "./parts.js";
+import {byId, chip, clock, colour, drawn, element, milliseconds, percent, rate, shortClock, span, tinted, titleOf} from "./parts.js";
 
-const HEIGHT = 190;
-const LEFT = 52, RIGHT = 10, TOP = 34, BOTTOM = 22;
-const MARK_ROWS = 2, MARK_HEIGHT = 14, LETTER = 6.6;
+const HEIGHT = 220;
+const LEFT = 52, RIGHT = 10, TOP = 64, BOTTOM = 22;
+const MARK_ROWS = 3, MARK_HEIGHT = 16, LETTER = 6.6;  // the texts of marks stand above the chart, and those of outliers below them
+// A value so many times as large as that which only a share of the others exceeds is an outlier: the axis ends below it.
+const OUTLIER = 3, ORDINARY = 0.95, HEADROOM = 1.5;
 // What is stacked for a revision, from below, by classes of status.
 const PARTS = [
   {name: "good", title: "", classes: ["1xx", "2xx", "3xx"]},
@@ -21,12 +23,31 @@ function total(counts) {
   return Object.values(counts).reduce((one, other) => one + other, 0);
 }
 
+const BAD_MARKS = ["abort", "alarm"];  // kinds of what happened that are marked in red
 const NICE = [1, 1.2, 1.5, 2, 2.5, 3, 4, 5, 6, 8, 10];
 
 // The least of these times a power of ten that is not below this.
 function niceAbove(value) {
   const power = 10 ** Math.floor(Math.log10(Math.max(value, 0.001)));
   return NICE.map((factor) => factor * power).find((nice) => nice >= value * 0.999999);
+}
+
+// The end of an axis for these values: the greatest of them, unless it is an outlier.
+function topOf(values, least) {
+  const sorted = values.filter((value) => value > 0).sort((one, other) => one - other);
+  const greatest = sorted.at(-1) || 0, ordinary = sorted[Math.ceil(sorted.length * ORDINARY) - 1] || 0;
+  const isCut = greatest > Math.max(OUTLIER * ordinary, least);
+  return niceAbove(Math.max(isCut ? HEADROOM * ordinary : greatest, least));
+}
+
+// For each of these spans of a line, the first row in which it overlaps none of those before it; -1 where no row is free.
+function rowsOf(spans, rows) {
+  const taken = Array.from({length: rows}, () => []);
+  return spans.map(([left, right]) => {
+    const row = taken.findIndex((each) => each.every(([from, to]) => right < from || left > to));
+    if (row >= 0) taken[row].push([left, right]);
+    return row;
+  });
 }
 
 function revisionsIn(slots) {
@@ -64,7 +85,17 @@ class Chart {
   }
 
   y(value) {
-    return TOP + (1 - value / this.top) * (HEIGHT - TOP - BOTTOM);
+    return TOP + (1 - Math.min(value / this.top, 1)) * (HEIGHT - TOP - BOTTOM);
+  }
+
+  // An arrow with the value at each slot whose value is above the axis; the greatest first, and none over another.
+  cuts() {
+    const cut = this.values().filter(([, value]) => value > this.top).sort(([, one], [, other]) => other - one);
+    const told = cut.map(([begins, value]) => [this.x(begins + this.told.seconds / 2), `\u2191${+value.toPrecision(3)}`]);
+    const spans = told.map(([x, text]) => [x - text.length * LETTER / 2, x + text.length * LETTER / 2]);
+    const rows = rowsOf(spans, 1);
+    return told.flatMap(([x, text], place) => (rows[place] < 0 ? [] :
+      [drawn("text", {class: "cut", x: Math.min(x, LEFT + this.inner - text.length * LETTER / 2), y: TOP - 4, "text-anchor": "middle", text})]));
   }
 
   look(time) {
@@ -88,10 +119,10 @@ class Chart {
     const width = this.figure.clientWidth;
     if (!this.told || width === 0) return;
     this.inner = Math.max(width - LEFT - RIGHT, 50);
-    this.top = niceAbove(Math.max(this.greatest(), this.least));
+    this.top = topOf(this.values().map(([, value]) => value), this.least);
     this.svg.setAttribute("viewBox", `0 0 ${width} ${HEIGHT}`);
     this.svg.setAttribute("width", width);
-    this.svg.replaceChildren(...this.axes(), ...this.series(), ...this.marks(), ...this.cross());
+    this.svg.replaceChildren(...this.axes(), ...this.series(), ...this.cuts(), ...this.marks(), ...this.cross());
     this.legend.replaceChildren(...this.entries());
   }
 
@@ -122,24 +153,38 @@ class Chart {
     return made;
   }
 
-  // A line for each time at which something was marked, with its texts above.
+  // A line for each time at which something was marked, with its texts above. Where no row has room the line has no text: it tells
+  // it to the pointer, and the list of what happened has it.
   marks() {
-    const made = [], ends = Array(MARK_ROWS).fill(0), byTime = new Map();
+    const byTime = new Map();
     for (const mark of this.told.marks) {
       const time = Math.round(mark.time);
       byTime.set(time, [...(byTime.get(time) || []), mark]);
     }
-    for (const [time, marks] of byTime) {
-      const x = this.x(time), isAbort = marks.some((mark) => mark.kind === "abort");
-      const text = [...new Set(marks.map((mark) => mark.mark))].join(", "), width = text.length * LETTER;
-      const isRight = x + width > LEFT + this.inner, left = isRight ? x - 4 - width : x + 4;
-      const free = ends.findIndex((end) => end <= left), row = free < 0 ? MARK_ROWS - 1 : free, y = row * MARK_HEIGHT + 11;
-      const kind = isAbort ? " abort" : "", anchor = isRight ? "end" : "start";
-      ends[row] = left + width + 4;
-      made.push(drawn("line", {class: `mark${kind}`, x1: x, x2: x, y1: y - 9, y2: this.y(0)}));
-      made.push(drawn("text", {class: `mark-text${kind}`, x: isRight ? x - 4 : x + 4, y, "text-anchor": anchor, text}));
-    }
-    return made;
+    const found = [...byTime].map(([time, marks]) => this.placed(time, marks));
+    const rows = rowsOf(found.map((mark) => mark.span), MARK_ROWS);
+    const lines = found.map((mark, place) => this.markLine(mark, rows[place]));
+    const texts = found.flatMap((mark, place) => (rows[place] < 0 ? [] : this.markText(mark, rows[place])));
+    return [...lines, ...texts];
+  }
+
+  placed(time, marks) {
+    const x = this.x(time), kind = marks.some((mark) => BAD_MARKS.includes(mark.kind)) ? " abort" : "";
+    const text = [...new Set(marks.map((mark) => mark.mark))].join(", "), width = text.length * LETTER;
+    const isRight = x + 4 + width > LEFT + this.inner, left = isRight ? x - 4 - width : x + 4;
+    return {x, kind, text, isRight, span: [left - 2, left + width + 2]};
+  }
+
+  markLine({x, kind, text}, row) {
+    const top = (row < 0 ? MARK_ROWS : row) * MARK_HEIGHT + 2;
+    return drawn("line", {class: `mark${kind}`, x1: x, x2: x, y1: top, y2: this.y(0)}, drawn("title", {text}));
+  }
+
+  // A text before a ground of its own, which hides the lines of other marks.
+  markText({x, kind, text, isRight, span: [left, right]}, row) {
+    const anchor = isRight ? "end" : "start", top = row * MARK_HEIGHT;
+    return [drawn("rect", {class: "mark-ground", x: left, y: top, width: right - left, height: MARK_HEIGHT - 1}),
+      drawn("text", {class: `mark-text${kind}`, x: isRight ? x - 4 : x + 4, y: top + 11, "text-anchor": anchor, text})];
   }
 
   cross() {
@@ -167,9 +212,10 @@ class Chart {
 export class RequestsChart extends Chart {
   least = 1;
 
-  greatest() {
-    const counts = this.told.slots.map((slot) => slot.cells.reduce((all, cell) => all + total(cell.counts), 0));
-    return Math.max(0, ...counts) / this.told.seconds;
+  // The begin of each slot, with its requests a second.
+  values() {
+    const all = (slot) => slot.cells.reduce((sum, cell) => sum + total(cell.counts), 0);
+    return this.told.slots.map((slot) => [slot.begins, all(slot) / this.told.seconds]);
   }
 
   series() {
@@ -183,14 +229,16 @@ export class RequestsChart extends Chart {
         for (const part of PARTS) {
           const count = sum(cell.counts, part.classes) / this.told.seconds;
           if (count === 0 || width === 0) continue;
-          const key = `bar ${part.name} ${colour(cell.revision)}`;
+          const key = `${part.name} ${cell.revision}`;
           const [x, wide, bottom, top] = [left, width, this.y(below), this.y(below + count)].map((each) => each.toFixed(1));
-          paths.set(key, `${paths.get(key) || ""}M${x} ${bottom}h${wide}V${top}h-${wide}z`);
+          const path = paths.get(key) || {part: part.name, revision: cell.revision, d: ""};
+          paths.set(key, {...path, d: `${path.d}M${x} ${bottom}h${wide}V${top}h-${wide}z`});
           below += count;
         }
       }
     }
-    return [...paths].map(([name, d]) => drawn("path", {class: name, d}));
+    return [...paths.values()].map(({part, revision, d}) =>
+      tinted(drawn("path", {class: `bar ${part} ${colour(revision)}`, d}), revision));
   }
 
   recent(told) {
@@ -208,13 +256,14 @@ export class RequestsChart extends Chart {
 export class DurationsChart extends Chart {
   least = 5;
 
-  greatest() {
-    return Math.max(0, ...this.told.slots.flatMap((slot) => slot.cells.map((cell) => cell.p99)));
+  // The begin of each slot, with the greatest 99th percentile in it.
+  values() {
+    return this.told.slots.map((slot) => [slot.begins, Math.max(0, ...slot.cells.map((cell) => cell.p99))]);
   }
 
   series() {
     return revisionsIn(this.told.slots).flatMap((name) => ["p50", "p99"].map((which) =>
-      drawn("path", {class: `line ${which} ${colour(name)}`, d: this.path(name, which)})));
+      tinted(drawn("path", {class: `line ${which} ${colour(name)}`, d: this.path(name, which)}), name)));
   }
 
   // A line through the slots that have requests; a gap where there are none.

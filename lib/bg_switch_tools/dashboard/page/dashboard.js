@@ -1,6 +1,6 @@
 // Keeps the page as the events of the dashboard tell it, and sends the orders of its buttons.
 
-import {byId, chip, clock, element, milliseconds, percent, rate, setText, span, titleOf} from "./parts.js";
+import {byId, chip, clock, element, keepColours, milliseconds, percent, rate, setText, span, titleOf} from "./parts.js";
 import {DurationsChart, RequestsChart} from "./charts.js";
 
 const TOKEN = document.querySelector("meta[name=token]").content;
@@ -83,6 +83,9 @@ function watchSilence() {
 
 function show(hasHappened, hasFailed) {
   byId("main").hidden = false;
+  const inSlots = [...slots.values()].flatMap((slot) => slot.cells.map((cell) => cell.revision));
+  const inReport = state.report ? state.report.revisions.map((revision) => revision.name) : [];
+  keepColours(new Set([...inReport, ...inSlots, ...state.failed.map((each) => each.revision)]));
   showLink();
   showAttempt();
   showServices();
@@ -90,6 +93,13 @@ function show(hasHappened, hasFailed) {
   showCharts();
   if (hasHappened) showHappened();
   if (hasFailed) showFailed();
+}
+
+// What is wrong with a switch that answers, and with the dashboard's own looks; empty where nothing is.
+function alarm() {
+  if (!state) return "";
+  const fault = state.fault ? [`The dashboard could not look at the switch: ${state.fault}. What is shown may be from before.`] : [];
+  return [...state.alarms.map((each) => each.text), ...fault].join(" ");
 }
 
 // What is to be said of a dashboard or a switch that gives no answer; empty where both do.
@@ -101,12 +111,13 @@ function silence(isSilent) {
 }
 
 function showLink(isSilent = false) {
-  const link = byId("link"), alarm = byId("alarm"), text = silence(isSilent), kind = text ? "lost" : "live";
+  const link = byId("link"), box = byId("alarm"), silent = silence(isSilent), kind = silent ? "lost" : "live";
+  const text = silent || alarm();
   link.dataset.state = kind;
   setText("link", kind === "live" ? (state && state.read_only ? "live, read only" : "live") : "no answer");
   byId("main").classList.toggle("stale", kind !== "live");
-  if (alarm.textContent !== text) alarm.textContent = text;
-  alarm.hidden = text === "";
+  setText("alarm", text);
+  box.hidden = text === "";
   if (kind !== "live") showOrders(false);
 }
 
@@ -117,9 +128,11 @@ function newest() {
 function showAttempt() {
   const report = state.report, phase = report ? report.phase : "";
   setText("control", `at port ${state.control}`);
-  document.title = `${report ? PHASES[phase] : "no book"} – bg_switch ${state.control}`;
+  const isAlarmed = state.alarms.length > 0, name = report ? PHASES[phase] : "No book is open yet";
+  document.title = `${isAlarmed ? "no endpoint is up" : report ? name : "no book"} – bg_switch ${state.control}`;
   byId("attempt").dataset.phase = phase;
-  setText("phase-name", report ? PHASES[phase] : "No book is open yet");
+  byId("attempt").toggleAttribute("data-alarm", isAlarmed);
+  setText("phase-name", isAlarmed ? `${name}, and no endpoint is up` : name);
   setText("phase-of", report ? titleOf(newest().name) : "");
   setText("waits-for", report ? state.waits_for : "bin/operator sends open, or bin/controller does");
   setText("moment", report ? `moment ${report.moment}` : "");
@@ -150,10 +163,11 @@ function showOrders(mayOrder) {
 function showServices() {
   const report = state.report, cards = ["active", "preview"].map((service) => {
     const name = report ? report[service].name : "–", number = report ? `revision ${report[service].number}` : "";
-    return element("div", {class: "card", "data-service": service},
+    const isAlarmed = state.alarms.some((each) => each.service === service);
+    return element("div", {class: "card", "data-service": service, "data-alarm": isAlarmed},
       element("h3", {text: `${service} service`}),
       element("p", {class: "selected"}, ...(report ? [chip(name)] : []), span("name", name)),
-      element("p", {class: "faint", text: number}));
+      element("p", {class: isAlarmed ? "bad" : "faint", text: isAlarmed ? `${number}: no endpoint is up` : number}));
   });
   byId("services").replaceChildren(...cards);
 }
@@ -166,12 +180,20 @@ function scaleDown(revision, moment) {
   return [`in ${Math.max(revision.deadline - moment, 0)} s`, ""];
 }
 
-function endpoints(revision) {
+function endpoints(revision, isAlarmed) {
   const made = element("span", {class: "endpoints"}), width = Math.min(revision.desired, 16);
   for (let place = 0; place < width; place += 1) {
-    made.append(span(place < revision.available * width / revision.desired ? "up" : "down", ""));
+    const isUp = place < revision.available * width / revision.desired;
+    made.append(span(isUp ? "up" : isAlarmed ? "down all" : "down", ""));
   }
-  return [span("count", `${revision.available} of ${revision.desired}`), made];
+  return [span(isAlarmed ? "count bad" : "count", `${revision.available} of ${revision.desired}`), made];
+}
+
+// A line for each endpoint that had requests in the last seconds.
+function ports(recent) {
+  const told = ({port, requests_per_second: requests, errors}) => element("li", {class: errors >= MANY_ERRORS ? "bad" : "",
+    text: `${port}: ${rate(requests)} /s${errors > 0 ? `, ${percent(errors)} errors` : ""}`});
+  return recent && recent.ports.length > 0 ? [element("ul", {class: "ports"}, ...recent.ports.map(told))] : [];
 }
 
 function revisionRow(revision, report) {
@@ -179,11 +201,12 @@ function revisionRow(revision, report) {
   const recent = state.recent[revision.name], [text, kind] = scaleDown(revision, report.moment);
   const cell = (title, kind, ...children) => element("td", {class: kind, "data-title": title}, ...children);
   const isBad = recent && recent.errors >= MANY_ERRORS;
+  const isAlarmed = state.alarms.some((each) => each.revision === revision.name);
   return element("tr", {"data-revision": revision.name, class: revision.desired === 0 ? "down" : ""},
     element("th", {scope: "row"}, chip(revision.name), span("name", revision.name),
       span("faint after", `revision ${revision.number}`)),
     cell("Selected by", "", ...services.map((service) => span(`badge ${service}`, service))),
-    cell("Endpoints", "", ...endpoints(revision)),
+    cell("Endpoints", "", ...endpoints(revision, isAlarmed), ...ports(recent)),
     cell("Open requests", "number", `${revision.open}`),
     cell("Requests/s", "number", recent ? rate(recent.requests_per_second) : "–"),
     cell("Errors", isBad ? "number bad" : "number", recent ? percent(recent.errors) : "–"),

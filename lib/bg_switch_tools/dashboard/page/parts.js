@@ -56,18 +56,38 @@ export function percent(share) {
   return share < 0.001 ? "< 0.1 %" : `${(share * 100).toFixed(1)} %`;
 }
 
-// Each revision keeps its colour for as long as the page is open; red is kept for errors.
-const COLOURS = 6;
+// Each revision keeps its colour for as long as it is shown, and no two that are shown share one; red is kept for errors. The
+// first colours stand in the style sheet, and each further one is a hue of its own.
+const COLOURS = 12, TURN = 137.508, RED_UP_TO = 25, HUES = 310;
 const places = new Map();
 
 export function colour(revision) {
   if (revision === "") return "none";
-  if (!places.has(revision)) places.set(revision, places.size % COLOURS);
-  return `r${places.get(revision)}`;
+  if (!places.has(revision)) places.set(revision, firstFree(new Set(places.values())));
+  const place = places.get(revision);
+  return place < COLOURS ? `r${place}` : "further";
+}
+
+function firstFree(taken) {
+  let place = 0;
+  while (taken.has(place)) place += 1;
+  return place;
+}
+
+// Lets go of the colours of revisions that are shown no more.
+export function keepColours(shown) {
+  for (const revision of [...places.keys()]) if (!shown.has(revision)) places.delete(revision);
+}
+
+// Gives an element the colour of a revision, where the style sheet has none for it.
+export function tinted(made, revision) {
+  const place = revision === "" ? 0 : places.get(revision) || 0;
+  if (place >= COLOURS) made.style.setProperty("--hue", (RED_UP_TO + (place * TURN) % HUES).toFixed(0));
+  return made;
 }
 
 export function chip(revision) {
-  return element("span", {class: `chip ${colour(revision)}`, "aria-hidden": "true"});
+  return tinted(element("span", {class: `chip ${colour(revision)}`, "aria-hidden": "true"}), revision);
 }
 
 export function titleOf(revision) {

@@ -1,0 +1,38 @@
+"""The lines and commands of bin/operator, as bgctl runs them."""
+import argparse
+import sys
+
+from bg_switch_tools import operator_command
+from bg_switch_tools.bgctl.finding import Target
+from bg_switch_tools.connection import ask
+from bg_switch_tools.operator_command import Operator
+from bg_switch_tools.reports import Report, read_report
+
+
+def tell(text: str) -> None:
+    """Writes a line to standard error."""
+    print(f"bgctl: {text}", file=sys.stderr, flush=True)
+
+
+class Session(Operator):
+    """An operator at the control port of a run. What is told beside the replies begins with `bgctl`."""
+
+    def __init__(self, target: Target, given: argparse.Namespace) -> None:
+        """`Unusable` where the control port is not known."""
+        told = operator_command.parser().parse_args([])  # each of its options, with its default
+        told.port, told.plan, told.idempotent = target.port(), target.path, True
+        told.wait = getattr(given, "request_timeout", told.wait)
+        for option in ("timeout", "json", "yes"):
+            setattr(told, option, getattr(given, option, getattr(told, option)))
+        super().__init__(told)
+
+    def tell(self, text: str) -> None:
+        tell(text)
+
+    def report(self) -> Report | None:
+        """The report; None where no book is open."""
+        return read_report(ask(self.port, b"report", self.wait))
+
+    def line(self, text: str) -> int:
+        """Carries one line out. Gives the exit status."""
+        return self.carry_out([text.encode("utf-8", "surrogateescape")])
