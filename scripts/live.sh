@@ -5,6 +5,7 @@
 #   live_starting    faults of the strategy, and ports that are taken
 #   live_timeouts    slow clients and endpoints, and requests that are given up
 #   live_resources   connections that are used up; descriptors and threads that can't be had
+#   live_concurrency hundreds of requests at a time, and workers that wait
 #   live_attack      hostile clients, endpoints and operators
 #   live_random      ten thousand exchanges at random
 #   live_operator    the operator's tool
@@ -13,11 +14,13 @@
 #   live_readme, live_operating   the sessions of README.md and of docs/OPERATING.md
 #   live_clients     slow, silent, hasty and many clients
 #   live_endpoints   endpoints that hang, are silent, or are ports of the switch
+#   live_operators   the users whose orders are taken
 #   live_control     what holds up the control port, and what browsers send there
 #   live_shutdown    the graceful shutdown, and what is told on standard error
 #   live_production  the files of examples/production, before nginx
 #   live_access_log, live_access_log_random   the access log, and two thousand connections of all kinds beside it
 #   live_history     a full history
+#   live_analysis    outages that analyses find, by the access log, by reports and by Prometheus
 #   live_dashboard   the dashboard's page in a browser, and a bad revision that its analysis takes back
 set -eu
 cd "$(dirname -- "$0")/.."
@@ -25,9 +28,9 @@ cd "$(dirname -- "$0")/.."
 bin/bg_switch check < examples/direct.json > /dev/null
 work=$(mktemp -d)
 trap 'rm -rf "$work"' EXIT
-parts='live live_starting live_timeouts live_resources live_attack live_random live_operator live_controller
-    live_readme live_operating live_clients live_endpoints live_control live_shutdown live_production live_access_log
-    live_access_log_random live_history'
+parts='live live_starting live_timeouts live_resources live_concurrency live_attack live_random live_operator live_controller
+    live_readme live_operating live_clients live_endpoints live_operators live_control live_shutdown live_production
+    live_access_log live_access_log_random live_history live_analysis'
 # These run alone: one has a time limit of two seconds, and a browser is slow beside all of the others.
 alone='live_crash live_dashboard'
 play() {

@@ -1,11 +1,13 @@
 """The access log of `bg_switch serve`: what each line says, a file that is renamed, one that takes nothing, one that takes
-nothing for a while, and one that can't be opened."""
+nothing for a while, one that takes a part of a line, and one that can't be opened."""
 import contextlib
 import os
 import pathlib
+import resource
+import signal
 import tempfile
 import time
-from collections.abc import Iterator
+from collections.abc import Callable, Iterator
 from functools import partial
 
 from support.checks import check, check_within, comes, run
@@ -32,9 +34,11 @@ FAULTS_OF_BODIES = (("a wrong size", b"x\r\n", 400), ("a wrong end", b"1\r\nab\r
                     ("large trailers", b"0\r\n" + MANY + b"\r\n", 400), ("a large chunk", b"100001\r\n", 413))
 # How many bytes of lines wait to be written at most. A target whose line in the log is long, and more requests for it than the
 # log keeps lines; the first of them fill the FIFO.
-QUEUE = 1 << 22
-WIDE = b"/" + b"\xff" * 1023
-FIRST_REQUESTS, WIDE_REQUESTS = 32, 1600
+QUEUE = 1 << 24
+WIDE = b"/" + b"\x01" * 1023
+FIRST_REQUESTS, WIDE_REQUESTS = 32, 2800
+# How many bytes the file of a full disk takes, and how many lines are for it.
+ROOM, LINES_FOR_ROOM = 1000, 20
 STILL = 3  # seconds for which a reader of the log stands still
 
 
@@ -59,10 +63,10 @@ class Log:
 
 
 @contextlib.contextmanager
-def logging(path: pathlib.Path, workers: int = 1) -> Iterator[tuple[Switch, Endpoint]]:
-    """A switch that logs to this path, and the endpoint of its first revision."""
+def logging(path: pathlib.Path, workers: int = 1, prepare: Callable[[], object] = lambda: None) -> Iterator[tuple[Switch, Endpoint]]:
+    """A switch that logs to this path, and the endpoint of its first revision. `prepare` is called in the switch's process."""
     endpoint = Endpoint(by_target(b"one"))
-    switch = Switch(NO_PREVIEW, workers=workers, timeout=TIMEOUT, variables={ACCESS_LOG: str(path)})
+    switch = Switch(NO_PREVIEW, workers=workers, timeout=TIMEOUT, variables={ACCESS_LOG: str(path)}, prepare=prepare)
     check("open", (switch.order(f"open one {endpoint.port}"), switch.order("available 1 1")), ("ok 0", "ok 0"))
     try:
         yield switch, endpoint
@@ -261,6 +265,63 @@ def slow_disk() -> None:
               (True, ("active", 200, "answered", None, "GET", "/")))
 
 
+def leave_room() -> None:
+    """The process that calls this may write `ROOM` bytes to a file. A write beyond that fails, as on a full disk."""
+    signal.signal(signal.SIGXFSZ, signal.SIG_IGN)
+    resource.setrlimit(resource.RLIMIT_FSIZE, (ROOM, resource.RLIM_INFINITY))
+
+
+def make_room(switch: Switch) -> None:
+    resource.prlimit(switch.process.pid, resource.RLIMIT_FSIZE, (resource.RLIM_INFINITY, resource.RLIM_INFINITY))
+
+
+def line_over_rotation() -> None:
+    """A line that a file has taken in part is completed in that file, also if the file is renamed meanwhile."""
+    with folder() as there, logging(there / "log", prepare=leave_room) as (switch, _):
+        for _ in range(LINES_FOR_ROOM):
+            get(switch.active)
+        log, renamed = Log(there / "log"), Log(there / "log.1")
+        check("a file takes a part of a line", comes(lambda: log.path.stat().st_size == ROOM), True)
+        log.path.rename(renamed.path)
+        time.sleep(REOPENED)
+        check("the file stays open while it has a part of a line", log.path.exists(), False)
+        make_room(switch)
+        check("a file is opened once the line is whole", comes(log.path.exists), True)
+        get(switch.active)
+        entries = renamed.entries() + log.awaited(1)
+        check("each request once, beside a rotation", [entry.request for entry in entries], list(range(1, LINES_FOR_ROOM + 2)))
+
+
+def full_disk_ends_whole_lines() -> None:
+    """A disk that becomes full in the middle of a line gets the rest of the line first once there is room."""
+    with folder() as there, logging(there / "log", prepare=leave_room) as (switch, _):
+        for _ in range(LINES_FOR_ROOM):
+            get(switch.active)
+        log = Log(there / "log")
+        check("the disk is full", comes(lambda: log.path.stat().st_size == ROOM), True)
+        check("a line is cut by a full disk", log.path.read_bytes().endswith(b"\n"), False)
+        check("a full disk is told", switch.tells("the access log takes nothing: File too large"), True)
+        time.sleep(REOPENED)
+        check("a full disk is told once", switch.count_told("the access log takes nothing"), 1)
+        make_room(switch)
+        entries = log.awaited(LINES_FOR_ROOM)
+        check("each request once, beside a full disk", [entry.request for entry in entries], list(range(1, LINES_FOR_ROOM + 1)))
+        check("the end of a full disk is told", switch.tells("the access log: lines lost: 0"), True)
+
+
+def starts_after_a_part() -> None:
+    """A file that ends in a part of a line, as an end of the switch on a full disk leaves it, gets a line end first."""
+    part = b'{"time":"2026-'
+    with folder() as there:
+        (there / "log").write_bytes(part)
+        with logging(there / "log") as (switch, _):
+            get(switch.active)
+            check("a line behind a part of a line", comes(lambda: (there / "log").read_bytes().count(b"\n") >= 2), True)
+            lines = (there / "log").read_bytes().splitlines()
+            check("the part of a line", lines[0], part)
+            check("the line behind it", [entry.request for entry in read_lines(lines[1:]).entries], [1])
+
+
 def check_lost_lines(lines: list[bytes], count: int) -> None:
     """Checks the lines of so many requests, some of which had no room: the count is behind those that had it."""
     batch = read_lines(lines)
@@ -328,5 +389,5 @@ def none_ordered() -> None:
 
 
 if __name__ == "__main__":
-    run("live_access_log", (kinds_of_ends, each_field, as_many_lines, renamed_file, full_disk, slow_disk, unread_fifo, no_file, no_text,
-                            none_ordered), at_once=3)
+    run("live_access_log", (kinds_of_ends, each_field, as_many_lines, renamed_file, full_disk, slow_disk, line_over_rotation,
+                            full_disk_ends_whole_lines, starts_after_a_part, unread_fifo, no_file, no_text, none_ordered), at_once=3)

@@ -290,12 +290,14 @@ def status_of(answer: bytes) -> int | None:
 
 def fits(entry: Entry, wanted: Entry, kind: str) -> bool:
     """Whether an entry says what it has to. How far a request with a fault was read isn't fixed, nor whether an answer was handed over
-    before its client went."""
+    before its client went, nor whether the system has taken the 503 to a client that was given up and had gone."""
     if wanted.reason in ("head", "body"):
         most, count = wanted.request_bytes or 0, entry.request_bytes or 0
         return 0 < count <= most and entry._replace(request_bytes=most) == wanted
     if kind == "cut_in_answer" and entry.end == "write_failed":
         return entry == wanted._replace(status=None, end="write_failed", response_bytes=entry.response_bytes)
+    if kind == "given_up" and not entry.response_bytes:
+        return entry == wanted._replace(response_bytes=0)
     return entry == wanted
 
 

@@ -1,6 +1,7 @@
 """The ports of clients of a running `serve`: requests that come slowly, answers that are taken slowly, uploads, clients
 that have gone, more connections than a port keeps, and workers that all wait for endpoints."""
 import contextlib
+import select
 import socket
 import threading
 import time
@@ -14,7 +15,7 @@ from support.clients import SMALL_BUFFER, Crowd, at_once, connect, received, res
 from support.endpoints import Endpoint, Held, Request, by_target, held_at
 from support.messages import (BAD_REQUEST, CONTINUE, HEAD_TOO_LARGE, LARGEST_BODY, NOT_IMPLEMENTED, TOO_LARGE, answer,
                               head_of, request, response)
-from support.ports import connections_at, is_refused
+from support.ports import HOST, connections_at, is_refused
 from support.switch import Switch, opened, serving
 
 # How long, in seconds, a polite client waits at most beside slow ones. Where one of them kept a worker, it would wait
@@ -330,13 +331,17 @@ def full_port() -> None:
             check("connections that a port keeps", connections_at(switch.active) < 1100, True)
 
 
+def is_accepted(switch: Switch, before: int) -> bool:
+    """Whether the switch has more descriptors than before."""
+    return switch.count_descriptors() > before
+
+
 def filled(switch: Switch, uploads: list[socket.socket]) -> socket.socket:
     """Adds uploads until the port is full. Gives the first client that has to wait for an accept."""
     while True:
         before = switch.count_descriptors()
         client = connect(switch.active)
-        time.sleep(0.15)
-        if switch.count_descriptors() == before:
+        if not comes(partial(is_accepted, switch, before), 1.0):
             return client
         client.sendall(head_of(MEGABYTE).replace(b"/", b"/slow", 1) + b"x" * 4096)
         uploads.append(client)
@@ -351,15 +356,7 @@ def room_is_noticed() -> None:
     for _ in range(4):
         with serving(Endpoint(slow).port, workers=2, descriptors=64) as switch, contextlib.ExitStack() as stack:
             uploads: list[socket.socket] = []
-            ended = threading.Event()
-
-            def go_on(clients: list[socket.socket] = uploads, is_over: threading.Event = ended) -> None:
-                while not is_over.wait(0.3):
-                    for client in list(clients):
-                        with contextlib.suppress(OSError):
-                            client.sendall(b"x" * 4096)
-
-            threading.Thread(target=go_on, daemon=True).start()
+            stack.enter_context(going_on(uploads))
             late = filled(switch, uploads)
             for client in (*uploads, late):
                 stack.enter_context(client)
@@ -368,7 +365,6 @@ def room_is_noticed() -> None:
             start = time.monotonic()
             check("a client that waited for room", received(late), answer(b"one"))
             check_within("a client that waited for room while a worker is free", time.monotonic() - start, POLITE)
-            ended.set()
 
 
 def memory_of_waiting_requests() -> None:
@@ -503,6 +499,92 @@ def half_closed_client() -> None:
             check("a client that shut its writing side is answered", received(client), answer(b"held"))
 
 
+def dual_stack(port: int) -> socket.socket:
+    """A connection of a socket for both IPv6 and IPv4, as Java's usually are."""
+    client = socket.socket(socket.AF_INET6)
+    client.setsockopt(socket.IPPROTO_IPV6, socket.IPV6_V6ONLY, 0)
+    client.settimeout(clients.LONGEST)
+    client.connect((f"::ffff:{HOST}", port))
+    return client
+
+
+def dual_stack_clients() -> None:
+    """A client with a socket for both IPv6 and IPv4 that shut its writing side is answered, and one that closed has
+    gone."""
+    held = Held(b"held")
+    with serving(Endpoint(held).port, workers=2, timeout=TIMEOUT) as switch:
+        with dual_stack(switch.active) as client, dual_stack(switch.active) as other:
+            for one in (client, other):
+                one.sendall(request())
+                one.shutdown(socket.SHUT_WR)
+            check("requests of clients of both kinds", held.holds(2), True)
+            time.sleep(4)
+            check("a client of both kinds that shut its writing side hasn't gone", held.closed, 0)
+            other.close()
+            check("a client of both kinds that closed has gone", comes(lambda: held.closed == 1), True)
+            held.is_free.set()
+            check("a client of both kinds that shut its writing side is answered", received(client), answer(b"held"))
+
+
+def stuck_uploads() -> None:
+    """Clients that send all but the last byte of a megabyte shut out no other upload."""
+    with serving(Endpoint(by_target(b"one")).port, workers=3, timeout=TIMEOUT) as switch, contextlib.ExitStack() as stack:
+        stuck = [stack.enter_context(connect(switch.active)) for _ in range(140)]
+        for client in stuck:
+            threading.Thread(target=send_all, args=(client, head_of(MEGABYTE) + bytes(MEGABYTE - 1)), daemon=True).start()
+        time.sleep(3)
+        start = time.monotonic()
+        got = at_once([partial(clients.upload, switch.active, 300000, 65536, 0.0)] * 5)
+        check("uploads beside stuck ones", clients.counted(got), {b"200": 5})
+        check_within("uploads beside stuck ones", time.monotonic() - start, POLITE)
+
+
+def paused_uploads() -> None:
+    """Uploads that are paused because others wait for a worker are ended at their time."""
+    held, timeout = Held(b"held"), 20
+    with serving(Endpoint(held).port, timeout=timeout) as switch, contextlib.ExitStack() as stack:
+        uploads = [stack.enter_context(connect(switch.active)) for _ in range(300)]
+        for client in uploads:
+            client.setsockopt(socket.SOL_SOCKET, socket.SO_SNDBUF, SMALL_BUFFER)
+            client.sendall(head_of(MEGABYTE))
+        check("all are accepted", comes(lambda: connections_at(switch.active) >= 300), True)
+        stack.enter_context(connect(switch.active)).sendall(request())
+        check("the worker waits for its endpoint", held.holds(1), True)
+        senders = {client: threading.Thread(target=send_all, args=(client, bytes(MEGABYTE)), daemon=True) for client in uploads}
+        for sender in senders.values():
+            sender.start()
+        time.sleep(2 * timeout)
+        stuck = [client for client, sender in senders.items() if sender.is_alive()]
+        check("some uploads were paused", len(stuck) > 0, True)
+        check("paused uploads are ended at their time", all(map(has_ended, stuck)), True)
+        held.is_free.set()
+
+
+def has_ended(client: socket.socket) -> bool:
+    """Whether the switch has ended its side of a connection."""
+    poll = select.poll()
+    poll.register(client, select.POLLRDHUP)
+    return poll.poll(0) != []
+
+
+@contextlib.contextmanager
+def going_on(uploads: list[socket.socket]) -> Iterator[None]:
+    """Each of these uploads makes some progress meanwhile."""
+    ended = threading.Event()
+
+    def go_on() -> None:
+        while not ended.wait(0.3):
+            for client in list(uploads):
+                with contextlib.suppress(OSError):
+                    client.sendall(b"x" * 4096)
+
+    threading.Thread(target=go_on, daemon=True).start()
+    try:
+        yield
+    finally:
+        ended.set()
+
+
 def gone_while_answered() -> None:
     """An endpoint that answers slowly is let go too, once its client has gone."""
     ended = threading.Event()
@@ -527,5 +609,6 @@ if __name__ == "__main__":
     checks.run("live_clients", (
         stalled_reader, drips, refusals, long_chunks, served_once, late_requests, continues, slow_readers, many_answers,
         steady_readers, large_bodies, endless_bodies, uploads, few_descriptors, full_port, room_is_noticed, memory_of_waiting_requests, steady_clients,
-        all_workers_busy, clients_that_close, clients_that_reset, half_closed_client, gone_while_answered), 4, by_hand=(
+        all_workers_busy, clients_that_close, clients_that_reset, half_closed_client, dual_stack_clients, stuck_uploads,
+        paused_uploads, gone_while_answered), 4, by_hand=(
             two_thousand_uploads, many_steady_clients, ten_thousand_left_open))

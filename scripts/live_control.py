@@ -2,6 +2,7 @@
 requests of browsers, and accepts that fail."""
 import contextlib
 import os
+import signal
 import socket
 import threading
 import time
@@ -18,8 +19,14 @@ from support.told import accepts_fail, check_told_once, told
 # How long, in seconds, an order waits at most. Where another connection kept it out, it would wait for as long as that
 # one stays.
 SOON = 4.0
-# How long a connection may be silent while another one has a whole line, and how long it may have its turn in all then.
-SILENCE, TURN = 1.0, 10.0
+# How long an order waits at most beside connections that take turns, and an urgent one. A busy machine keeps it.
+PROMPT, AT_ONCE = 1.0, 0.3
+# How long a connection may take nothing of its replies.
+NOT_TAKEN = 10.0
+# A rollout that keeps many revisions, so that its report is long.
+MANY_REVISIONS = BY_HAND.replace('"replicas": 1', '"replicas": 1, "revisionHistoryLimit": 60')
+# How many bytes the system of a connection takes ahead that reads its replies late.
+MIDDLE_BUFFER = 262_144
 SLACK = 4.0
 # How long, in seconds, the switch has for a line before another connection sends one: much less than a silence.
 BETWEEN_LINES = 0.1
@@ -40,9 +47,9 @@ FAULTS = {b"jump": "UnknownWord", b"": "Empty", b"tick x": "BadNumber", b"tick\t
 
 
 @contextlib.contextmanager
-def book(*, is_open: bool = True) -> Iterator[Switch]:
+def book(*, is_open: bool = True, rollout: str = BY_HAND) -> Iterator[Switch]:
     """A switch whose book is open, or isn't."""
-    switch = Switch(BY_HAND, workers=2)
+    switch = Switch(rollout, workers=2)
     check("listening", switch.first, LISTENING)
     if is_open:
         check("open", switch.order(f"open one {Endpoint(by_target(b'one')).port}"), "ok 0")
@@ -77,68 +84,234 @@ def idle_connections() -> None:
         check("the line of a connection that was idle", idle.recv(100), b"ok 0\n")
 
 
-def silent_connections() -> None:
-    """A connection that has had its turn and is silent is ended after a second where another has a whole line, and else
-    not."""
+def lasting_connections() -> None:
+    """A connection that is silent between its lines stays, beside others with whole lines."""
     with book() as switch, contextlib.closing(switch.operator()) as silent:
         silent.check("tick 1", "ok 0")
-        time.sleep(2 * SILENCE)
-        silent.check("tick 2", "ok 0")
-        with connect(switch.control):
-            time.sleep(2 * SILENCE)
-            silent.check("tick 3", "ok 0")
-        silent.socket.sendall(b"tick 4\ntick 50")
-        check("a line of a connection that is silent then", silent.next_line(), "ok 0")
-        check_order("a silent connection", switch, "tick 5")
-        check("a silent connection is ended", received(silent.socket), b"")
-        check("a part of a line isn't carried out", switch_moment(switch), 5)
+        silent.socket.sendall(b"tick 2\ntick 30")
+        check("a line before a part of a line", silent.next_line(), "ok 0")
+        for _ in range(3):
+            check_order("a silent connection", switch, "tick 2", PROMPT)
+            time.sleep(1)
+        check("a part of a line isn't carried out", switch_moment(switch), 2)
+        silent.check("", "ok 0")
+        check("a line that came in two parts", switch_moment(switch), 30)
 
 
-def connections_that_do_not_read() -> None:
-    """A connection that asks for reports and doesn't read them is ended where another has a whole line."""
-    with book() as switch, connect(switch.control, SMALL_BUFFER) as client:
-        sender = threading.Thread(target=send_in_pieces, args=(client, [b"report\n" * 10000] * 20, 0), daemon=True)
-        sender.start()
-        time.sleep(SILENCE)
-        check_order("a connection that reads no answers", switch, "tick 1", TURN + SLACK)
-        client.settimeout(SLACK)
-        check("a connection that reads no answers is ended", received(client).startswith(b"moment 0\n"), True)
-        sender.join(SLACK)
+class Load:
+    """Connections of each kind that one thread serves: watchers that ask each half second, silent ones, endless lines,
+    pipelines of 100,000 lines, and those that read no replies."""
+
+    def __init__(self, port: int, of_each: int) -> None:
+        self.has_ended = threading.Event()
+        self.answered = {"watchers": 0, "pipelines": 0}
+        pipeline = b"tick 0\n" * 100_000
+        self.sent: dict[socket.socket, bytes] = {}
+        kinds = {"watchers": b"", "silent": b"", "endless": b"a" * 65536, "pipelines": pipeline,
+                 "not reading": b"report\n" * 100_000}
+        self.kinds = {kind: [connect(port, SMALL_BUFFER if kind == "not reading" else None) for _ in range(of_each)]
+                      for kind in kinds}
+        for kind, connections in self.kinds.items():
+            for connection in connections:
+                connection.setblocking(False)
+                self.sent[connection] = kinds[kind]
+        self.thread = threading.Thread(target=self.go_on, daemon=True)
+        self.thread.start()
+
+    def __enter__(self) -> "Load":
+        return self
+
+    def __exit__(self, *_: object) -> None:
+        self.has_ended.set()
+        self.thread.join()
+        for connection in self.sent:
+            connection.close()
+
+    def go_on(self) -> None:
+        """Sends and reads until the end, in rounds of half a second at least."""
+        while not self.has_ended.wait(0.5):
+            for connection in self.kinds["watchers"]:
+                self.take("watchers", connection)
+                send_part(connection, b"report\n")
+            for connection in self.kinds["endless"]:
+                send_part(connection, self.sent[connection])
+            for kind in "pipelines", "not reading":
+                for connection in self.kinds[kind]:
+                    self.sent[connection] = self.sent[connection][send_part(connection, self.sent[connection]):]
+            for connection in self.kinds["pipelines"]:
+                self.take("pipelines", connection)
+
+    def take(self, kind: str, connection: socket.socket) -> None:
+        """Reads what has come, and counts it."""
+        with contextlib.suppress(OSError):
+            self.answered[kind] += len(connection.recv(1 << 20))
+
+    def is_at_work(self) -> bool:
+        """Whether connections of both kinds that read have been answered."""
+        return all(self.answered.values())
 
 
-def endless_connections() -> None:
-    """A connection whose lines don't end keeps its turn for ten seconds where another has a whole line."""
-    with book() as switch, contextlib.closing(switch.operator()) as endless:
-        has_ended = threading.Event()
-
-        def go_on() -> None:
-            with contextlib.suppress(Exception):
-                while not has_ended.wait(0.1):
-                    endless.report()
-            has_ended.set()
-
-        thread = threading.Thread(target=go_on, daemon=True)
-        thread.start()
-        time.sleep(0.3)
-        check_order("a connection whose lines don't end", switch, "tick 1", TURN + SLACK)
-        check("a connection whose lines don't end is ended", has_ended.wait(SLACK), True)
+def send_part(connection: socket.socket, text: bytes) -> int:
+    """Sends as much of a text as the system takes, and gives how much that is."""
+    with contextlib.suppress(OSError):
+        return connection.send(text)
+    return 0
 
 
-def order_of_lines() -> None:
-    """Operators whose whole lines came while another one had its turn are served in the order in which these lines came. Neither
-    the order of the connections counts, nor that of first bytes, nor a further line."""
+def abort_beside_watchers() -> None:
+    """An abort, and a failed verdict, are answered at once beside 1,000 connections of any kind."""
+    processes.limit_descriptors(4 * 1100)
+    switch = Switch(BY_HAND, workers=2, descriptors=4 * 1100)
+    with contextlib.closing(switch.operator()) as operator:
+        operator.check("open one 1", "ok 0")
+        operator.check("deploy two 2", "ok 0")
+    with Load(switch.control, 200) as load:
+        check("watchers and pipelines are answered", comes(load.is_at_work, 10), True)
+        for number in range(20):
+            line, wanted = ("verdict pre failed", "refused NoAnalysis") if number % 2 else (
+                "abort", "refused AlreadyAborted" if number else "ok 0")
+            start = time.monotonic()
+            got = switch.order(line)
+            seconds = time.monotonic() - start
+            check(f"{line} beside 1,000 connections", got, wanted)
+            check_within(f"the wait of {line} beside 1,000 connections", seconds, AT_ONCE)
+            time.sleep(0.1)
+        start = time.monotonic()
+        check("a report beside 1,000 connections", "phase aborted" in report(switch), True)
+        check_within("the wait of a report beside 1,000 connections", time.monotonic() - start, SOON)
+    switch.stop()
+
+
+@contextlib.contextmanager
+def stopped(switch: Switch) -> Iterator[None]:
+    """The program is stopped for a while, so that lines wait."""
+    switch.process.send_signal(signal.SIGSTOP)
+    try:
+        yield
+        time.sleep(BETWEEN_LINES)
+    finally:
+        switch.process.send_signal(signal.SIGCONT)
+
+
+def lines_take_turns() -> None:
+    """Of all lines that wait, the first is answered first, but an urgent one before; a connection with many lines has
+    one answered, and then the next connection."""
     with book() as switch, contextlib.ExitStack() as stack:
-        holder, third, first, second = (stack.enter_context(contextlib.closing(switch.operator())) for _ in range(4))
-        holder.check("tick 1", "ok 0")
-        for waiting, piece in ((third, b"tick"), (first, b"tick 2\n"), (second, b"tick 3\n"), (third, b" 4\n"), (first, b"tick 2\n")):
-            waiting.socket.sendall(piece)
-            time.sleep(BETWEEN_LINES)
-            # so the holder keeps its turn
-            holder.check("tick 1", "ok 0")
-        holder.close()
+        operators = [stack.enter_context(contextlib.closing(switch.operator())) for _ in range(4)]
+        for operator in operators:
+            operator.check("tick 0", "ok 0")
+        with stopped(switch):
+            for moment, place in enumerate((2, 0, 3, 1), 1):
+                operators[place].socket.sendall(b"tick %d\n" % moment)
         # a tick to a moment before the present one is refused
         check("lines that wait are carried out in the order in which they came",
-              [waiting.next_line() for waiting in (first, second, third)], ["ok 0"] * 3)
+              [operator.next_line() for operator in operators], ["ok 0"] * 4)
+        first, second, third, fourth = operators
+        first.check("deploy two 2", "ok 0")
+        with stopped(switch):
+            for operator, line in ((second, b"promote full\n"), (third, b"tick 5\n"), (first, b"verdict post error\n"),
+                                   (fourth, b"abort\n")):
+                operator.socket.sendall(line)
+        check("an abort and a failed verdict are carried out before all that waits",
+              [operator.next_line() for operator in (first, fourth, second, third)],
+              ["refused NoAnalysis", "ok 0", "refused Aborted", "ok 0"])
+        first.socket.sendall(b"tick 6\n" + b"report\n" * 5000 + b"tick 7\n")
+        check_order("a connection with 5,000 lines", switch, "tick 8", PROMPT)
+        first.socket.shutdown(socket.SHUT_WR)
+        lines = received(first.socket).splitlines()
+        check("the last line of a connection with 5,000 lines", (lines[0], lines[-1]), (b"ok 0", b"refused MomentBack"))
+        check("each report of a connection with 5,000 lines", lines.count(b"end"), 5000)
+
+
+def order_within_a_connection() -> None:
+    """The lines of a connection are answered in their order, an abort too, one between those of other connections."""
+    with book() as switch, contextlib.closing(switch.operator()) as one, contextlib.closing(switch.operator()) as other:
+        one.check("tick 0", "ok 0")
+        other.check("tick 0", "ok 0")
+        with stopped(switch):
+            one.socket.sendall(b"tick 1\ntick 3\ntick 5\n")
+            other.socket.sendall(b"tick 2\ntick 4\ntick 6\n")
+        check("lines of two connections", [operator.next_line() for _ in range(3) for operator in (one, other)], ["ok 0"] * 6)
+        with stopped(switch):
+            one.socket.sendall(b"deploy two 2\nabort\nretry\nabort\njump\n")
+            other.socket.sendall(b"tick 7\n" * 9)
+        check("an abort behind a line of its own connection", [one.next_line() for _ in range(5)],
+              ["ok 0"] * 4 + ["fault UnknownWord"])
+        check("lines beside an abort", [other.next_line() for _ in range(9)], ["ok 0"] * 9)
+
+
+def replies_not_taken_hold_nobody() -> None:
+    """Connections that don't read their replies hold nobody up. One that takes nothing for ten seconds is ended, and one
+    that takes them late has all of them."""
+    count = 600
+    with book(rollout=MANY_REVISIONS) as switch, contextlib.ExitStack() as stack:
+        with contextlib.closing(switch.operator()) as operator:
+            for number in range(60):
+                operator.order(f"deploy {'a' * 60}{number} {number + 1}")
+            length = len(operator.report())
+            check("a report is long", length > 6_000, True)
+        before = switch.count_descriptors()
+        clients = [stack.enter_context(connect(switch.control, SMALL_BUFFER)) for _ in range(5)]
+        late = stack.enter_context(connect(switch.control, MIDDLE_BUFFER))
+        for client in (*clients, late):
+            client.sendall(b"report\n" * count)
+        for _ in range(4):
+            check_order("connections that read no replies", switch, "tick 0")
+            time.sleep(0.5)
+        got = b""
+        while len(got) < count * length and (piece := late.recv(1 << 20)):
+            got += piece
+        check("the replies of a connection that takes them late", (got.count(b"moment 0\n"), got.count(b"\nend\n")),
+              (count, count))
+        late.close()
+        check("connections that read no replies are ended",
+              comes(lambda: switch.count_descriptors() <= before, 3 * NOT_TAKEN), True)
+        check_order("connections that were ended", switch, "tick 1", PROMPT)
+
+
+def urgent_lines() -> None:
+    """Connections that send aborts without end hold up no other line."""
+    with book() as switch, contextlib.ExitStack() as stack:
+        for _ in range(8):
+            client = stack.enter_context(connect(switch.control))
+            threading.Thread(target=send_in_pieces, args=(client, [b"abort\n" * 100_000], 0), daemon=True).start()
+        time.sleep(BETWEEN_LINES)
+        for moment in range(1, 6):
+            check_order("aborts without end", switch, f"tick {moment}", PROMPT)
+
+
+def full_port() -> None:
+    """Where the port is full, the connection goes that is silent for the longest, so a new operator always gets in."""
+    switch = Switch(BY_HAND, descriptors=4 * 16)
+    check("open", switch.order("open one 1"), "ok 0")
+    with contextlib.closing(switch.operator()) as busy, contextlib.ExitStack() as stack:
+        silent = []
+        for moment in range(1, 101):
+            silent.append(stack.enter_context(connect(switch.control)))
+            busy.check(f"tick {moment}", "ok 0")
+        check_order("silent connections at a full port", switch, "tick 101", PROMPT)
+        busy.check("tick 102", "ok 0")
+        check("the connections that were silent for the longest are ended", received(silent[0]), b"")
+        silent[-1].sendall(b"tick 103\n")
+        check("a connection that was silent for less long", silent[-1].recv(100), b"ok 0\n")
+    switch.stop()
+
+
+def lines_that_are_too_long() -> None:
+    """A line that is too long has its fault once it ends, and holds nobody up before."""
+    with book() as switch:
+        for length, wanted in ((4096, "NotAscii"), (4097, "TooLong"), (4098, "TooLong"), (4099, "TooLong"), (100_000, "TooLong")):
+            for ending in b"\n", b"\r\n":
+                with contextlib.closing(switch.operator()) as operator:
+                    got = operator.answer(b"\t" * length + ending[:-1]), operator.order("tick 0")
+                    check(f"a line of {length} bytes", got, ([f"fault {wanted}"], "ok 0"))
+            got_at_end = timed_for(switch.control, SLACK, [b"tick 0\n" + b"\t" * length])
+            check("a line that has not ended has no reply", got_at_end.answer, b"")
+            with connect(switch.control) as client:
+                client.sendall(b"\t" * length)
+                check_order("a line that has not ended", switch, "tick 0", PROMPT)
+                client.shutdown(socket.SHUT_WR)
+                check(f"a line of {length} bytes at the end", received(client), b"fault %s\n" % wanted.encode())
 
 
 def lines_of_the_gone() -> None:
@@ -263,5 +436,6 @@ def notices_without_room() -> None:
 
 if __name__ == "__main__":
     checks.run("live_control", (
-        endless_connections, idle_connections, silent_connections, connections_that_do_not_read, order_of_lines, lines_of_the_gone,
-        http_before_open, http, http_in_pieces, other_faults, accepts_that_fail, notices_without_room), 5)
+        replies_not_taken_hold_nobody, abort_beside_watchers, lines_take_turns, order_within_a_connection, urgent_lines,
+        full_port, idle_connections, lasting_connections, lines_that_are_too_long, lines_of_the_gone, http_before_open, http,
+        http_in_pieces, other_faults, accepts_that_fail, notices_without_room), 5)

@@ -1,6 +1,8 @@
 """bin/controller before a running `serve` and endpoints: through a deploy, endpoints that are killed, a failed
-analysis, a retry, an undo and an abort by hand."""
+analysis, a retry, an undo and an abort by hand; an outage of all endpoints after the switch; and rollouts whose endpoints the
+plan starts and stops, under requests, while the controller and the switch are killed."""
 import contextlib
+import os
 import pathlib
 import re
 import signal
@@ -9,8 +11,9 @@ import tempfile
 import time
 
 from support import TOP, checks
-from support.checks import check, comes
+from support.checks import check, check_within, comes
 from support.endpoints import Endpoint, by_target
+from support.launched import Launched, Traffic
 from support.operators import Operator
 from support.plans import Plan
 from support.ports import free_ports
@@ -20,6 +23,8 @@ from support.switch import Switch
 # isort: split; `support` tells where the tools' package is
 from bg_switch_tools.state import write_whole
 
+# Another seed kills at other moments: SEED=7 scripts/live_controller.py --by-hand
+SEED = int(os.environ.get("SEED", "1"))
 CONTROLLER = str(TOP / "bin" / "controller")
 WAIT = 20  # seconds for which anything is awaited
 LINE = re.compile(r"\d{4}-\d\d-\d\dT\d\d:\d\d:\d\d[+-]\d\d:\d\d (moment (?P<moment>\d+): )?(?P<text>\S.*)")
@@ -33,13 +38,15 @@ class Scene:
     """A switch, endpoints of three revisions, and the folder of a plan whose analyses are the scripts `pre` and
     `post`."""
 
-    def __init__(self, folder: str) -> None:
+    def __init__(self, folder: str, redispatch: bool = False) -> None:
         self.folder = pathlib.Path(folder)
         self.ports = {name: free_ports(2) for name in ("one", "two", "three")}
         self.endpoints = {port: Endpoint(by_target(name.encode()), port)
                           for name, ports in self.ports.items() for port in ports}
-        self.switch = Switch(ROLLOUT, workers=2, count=100)
-        self.plan = Plan(folder, self.switch.control, health={"path": "/", "interval": 0.3, "failures": 2},
+        self.switch = (Switch(ROLLOUT, instead_of_workers=("--concurrency", "8", "--redispatch")) if redispatch else
+                       Switch(ROLLOUT, workers=2, count=100))
+        # Without --redispatch, the first endpoints up to one that is down take requests.
+        self.plan = Plan(folder, self.switch.control, redispatch=redispatch, health={"path": "/", "interval": 0.3, "failures": 2},
                          analyses={"pre": ["sh", "pre"], "post": ["sh", "post"]})
         self.write("pre", GOOD)
         self.write("post", GOOD)
@@ -128,7 +135,7 @@ def check_log(log: str) -> None:
           ["verdict pre successful", "verdict post successful", "verdict pre successful", "verdict post failed",
            "verdict pre successful", "verdict post successful", "verdict pre successful", "verdict post successful"])
     moments = [int(line["moment"]) for line in lines if line and line["moment"]]
-    check("seconds are ticked", (moments == sorted(moments), moments[-1] - moments[0] > 10), (True, True))
+    check("seconds are ticked", (moments == sorted(moments), moments[-1] - moments[0] > 5), (True, True))
     check("no tick is told", [text for text in told if text.startswith("tick ")], [])
     check("what others ordered is told", "phase: preAnalysis -> aborted" in told, True)
 
@@ -149,6 +156,105 @@ def whole_run() -> None:
         check_log(log)
 
 
+def outage_after_the_switch() -> None:
+    """All endpoints of the revision that has just gone live are killed while its analysis runs: live traffic goes back within
+    ten seconds, with the defaults of the plan."""
+    with tempfile.TemporaryDirectory() as folder:
+        scene = Scene(folder)
+        scene.plan.told.pop("health")
+        scene.write("post", ENDLESS)
+        scene.write_plan("one")
+        controller = subprocess.Popen([CONTROLLER, scene.plan.path], stdout=subprocess.PIPE, text=True)
+        try:
+            scene.await_report("it is open", "available 2 open 0 deadline none\n")
+            scene.write_plan("one", "two")
+            scene.await_report("it is live", "phase postAnalysis\n", "active 2\n")
+            for port in scene.ports["two"]:
+                scene.endpoints[port].stop()
+            begun = time.monotonic()
+            comes(lambda: "active 1\n" in scene.report(), WAIT)
+            check_within("live traffic is back", time.monotonic() - begun, 10)
+            scene.check_active("the stable revision answers", (200, b"one"), 4)
+        finally:
+            controller.send_signal(signal.SIGTERM)
+            log = controller.communicate(timeout=WAIT)[0]
+            scene.switch.kill()
+        check("it is told", ("no endpoint is up of revision 2 two, which is active" in log, "verdict post error => ok" in log), (True, True))
+
+
+def endpoints_die_one_by_one() -> None:
+    """The first of two endpoints is killed, then the second, then both, by a switch that passes over those that are down: a
+    request fails only while both are gone."""
+    with tempfile.TemporaryDirectory() as folder:
+        scene = Scene(folder, redispatch=True)
+        scene.write_plan("two")
+        controller = subprocess.Popen([CONTROLLER, scene.plan.path], stdout=subprocess.PIPE, text=True)
+        first, second = (scene.endpoints[port] for port in scene.ports["two"])
+        try:
+            scene.await_report("it is open", "revision 1 two desired 2 available 2 ")
+            for killed, name in ((first, "first"), (second, "second")):
+                killed.stop()
+                scene.check_active(f"the {name} endpoint was killed just now", (200, b"two"), 20)
+                scene.await_report(f"the {name} endpoint was killed", "revision 1 two desired 2 available 1 ")
+                scene.check_active(f"the {name} endpoint is known to be down", (200, b"two"), 20)
+                killed.start()
+                scene.await_report(f"the {name} endpoint is up again", "revision 1 two desired 2 available 2 ")
+            first.stop()
+            second.stop()
+            scene.await_report("both are down", "revision 1 two desired 2 available 0 ")
+            scene.check_active("none is up", (503, b""))
+            first.start()
+            scene.await_report("one is up again", "revision 1 two desired 2 available 1 ")
+            scene.check_active("the one that is up answers", (200, b"two"), 20)
+        finally:
+            controller.send_signal(signal.SIGTERM)
+            controller.communicate(timeout=WAIT)
+            scene.switch.kill()
+
+
+def launched_rollout() -> None:
+    """One edit of the plan, from no process to the end of the old ones: no request fails, though the controller is killed."""
+    with tempfile.TemporaryDirectory() as folder:
+        scene = Launched(folder, SEED)
+        try:
+            scene.await_settled("web-v1")
+            traffic = Traffic(scene.active)
+            scene.name_last("web-v2")
+            scene.kill_at_random(3, scene.kill_controller)
+            scene.await_settled("web-v2")
+            traffic.stop()
+            scene.check_traffic(traffic)
+            scene.check_calls()
+        finally:
+            scene.end()
+
+
+def launched_under_kills(rounds: int, kills: int) -> None:
+    """Rollout after rollout, while the controller and the switch are killed."""
+    with tempfile.TemporaryDirectory() as folder:
+        scene = Launched(folder, SEED + rounds)
+        try:
+            scene.await_settled("web-v1")
+            traffic = Traffic(scene.active)
+            for number in range(2, 2 + rounds):
+                scene.name_last(f"web-v{number}")
+                scene.kill_at_random(kills, scene.kill_controller, scene.kill_switch, scene.kill_both)
+                scene.await_settled(f"web-v{number}")
+            traffic.stop()
+            scene.check_traffic(traffic)
+            scene.check_calls()
+        finally:
+            scene.end()
+
+
+def launched_with_kills() -> None:
+    launched_under_kills(1, 4)
+
+
+def launched_with_many_kills() -> None:
+    launched_under_kills(6, 6)
+
+
 def plans_that_are_wrong() -> None:
     with tempfile.TemporaryDirectory() as folder:
         plan = pathlib.Path(folder) / "plan.json"
@@ -159,4 +265,7 @@ def plans_that_are_wrong() -> None:
 
 
 if __name__ == "__main__":
-    checks.run("live_controller", [whole_run, plans_that_are_wrong], at_once=2)
+    print(f"live_controller: seed {SEED}", flush=True)
+    checks.run("live_controller", [whole_run, plans_that_are_wrong, outage_after_the_switch, endpoints_die_one_by_one,
+                                   launched_rollout, launched_with_kills], 4,
+               by_hand=[launched_with_many_kills])

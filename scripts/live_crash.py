@@ -28,6 +28,7 @@ NAMES = ("web-v1", "web-v2", "web-v3")
 WORKERS, COUNT = 2, 100000
 SOON = 2.0  # seconds after `listening` within which clients are answered
 WAIT = 20.0  # seconds for which anything else is awaited
+KNOWN = 0.8  # seconds after which the controller has seen an order
 WATCHED = 3.0  # seconds for which clients ask after a start
 
 
@@ -150,6 +151,17 @@ def switch_is_killed(scene: Scene) -> None:
                          scene.controller.says("the attempt of web-v3, which ran, is begun again")), (True, True))
 
 
+def switch_is_killed_after_a_promote(scene: Scene) -> None:
+    """The promote was answered ok within the second before, and holds."""
+    check("a promotion", ask(scene.control, b"promote", WAIT)[0].startswith("ok "), True)
+    time.sleep(KNOWN)
+    scene.switch.kill()
+    scene.switch.start()
+    check("web-v3 is stable", comes(lambda: scene.is_at("steady", "web-v3", "web-v3"), WAIT), True)
+    check("the first answers", [clients.get(scene.active) for _ in range(5)], [(200, b"web-v3")] * 5)
+    check("it is told", scene.controller.says("no book is open: it is opened with web-v3, which was stable"), True)
+
+
 def controller_is_killed(scene: Scene) -> None:
     scene.controller.kill()
     scene.controller.lines.clear()
@@ -199,5 +211,5 @@ def run_drill(kill: Callable[[Scene], None]) -> Callable[[], None]:
 
 
 if __name__ == "__main__":
-    DRILLS = (switch_is_killed, controller_is_killed, both_are_killed, state_is_cut)
+    DRILLS = (switch_is_killed, switch_is_killed_after_a_promote, controller_is_killed, both_are_killed, state_is_cut)
     checks.run("live_crash", list(map(run_drill, DRILLS)), 4)

@@ -28,6 +28,7 @@ from support.traffic import Traffic, ask, prepared_log
 # isort: split; `support` tells where the tests' package is
 sys.path.insert(0, str(TOP))
 from tests.fake_port import FakePort  # noqa: E402
+from tests.synthetic_log import ANSWERED, GrowingLog  # noqa: E402
 
 ROLLOUT = """{"spec": {"replicas": 2, "strategy": {"blueGreen": {"activeService": "web", "previewService": "web-preview",
 "autoPromotionEnabled": false, "prePromotionAnalysis": {}, "postPromotionAnalysis": {}, "scaleDownDelaySeconds": 30}}}}"""
@@ -38,6 +39,8 @@ REBOUND = "rebound.example"
 WIDE, NARROW = 1280, 390
 DEMONSTRATION = TOP / "examples" / "live" / "bad_revision.py"
 LONGEST_DEMONSTRATION = 100
+MANY, SWITCHES = 15, 8  # revisions of a page that is full, and switches of the active service among them
+OUTLIER = 20_000.0  # milliseconds of one request, of which the others take 4
 PICTURES = pathlib.Path(os.environ.get("BG_DASHBOARD_PICTURES") or tempfile.mkdtemp(prefix="bg_dashboard_"))
 
 
@@ -244,6 +247,77 @@ def rollout(browser: Browser) -> None:
         when_the_switch_ends(browser, played)
 
 
+def outage(browser: Browser) -> None:
+    """No endpoint of the active revision is up: the page says so, and does not look well."""
+    with scene() as played:
+        open_page(browser, played.address)
+        played.traffic.start()
+        check("a chart of requests moves", comes(lambda: bars(browser, ".r0") != ""), True)
+        played.order("available 1 0", "ok 0")
+        check_shown("an alarm in words", browser, "#alarm", "No endpoint of web-v1 is up", "answered 503")
+        check_shown("beside the phase", browser, "#phase-name", "Steady, and no endpoint is up")
+        good = browser.run("return getComputedStyle(document.documentElement).getPropertyValue('--good')")
+        painted = "return getComputedStyle(document.querySelector('#steps .done .dot')).getPropertyValue('background-color')"
+        browser.run("document.body.insertAdjacentElement('beforeend', document.createElement('i')).style.color = arguments[0]", good)
+        green = browser.run("return getComputedStyle(document.querySelector('body > i')).color")
+        check("no step is green", browser.run(painted) != green, True)
+        check_shown("the service", browser, "[data-service=active] .bad", "no endpoint is up")
+        check("errors of the revision", comes(lambda: browser.text("[data-revision=web-v1] .bad").count("%") > 0), True)
+        time.sleep(4)  # so that the picture has slots without an answer
+        picture(browser, "10-no-endpoint")
+        played.order("available 1 2", "ok 0")
+        check("the alarm ends", comes(lambda: browser.is_true("return document.getElementById('alarm').hidden")), True)
+        check_shown("a steady phase", browser, "#phase-name", "Steady")
+        check_shown("each endpoint's requests", browser, "[data-revision=web-v1] .ports", *map(str, played.ports["web-v1"]))
+
+
+def crowded_report(active: int) -> list[str]:
+    """A report of many revisions, of which the active service selects one."""
+    return ["moment 1", "phase steady", f"active {active}", f"preview {active}", "stable 1", f"newest {MANY}",
+            *(f"revision {number} web-v{number} desired 2 available 2 open 0 deadline none" for number in range(1, MANY + 1)), "end"]
+
+
+def fill_log(log: GrowingLog) -> None:
+    """Requests of each revision in each of the last seconds, and one that took much longer than all others."""
+    now = time.time()
+    for second in range(50, 0, -1):
+        log.add([ANSWERED._replace(time=now - second, revision=number, status=500 if number == 2 else 200)
+                 for number in range(1, MANY + 1) for _ in range(3)])
+    log.add([ANSWERED._replace(time=now - 20, revision=3, duration_ms=OUTLIER)])
+
+
+OVERLAPS = """const boxes = [...document.querySelectorAll('#requests .mark-text')].map((text) => text.getBoundingClientRect());
+return boxes.filter((one, place) => boxes.slice(place + 1).some((other) =>
+  one.left < other.right && other.left < one.right && one.top < other.bottom && other.top < one.bottom)).length"""
+COLOURS = """const chips = [...document.querySelectorAll('#revisions .chip')];
+return new Set(chips.map((chip) => getComputedStyle(chip).backgroundColor)).size"""
+GREATEST_TICK = "return Math.max(...[...document.querySelectorAll('#durations .tick')].map((tick) => Number(tick.textContent) || 0))"
+
+
+def crowded(browser: Browser) -> None:
+    """Many revisions, many switches, and one request that took very long: all can be told apart."""
+    moved: list[int] = []
+
+    def report(_: str) -> list[str]:
+        moved.append(len(moved) % SWITCHES + 1 if len(moved) < 2 * SWITCHES else 1)
+        return crowded_report(moved[-1])
+    with tempfile.TemporaryDirectory() as folder, FakePort(report, free_port()) as control:
+        log = GrowingLog(pathlib.Path(folder) / "access.log")
+        fill_log(log)
+        with showing(control.port, free_port(), "--log", str(log.path)) as address:
+            open_page(browser, address)
+            check("marks of switches", comes(lambda: browser.text("#requests .mark-text").count("to web-v") > 2), True)
+            comes(lambda: len(moved) > 2 * SWITCHES + 4)
+            check("texts of marks that overlap", browser.run(OVERLAPS), 0)
+            check("colours", browser.run(COLOURS), MANY)
+            check_shown("a legend of errors", browser, "#requests .key", "5xx", "no answer", "4xx")
+            tick = browser.run(GREATEST_TICK)
+            assert isinstance(tick, (int, float))
+            check("an axis that one outlier does not flatten", (tick < 100) or tick, True)
+            check_shown("its value", browser, "#durations .cut", "↑")
+            picture(browser, "11-crowded")
+
+
 # What a page of another site can try: to read, and to order, by each way that a browser has.
 ATTACK = """const done = arguments[arguments.length - 1], to = location.hash.slice(1);
 const order = '{"order": "abort", "revision": 2}';
@@ -319,7 +393,7 @@ def in_a_browser() -> None:
         return
     try:
         with browsing(free_port(), (f"--host-resolver-rules=MAP {REBOUND} {HOST}",)) as browser:
-            for part in (rollout, tricks, hostile_names):
+            for part in (rollout, tricks, hostile_names, outage, crowded):
                 part(browser)
             print(f"pictures of the page are in {PICTURES}")
     except NoBrowser as reason:
@@ -341,9 +415,9 @@ def over_http() -> None:
                 connection.request(method, path, headers={"Origin": f"http://{HOST}:{port}", "X-Token": "x"})
                 answer = connection.getresponse()
                 return answer.status, answer.read().decode()
-        wanted = 'nginx_http_requests_total{revision="web-v1",service="active",status="2xx"}'
+        wanted = 'bg_switch_http_requests_total{revision="web-v1",service="active",status="2xx"}'
         check("metrics of traffic", comes(lambda: wanted in asked("/metrics")[1]), True)
-        check("metrics of the report", 'rollout_info_replicas_available{revision="web-v1"} 2.0' in asked("/metrics")[1], True)
+        check("metrics of the report", 'bg_switch_replicas_available{revision="web-v1"} 2.0' in asked("/metrics")[1], True)
         report = json.loads(asked("/api/state")[1])["report"]
         check("the state", (report["phase"], report["revisions"][0]["available"]), ("steady", 2))
         played.pause()

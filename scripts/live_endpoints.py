@@ -1,17 +1,26 @@
-"""The endpoints of a running `serve`: connects that hang, endpoints that are silent for long, and revisions whose port
-is one of the switch's own."""
+"""The endpoints of a running `serve`: connects that hang, endpoints that are silent for long, revisions whose port is
+one of the switch's own, and revisions one of whose endpoints is sick."""
+import concurrent.futures
 import contextlib
+import json
+import pathlib
 import socket
+import tempfile
 import threading
 import time
+from collections.abc import Callable, Iterator, Mapping, Sequence
 from functools import partial
+from typing import NamedTuple
 
 from support import checks, clients
-from support.checks import check, check_within
+from support.checks import check, check_within, comes
 from support.clients import Timed, at_once, timed, timed_for
-from support.endpoints import Answer, Endpoint, Request, by_target, full_backlog, full_listener, in_pieces
+from support.endpoints import (CUT_HEAD, Answer, Endpoint, EndpointProcess, Request, by_target, full_backlog,
+                               full_listener, in_pieces, reset_at_once)
 from support.messages import BAD_GATEWAY, ROLLOUT, answer, request, response
+from support.ports import free_ports
 from support.switch import LISTENING, TIMEOUT_VARIABLE, Switch, serving
+from support.traffic import prepared_log
 
 # How long, in seconds, a connect takes at most, and how long an endpoint may be silent, unless the timeout is longer.
 CONNECT = 5
@@ -149,8 +158,256 @@ def timeouts() -> None:
                 check(f"a timeout of {timeout} is told", switch.tells(TIMEOUT_VARIABLE, "3600"), True)
 
 
+# A revision of two endpoints, and the words by which the switch asks another one than the slot's.
+TWO = ROLLOUT.replace('{"strategy"', '{"replicas": 2, "strategy"')
+REDISPATCH = ("--redispatch",)
+CONCURRENCY = 64
+# Requests a second, for how many seconds, and after how many of them the endpoint becomes sick.
+RATE, LASTS, SICK_AFTER = 100, 8.0, 1.0
+# The timeout of a response here, in seconds, and what a request takes at most that isn't at a sick endpoint.
+SHORT_TIMEOUT = 4
+PROMPT = 1.5
+ONE, OTHER = answer(b"one"), answer(b"two")
+
+
+class Sent(NamedTuple):
+    """A request: after how many seconds of the traffic it began, what it was answered, and how long that took."""
+    begun: float
+    answer: bytes
+    seconds: float
+
+
+def sent(port: int, start: float) -> Sent:
+    begun = time.monotonic() - start
+    got = timed(port)
+    return Sent(begun, got.answer, got.seconds)
+
+
+def traffic(port: int, become_sick: Callable[[], object], lasts: float = LASTS) -> list[Sent]:
+    """So many requests a second, whatever becomes of those before. An endpoint becomes sick after a while."""
+    start = time.monotonic()
+    with concurrent.futures.ThreadPoolExecutor(4 * CONCURRENCY) as pool:
+        timer = threading.Timer(SICK_AFTER, become_sick)
+        timer.start()
+        asked = []
+        for number in range(int(RATE * lasts)):
+            time.sleep(max(0.0, start + number / RATE - time.monotonic()))
+            asked.append(pool.submit(sent, port, start))
+        timer.join()
+        return [one.result() for one in asked]
+
+
+@contextlib.contextmanager
+def serving_two(ports: Sequence[int], options: Sequence[str] = REDISPATCH,
+                variables: Mapping[str, str] | None = None) -> Iterator[Switch]:
+    """A switch whose first revision has two endpoints."""
+    switch = Switch(TWO, instead_of_workers=("--concurrency", str(CONCURRENCY), *options), timeout=SHORT_TIMEOUT,
+                    variables=variables)
+    check("listening", switch.first, LISTENING)
+    for line in (f"open one {ports[0]} {ports[1]}", "available 1 2"):
+        check(line, switch.order(line), "ok 0")
+    try:
+        yield switch
+    finally:
+        switch.stop()
+
+
+def two_processes() -> tuple[EndpointProcess, EndpointProcess]:
+    ports = free_ports(2)
+    return EndpointProcess("one", ports[0]), EndpointProcess("two", ports[1])
+
+
+def failed(all_sent: Sequence[Sent]) -> list[Sent]:
+    return [one for one in all_sent if one.answer not in (ONE, OTHER)]
+
+
+def killed_one(place: int) -> None:
+    """One of two endpoints is killed under traffic: no request fails that begins afterwards, and each is prompt."""
+    both = two_processes()
+    name = f"{('the first', 'the second')[place]} of two endpoints is killed"
+    with serving_two([one.port for one in both]) as switch:
+        all_sent = traffic(switch.active, both[place].kill, 4.0)
+    late = [one for one in failed(all_sent) if one.begun > SICK_AFTER + 0.2]
+    check(f"{name}: no later request fails", late, [])
+    check(f"{name}: few fail that were there", len(failed(all_sent)) <= RATE // 5, True)
+    check_within(f"{name}: each is prompt", max(one.seconds for one in all_sent), PROMPT)
+    both[1 - place].kill()
+
+
+def killed_first() -> None:
+    killed_one(0)
+
+
+def killed_second() -> None:
+    killed_one(1)
+
+
+def killed_both() -> None:
+    """With both endpoints killed each answer is 502, at once; an endpoint that comes back is asked at once."""
+    both = two_processes()
+    with serving_two([one.port for one in both]) as switch:
+        for one in both:
+            one.kill()
+        for _ in range(8):
+            check_gateway("both endpoints are killed", timed(switch.active), 0, PROMPT)
+        both[1].start()
+        answers = {timed(switch.active).answer for _ in range(8)}
+        check("an endpoint that comes back is asked, although both are marked", answers, {OTHER})
+    both[1].kill()
+
+
+def most_at_once(asked: Sequence[Sent]) -> int:
+    """How many of these requests were open at a time at most."""
+    return max((sum(other.begun <= one.begun < other.begun + other.seconds for other in asked) for one in asked),
+               default=0)
+
+
+def check_sick(name: str, all_sent: Sequence[Sent]) -> None:
+    """Checks that only requests failed that were at an endpoint that is silent, and that the others were prompt. Its
+    share is half of the workers; while a busy machine lets the other one be at its own share too, it may get more."""
+    bad = failed(all_sent)
+    check(f"{name}: some requests were at it", bool(bad), True)
+    check(f"{name}: only requests that were at it fail", [one for one in bad if one.seconds < SHORT_TIMEOUT - 0.5], [])
+    check(f"{name}: it leaves workers to the other one", most_at_once(bad) <= CONCURRENCY * 3 // 4, True)
+    others = [one.seconds for one in all_sent if one not in bad]
+    check_within(f"{name}: the others are prompt", max(others), PROMPT)
+
+
+def stopped() -> None:
+    """An endpoint that is stopped accepts connections by its backlog. It takes half of the workers at most."""
+    both = two_processes()
+    with serving_two([one.port for one in both]) as switch:
+        all_sent = traffic(switch.active, both[0].stop)
+    check_sick("an endpoint that is stopped", all_sent)
+    for one in both:
+        one.kill()
+
+
+class Switched:
+    """Answers by one function first, and by another one once it is sick."""
+
+    def __init__(self, well: Answer, sick: Answer) -> None:
+        self.answer_by = well
+        self.sick = sick
+
+    def __call__(self, one: Request, connection: socket.socket) -> None:
+        self.answer_by(one, connection)
+
+    def become_sick(self) -> None:
+        self.answer_by = self.sick
+
+
+def sick_by(sick: Answer, lasts: float = LASTS) -> tuple[list[Sent], Endpoint, Endpoint]:
+    """What is answered where the first of two endpoints becomes sick, and both."""
+    switched = Switched(by_target(b"one"), sick)
+    first, second = Endpoint(switched), Endpoint(by_target(b"two"))
+    with serving_two([first.port, second.port]) as switch:
+        return traffic(switch.active, switched.become_sick, lasts), first, second
+
+
+def silent_after_the_head() -> None:
+    def cut(_: Request, connection: socket.socket) -> None:
+        connection.sendall(CUT_HEAD)
+        clients.received(connection)
+
+    all_sent, _, _ = sick_by(cut)
+    check_sick("an endpoint that is silent after a part of the head", all_sent)
+
+
+def resets() -> None:
+    """A request of which the endpoint has got a byte is sent to no other one: it fails, and is counted once."""
+    all_sent, first, second = sick_by(reset_at_once, 4.0)
+    answered = [one for one in all_sent if one.answer in (ONE, OTHER)]
+    check("an endpoint that resets: each request is sent once", first.served + second.served, len(all_sent))
+    check("an endpoint that resets: those of the other one are answered",
+          sum(one.answer == OTHER for one in answered), second.served)
+    check("an endpoint that resets: its requests fail", {one.answer for one in failed(all_sent)}, {BAD_GATEWAY})
+
+
+def slow() -> None:
+    """An endpoint that is slow fails no request."""
+    def answer_slowly(_: Request, connection: socket.socket) -> None:
+        time.sleep(1.0)
+        connection.sendall(response(b"one"))
+
+    all_sent, _, _ = sick_by(answer_slowly, 4.0)
+    check("an endpoint that is slow: no request fails", failed(all_sent), [])
+
+
+def slots_stay() -> None:
+    """While both endpoints are well, each request is sent to its slot, with redispatch and without it."""
+    first, second = Endpoint(by_target(b"one")), Endpoint(by_target(b"two"))
+    for options in ((), REDISPATCH):
+        with serving_two([first.port, second.port], options) as switch:
+            got = [timed(switch.active).answer for _ in range(6)]
+        check(f"requests go to their slots {options}", got, [OTHER, ONE] * 3)
+
+
+def without_redispatch() -> None:
+    """Without redispatch a request is sent to its slot's endpoint or to none."""
+    first, second = Endpoint(by_target(b"one")), Endpoint(by_target(b"two"))
+    first.stop()
+    with serving_two([first.port, second.port], ()) as switch:
+        got = [timed(switch.active).answer for _ in range(6)]
+    check("without redispatch the slot decides", got, [OTHER, BAD_GATEWAY] * 3)
+
+
+def port_of_two_revisions() -> None:
+    """A port that two revisions have is asked for its own slot alone, and there is no redispatch for it."""
+    first, second, third = (Endpoint(by_target(name)) for name in (b"one", b"two", b"three"))
+    first.stop()
+    with serving_two([first.port, second.port]) as switch:
+        for line in (f"deploy two {first.port} {third.port}", "available 2 1"):
+            check(line, switch.order(line).split()[0], "ok")
+        got = {timed(switch.active).answer for _ in range(6)}
+    check("a port of two revisions", BAD_GATEWAY in got, True)
+
+
+def logged() -> None:
+    """The log has the port that was dialled last, the slot's where it differs, and the number of tries."""
+    first, second = Endpoint(by_target(b"one")), Endpoint(by_target(b"two"))
+    first.stop()
+    with tempfile.TemporaryDirectory() as folder:
+        path = pathlib.Path(folder) / "log"
+        with serving_two([first.port, second.port], variables=prepared_log(path)) as switch:
+            for _ in range(2):
+                timed(switch.active)
+            comes(lambda: path.read_bytes().count(b"\n") >= 2)
+            lines = [json.loads(line) for line in path.read_text(encoding="utf-8").splitlines()]
+    check("the port, the slot's port and the tries of a log",
+          [(line["port"], line.get("slot_port"), line.get("tries")) for line in lines],
+          [(second.port, None, 1), (second.port, first.port, 2)])
+
+
+def marked_is_asked_last() -> None:
+    """A port whose connect failed is asked after the others for a second, and then again."""
+    first, second = Endpoint(by_target(b"one")), Endpoint(by_target(b"two"))
+    first.stop()
+    with serving_two([first.port, second.port]) as switch:
+        got = [timed(switch.active).answer for _ in range(2)]
+        check("a connect that fails is repeated elsewhere", got, [OTHER] * 2)
+        first.start()
+        check("a marked endpoint is not asked", [timed(switch.active).answer for _ in range(4)], [OTHER] * 4)
+        time.sleep(1.2)
+        check("an endpoint whose mark has ended is asked", ONE in {timed(switch.active).answer for _ in range(2)}, True)
+
+
+def down() -> None:
+    """An endpoint that is down by a line of the operator gets no request while another one takes them."""
+    first, second = Endpoint(by_target(b"one")), Endpoint(by_target(b"two"))
+    with serving_two([first.port, second.port]) as switch:
+        check("down", switch.order(f"down {first.port}").split()[0], "ok")
+        check("an endpoint that is down", {timed(switch.active).answer for _ in range(6)}, {OTHER})
+        check("the other is down", switch.order(f"down {second.port}").split()[0], "ok")
+        check("the other one is down in its place", {timed(switch.active).answer for _ in range(6)}, {ONE})
+
+
+SICK = (killed_first, killed_second, killed_both, stopped, silent_after_the_head, resets, slow, slots_stay,
+        without_redispatch, port_of_two_revisions, logged, marked_is_asked_last, down)
+
 if __name__ == "__main__":
     checks.run("live_endpoints", (
         silence, silences, silence_within_the_timeout, silence_past_the_timeout, connects_that_hang,
-        connects_within_the_timeout, connects_in_time, timeout_begins_before_the_connect, own_ports, timeouts), 10,
+        connects_within_the_timeout, connects_in_time, timeout_begins_before_the_connect, own_ports, timeouts,
+        *SICK), 10,
         by_hand=(long_silence,))

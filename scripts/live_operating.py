@@ -30,7 +30,7 @@ def explained(title: str, places: re.Pattern[str]) -> set[str]:
 
 def lines_of_the_log() -> None:
     """The fixed parts of each line that the page explains stand in the tools."""
-    tools = "".join(path.read_text(encoding="utf-8") for path in (TOP / "lib" / "bg_switch_tools").glob("*.py"))
+    tools = "".join(path.read_text(encoding="utf-8") for path in (TOP / "lib" / "bg_switch_tools").rglob("*.py"))
     source = re.sub(r'"\s+f?"', "", tools)
     parts = explained("The log", PLACES)
     check("parts of lines that no tool writes", sorted(part for part in parts if part not in source), [])

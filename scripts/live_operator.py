@@ -89,36 +89,18 @@ def statuses() -> None:
         check("after quit", outcome(switch, "--wait", "0.5", "report"), ("", 2))
 
 
-class Holder:
-    """An operator who holds the control port: one line after the other, so that no other connection gets its turn."""
-
-    def __init__(self, switch: Switch) -> None:
-        self.operator = Operator(switch.control)
-        self.operator.check("open one 9", "ok 0")
-        self.is_over = threading.Event()
-        self.thread = threading.Thread(target=self.hold, daemon=True)
-        self.thread.start()
-
-    def hold(self) -> None:
-        while not self.is_over.wait(0.1):
-            self.operator.report()
-
-    def let_go(self) -> None:
-        self.is_over.set()
-        self.thread.join(WAIT)
-        self.operator.close()
-
-
 def given_up() -> None:
-    """An order isn't carried out later where another operator held the port for too long."""
+    """An order isn't carried out later where the switch gave no answer for too long."""
     with closed_book() as switch:
-        holder = Holder(switch)
-        check("the port is held", outcome(switch, "--wait", "1", "tick", "50"), ("", 2))
-        check("the port is held from lines", outcome(switch, "--wait", "0.5", lines="tick 51\ntick 52\n"), ("", 2))
-        check("the port is held from a watcher", outcome(switch, "--wait", "0.5", "watch"), ("", 2))
+        with contextlib.closing(Operator(switch.control)) as operator:
+            operator.check("open one 9", "ok 0")
+        switch.process.send_signal(signal.SIGSTOP)
+        check("no answer", outcome(switch, "--wait", "1", "tick", "50"), ("", 2))
+        check("no answer to lines", outcome(switch, "--wait", "0.5", lines="tick 51\ntick 52\n"), ("", 2))
+        check("no answer to a watcher", outcome(switch, "--wait", "0.5", "watch"), ("", 2))
         waiting = started(switch, "tick", "7")
         time.sleep(0.5)
-        holder.let_go()
+        switch.process.send_signal(signal.SIGCONT)
         check("an order that waited", (waiting.communicate(timeout=WAIT)[0], waiting.returncode), ("ok 0\n", 0))
         check("no order that was given up", moment(switch), "moment 7")
 

@@ -1,16 +1,17 @@
 """examples/production with other ports and paths: nginx before a running `serve`, and its unit's commands. What clients
 are answered is compared with what they are answered by the same nginx without the switch. Skipped where nginx or
-openssl isn't installed."""
+openssl isn't installed. scripts/package.sh runs the units' commands as they are, from the installed package."""
 import contextlib
 import http.client
 import os
 import pathlib
+import re
 import shutil
 import ssl
+import stat
 import subprocess
 import sys
 import tempfile
-import zipapp
 from functools import partial
 from typing import NamedTuple
 
@@ -26,11 +27,17 @@ EXAMPLE = TOP / "examples" / "production"
 NAME, PREVIEW_NAME, UNKNOWN_NAME = "web.example", "preview.web.example", "other.example"
 # The ports that the example has, in the order of the words of `serve`.
 ACTIVE, CONTROL, PREVIEW = 8080, 8082, 8081
-WORKERS = 7
+CONCURRENCY = ("--concurrency", "255", "--redispatch")
+DESCRIPTORS = 8192
 SOON = 10
+# A user without rights, who runs the commands of the stop where this script is run by root.
+OTHER_USER, OTHER_GROUP = "nobody", "nogroup"
 LAST_CHANGE, AT_LAST_CHANGE = 1000000000, "Sun, 09 Sep 2001 01:46:40 GMT"
 PAGES = {"index.html": b"<p>hello</p>\n" * 100, "page.txt": b"hello\n" * 1000, "data.json": b"[1, 2, 3]\n" * 500,
          "big.bin": b"x" * 4000000, "folder/index.html": b"folder"}
+UNITS = ("bg-switch.service", "bg-controller.service", "bg-dashboard.service")
+# Without the lines that harden it, a unit has an exposure above 8.
+MOST_EXPOSED = 1.9
 # Fields that tell how a message is carried: the switch sends each response by its length, and knows it.
 CARRIED = ("date", "connection", "content-length", "transfer-encoding")
 
@@ -118,7 +125,7 @@ class Site:
     def __init__(self, folder: pathlib.Path) -> None:
         self.folder = folder
         self.endpoint, self.front, self.plain_front = free_port(), free_port(), free_port()
-        self.switch = Switch(ROLLOUT, workers=WORKERS, descriptors=4096)
+        self.switch = Switch(ROLLOUT, instead_of_workers=CONCURRENCY, descriptors=DESCRIPTORS)
         check("listening", self.switch.first, LISTENING)
         write_pages(folder / "pages")
         make_certificate(folder)
@@ -207,37 +214,62 @@ def values(unit: str, key: str) -> list[str]:
     return [line.partition("=")[2] for line in unit.splitlines() if line.startswith(f"{key}=")]
 
 
+def make_tools(folder: pathlib.Path) -> pathlib.Path:
+    """The one file of the tools, by `make tools`, where everybody can reach it."""
+    archive = folder / "bg_switch_tools.pyz"
+    subprocess.run(["make", "--silent", "--no-print-directory", "-C", str(TOP), "tools", f"ARCHIVE={archive}"],
+                   stdout=subprocess.DEVNULL, check=True)
+    check("everybody may run the tools", stat.filemode(archive.stat().st_mode), "-rwxr-xr-x")
+    folder.chmod(0o755)
+    return archive
+
+
+def start_as_another_user(command: str) -> "subprocess.Popen[str]":
+    """Starts a command as a user without rights, as systemd starts a unit's. Only root can change the user. (setpriv keeps
+    root's rights up to the exec, and so may run a file that the user may not.)"""
+    user = OTHER_USER if os.geteuid() == 0 else None
+    process = subprocess.Popen(command.split(), stdout=subprocess.PIPE, stderr=subprocess.PIPE, text=True, cwd="/", user=user,
+                               group=OTHER_GROUP if user else None, extra_groups=[] if user else None)
+    processes.limit(process)
+    return process
+
+
 def stop_by_unit(site: Site) -> None:
     """The unit's commands: that of the start has the words of `serve`, and those of the stop end the switch."""
     unit = placed("bg-switch.service", {})
     start, = values(unit, "ExecStart")
     check("the start of the unit", sorted(start.split()),
-          sorted(["/usr/local/bin/bg_switch", *words_of_serve(ACTIVE, CONTROL, PREVIEW, WORKERS, None)]))
-    archive = site.folder / "bg_switch_tools.pyz"
-    zipapp.create_archive(TOP / "lib", archive, "/usr/bin/env python3")
-    shutdown, wait = values(unit.replace("/usr/local/bin/bg_switch_tools.pyz", str(archive)).replace(
+          sorted(["/usr/bin/bg_switch", *words_of_serve(ACTIVE, CONTROL, PREVIEW, 0, None, CONCURRENCY)]))
+    check("the descriptors of the unit", values(unit, "LimitNOFILE"), [str(DESCRIPTORS)])
+    archive = make_tools(site.folder)
+    shutdown, wait = values(unit.replace("/usr/bin/bg-operator", f"{archive} operator").replace(
         str(CONTROL), str(site.switch.control)).replace("${MAINPID}", str(site.switch.process.pid)), "ExecStop")
-    waiting = subprocess.Popen(wait.split(), text=True)
-    processes.limit(waiting)
-    run = subprocess.run(shutdown.split(), capture_output=True, text=True, timeout=SOON, check=False)
-    check("the first command of the stop", (run.stdout, run.stderr, run.returncode), ("", "", 0))
+    waiting, asking = start_as_another_user(wait), start_as_another_user(shutdown)
+    check("the first command of the stop", (*asking.communicate(timeout=SOON), asking.returncode), ("", "", 0))
     ended = site.switch.wait()
     check("the switch has ended by itself", (ended.printed.splitlines()[-1][:6], ended.status), ("calls ", 0))
-    check("the second command of the stop", waiting.wait(SOON), 0)
+    check("the second command of the stop", (*waiting.communicate(timeout=SOON), waiting.returncode), ("", "", 0))
+
+
+def exposure(unit: pathlib.Path) -> float:
+    """The exposure of a unit, by systemd's own measure: from 0 to 10, which is the worst."""
+    run = subprocess.run(["systemd-analyze", "security", "--offline=true", "--no-pager", unit], capture_output=True, text=True,
+                         check=False)
+    return float(run.stdout.rsplit("exposure level", 1)[1].split(":")[1].split()[0])
 
 
 def verify_units(folder: pathlib.Path) -> None:
-    """systemd takes the units, where it is installed. Their programs are put where they are."""
+    """systemd takes the units, and finds them hardened, where it is installed. Their programs are put where they are."""
     if shutil.which("systemd-analyze") is None:
         print("live_production: the units aren't judged, since systemd isn't installed here", flush=True)
         return
-    for name in ("bg-switch.service", "bg-controller.service"):
+    for name in UNITS:
         unit = folder / name
-        unit.write_text(placed(name, {}).replace("/usr/local/bin/bg_switch_tools.pyz", "/bin/true").replace(
-            "/usr/local/bin/bg_switch", "/bin/true"), encoding="ascii")
+        unit.write_text(re.sub(r"/usr/bin/bg[_-]\w+", "/bin/true", placed(name, {})), encoding="ascii")
         run = subprocess.run(["systemd-analyze", "verify", "--man=no", unit], capture_output=True, text=True,
                              check=False)
         check(f"systemd takes {name}", (run.returncode, run.stderr), (0, ""))
+        checks.check_within(f"the exposure of {name}", exposure(unit), MOST_EXPOSED)
 
 
 def production() -> None:

@@ -1,6 +1,7 @@
 """`bg_switch serve` on loopback where something runs out: the connections of a port, the descriptors, the threads."""
 import concurrent.futures
 import contextlib
+import pathlib
 import resource
 import time
 
@@ -18,6 +19,8 @@ REQUEST, RESPONSE, ANSWER = request(), response(b"ok"), answer(b"ok")
 # For how many seconds it is seen what a program doesn't do, or it can't accept: less than the second in which it tries
 # again before an accept that fails counts.
 SEEN = 0.3
+# For how many seconds an idle switch is looked at.
+IDLE = 5
 
 
 def connections_used_up() -> None:
@@ -100,6 +103,25 @@ def descriptors_of_operators() -> None:
         check("a request beside idle operators and clients", clients.timed(switch.active).answer, answer(b"one"))
 
 
+def count_waits(process: int) -> int:
+    """How often the threads of a process have waited."""
+    tasks = pathlib.Path(f"/proc/{process}/task").glob("*/status")
+    lines = [line for task in tasks for line in task.read_text(encoding="ascii").splitlines()]
+    return sum(int(line.split()[1]) for line in lines if line.startswith("voluntary_ctxt_switches:"))
+
+
+def idle_workers() -> None:
+    """Idle workers don't look for work: all threads of an idle switch together wait at most ten times a second."""
+    with serving(Endpoint(by_target(b"one")).port, workers=7) as switch:
+        check("an answer before", clients.timed(switch.active).answer, answer(b"one"))
+        time.sleep(2)
+        before = count_waits(switch.process.pid)
+        time.sleep(IDLE)
+        grown = count_waits(switch.process.pid) - before
+        check("waits of an idle switch, above ten a second", max(grown - 10 * IDLE, 0), 0)
+        check("an answer after it was idle", clients.timed(switch.active).answer, answer(b"one"))
+
+
 def without_threads() -> None:
     """No thread can be had: the operator is answered up to `quit`, and then the seats are worked in turn."""
     hard = resource.getrlimit(resource.RLIMIT_STACK)[1]
@@ -122,5 +144,5 @@ def without_threads() -> None:
 
 
 if __name__ == "__main__":
-    PARTS = [connections_used_up, a_client_too_many, without_descriptors, descriptors_of_operators, without_threads]
+    PARTS = [connections_used_up, a_client_too_many, without_descriptors, descriptors_of_operators, idle_workers, without_threads]
     checks.run("live_resources", PARTS, at_once=4)

@@ -30,6 +30,7 @@ class FakeBook:
         self.moment = 0
         self.phase = ""
         self.revisions: dict[int, Held] = {}
+        self.down: list[str] | None = None  # what the line `down` has named; None for a switch that does not know the line
         self.refusals: dict[str, str] = {}  # by the first word: what a test wants each line of it to be refused with
         self.active = self.stable = self.newest = 1
 
@@ -42,6 +43,8 @@ class FakeBook:
             "open": self._open, "report": self._report, "tick": self._tick, "available": self._available,
             "deploy": self._deploy, "promote": self._promote, "abort": self._abort, "retry": self._retry,
             "verdict": self._verdict}
+        if self.down is not None:
+            known["down"] = self._down
         if not words or words[0] not in known:
             return ["fault UnknownWord" if words else "fault Empty"]
         if not self.revisions and words[0] != "open":
@@ -137,12 +140,22 @@ class FakeBook:
         return self._go_on()
 
 
+    def _down(self, words: list[str]) -> Sequence[str]:
+        if not all(word.isdecimal() and int(word) < 65536 for word in words):
+            return ["fault BadNumber"]
+        ports = [int(word) for word in words]
+        self._require(0 not in ports and len(set(ports)) == len(ports), "BadPorts")
+        self.down = words
+        return [f"ok {len(words)}"]
+
+
 class FakeSwitch:
     """A switch at a control port. It can be killed, after which its book is gone, and started again."""
 
-    def __init__(self, *steps: str, delay: int = 30) -> None:
+    def __init__(self, *steps: str, delay: int = 30, knows_down: bool = False) -> None:
         self.steps = steps
         self.delay = delay
+        self.knows_down = knows_down
         self.lines: list[str] = []
         self.port = 0
         self.start()
@@ -150,6 +163,7 @@ class FakeSwitch:
     def start(self, *lines: str) -> None:
         """Starts it; these lines have been carried out when it listens."""
         self.book = FakeBook(*self.steps, delay=self.delay)
+        self.book.down = [] if self.knows_down else None
         for line in lines:
             self.book.answer(line)
         self.control = FakePort(self.book.answer, self.port, self.lines)
@@ -159,5 +173,5 @@ class FakeSwitch:
         self.control.close()
 
     def orders(self) -> list[str]:
-        """The lines that it was sent, but for reports and ticks."""
-        return [line for line in list(self.lines) if line.split(" ")[0] not in ("report", "tick")]
+        """The lines that it was sent, but for reports, ticks and the ports that are down."""
+        return [line for line in list(self.lines) if line.split(" ")[0] not in ("report", "tick", "down")]

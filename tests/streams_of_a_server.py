@@ -1,7 +1,10 @@
 """The dashboard's server in this process, whose looks are given by hand: python3 -m tests.streams_of_a_server PORT
 
-Prints what is left of a stream whose client reads nothing, and where a page that is opened after an order finds it."""
+Prints what is left of a stream whose client reads nothing, where a page that is opened after an order finds it, and what the
+server says of looks that end by a fault which nobody expects."""
 import asyncio
+import contextlib
+import io
 import json
 import socket
 import sys
@@ -51,6 +54,24 @@ async def order(looked_at: server.Server, port: int) -> str:
     return f"orders in the state and the update: {seen[0]}, {seen[1]}"
 
 
+async def look_on(control: int) -> str:
+    """The first looks end by a fault, of which none ends the looks that follow."""
+    looked_at, faults = server.Server(Board(control, "", False)), [ValueError("planted"), ValueError("planted"), KeyError("planted")]
+
+    def look() -> tuple[None, None]:
+        if faults:
+            raise faults.pop()
+        return None, None
+    traces = io.StringIO()
+    with mock.patch.object(looked_at, "look", look), mock.patch.object(server, "PAUSE", 0.01), contextlib.redirect_stderr(traces):
+        task = asyncio.create_task(looked_at.look_always())
+        while not any("looks at the switch again" in each["text"] for each in looked_at.board.happened):
+            await asyncio.sleep(0.01)
+        task.cancel()
+    said = [each["text"] for each in looked_at.board.happened if each["kind"] == "fault"]
+    return f"faults {looked_at.board.own_faults}, said {len(said)}, traces {traces.getvalue().count('Traceback')}: {said[0]}"
+
+
 async def main(port: int) -> None:
     switch = FakeSwitch("pause")
     for line in PAUSED:
@@ -65,6 +86,7 @@ async def main(port: int) -> None:
         await asyncio.sleep(0.5)
         assert runner.server is not None
         print(f"streams {len(looked_at.listeners)}, connections {len(runner.server.connections)}")
+    print(await asyncio.wait_for(look_on(switch.port), GREATEST_WAIT))
 
 
 if __name__ == "__main__":

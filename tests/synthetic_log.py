@@ -10,7 +10,7 @@ SEED = 46
 BEGIN = 1_790_000_000.0  # seconds from 1970
 ANSWERED = Entry(BEGIN, "active", 1, 1, 9101, "GET", "/", 200, "answered", None, 78, 5, 4.0, 3.0)
 # What else can become of a connection, by the reason.
-REFUSALS = (("no_endpoint", 503, 1), ("no_preview", 503, None), ("history_full", 503, 1), ("connect_failed", 502, 1),
+REFUSALS = (("no_endpoint", 503, None), ("no_preview", 503, None), ("history_full", 503, None), ("connect_failed", 502, 1),
             ("response_timeout", 502, 1), ("response_malformed", 502, 1), ("response_too_large", 502, 1), ("given_up", 503, 1),
             ("head", 400, None), ("body", 413, None), ("memory", 503, None))
 

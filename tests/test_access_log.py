@@ -2,6 +2,7 @@
 import json
 import pathlib
 import tempfile
+import time
 import unittest
 from collections.abc import Callable
 from unittest import mock
@@ -15,15 +16,40 @@ LINE = (b'{"time":"2026-11-25T18:03:12.042Z","service":"active","revision":2,"re
         b'"duration_ms":4.25,"upstream_ms":3}')
 
 
+LINES_A_SECOND = 20_000
+
+
 class Lines(unittest.TestCase):
     def test_every_value(self) -> None:
         wanted = Entry(1795629792.042, "active", 2, 17, 9201, "GET", "/a?<script>", 200, "answered", None, 78, 5, 4.25, 3)
         self.assertEqual(read_line(LINE), wanted)
         self.assertEqual(read_line(b'{"time": "2026-11-25T19:03:12+01:00", "lost": 12}'), Lost(1795629792.0, 12))
+        self.assertEqual(read_line(b'{"time": null, "lost": 12}'), Lost(None, 12))
+
+    def test_members_that_a_line_need_not_have(self) -> None:
+        wanted = read_line(LINE)
+        assert isinstance(wanted, Entry)
+        self.assertEqual((wanted.slot_port, wanted.tries), (None, None))
+        self.assertEqual(read_line(LINE[:-1] + b',"slot_port":9202,"tries":3}'), wanted._replace(slot_port=9202, tries=3))
+        self.assertEqual(read_line(LINE[:-1] + b',"slot_port":null,"tries":1}'), wanted._replace(tries=1))
+        for wrong in (b'"slot_port":"9202"', b'"slot_port":-1', b'"tries":1.5', b'"tries":true', b'"tries":1e400', b'"slot_port":[]'):
+            with self.subTest(member=wrong), self.assertRaises(NoEntry):
+                read_line(LINE[:-1] + b"," + wrong + b"}")
+
+    def test_a_refusal_without_an_endpoint(self) -> None:
+        told = [reason for reason, *_ in REFUSALS if refused(reason).is_without_endpoint]
+        self.assertEqual((told, ANSWERED.is_without_endpoint), (["no_endpoint"], False))
+
+    def test_it_keeps_up_with_20000_lines_a_second(self) -> None:
+        lines = [written(entry).rstrip(b"\n") for entry in entries([Part(1, LINES_A_SECOND // 2), Part(2, LINES_A_SECOND // 2, 0.01)])]
+        begun = time.process_time()
+        self.assertEqual(len(access_log.read_lines(lines).entries), LINES_A_SECOND)
+        self.assertLess(time.process_time() - begun, 1)
 
     def test_what_is_written_is_read(self) -> None:
         told = [ANSWERED, *(refused(reason) for reason, *_ in REFUSALS), ANSWERED._replace(target='"\\\n\u2028<'),
-                ANSWERED._replace(status=None, end="closed", request_bytes=None, response_bytes=None, upstream_ms=None)]
+                ANSWERED._replace(status=None, end="closed", request_bytes=None, response_bytes=None, upstream_ms=None),
+                Entry(BEGIN, "active", None, None, None, None, None, None, "closed", None, None, None, 0, None)]
         self.assertEqual([read_line(written(entry)) for entry in told], told)
         self.assertEqual(time_text(1795629792.042), "2026-11-25T18:03:12.042Z")
 

@@ -53,10 +53,10 @@ class Ask(unittest.TestCase):
         timer.join()
         later[0].close()
 
-    def test_a_line_is_not_sent_where_the_port_is_held(self) -> None:
+    def test_a_port_that_gives_no_answer(self) -> None:
         with FakePort(usual) as port, Connection(port.port, 5) as holder:
             self.assertEqual(holder.answer(b"tick 1"), ["ok 0"])
-            with self.assertRaisesRegex(Unreachable, "another connection holds it"):
+            with self.assertRaisesRegex(Unreachable, "gave no answer in time"):
                 ask(port.port, b"tick 2", 0.2)
             holder.close()
             self.assertEqual(ask(port.port, b"tick 3", 5), ["ok 0"])
@@ -92,6 +92,14 @@ class Lines(unittest.TestCase):
             for _ in range(3):
                 self.assertEqual(connection.order("tick 1"), "ok 0")
                 time.sleep(0.2)
+
+    def test_orders_of_this_user_are_not_taken(self) -> None:
+        for line in ("report", "abort", "quit"):
+            with FakePort(lambda line: ["refused NotAllowed"]) as port, self.assertRaisesRegex(Unreachable, "no orders of this user"):
+                ask(port.port, line.encode("ascii"), 5)
+        with FakePort(lambda line: ["refused NotAllowed"]) as port, Connection(port.port, 1) as connection:
+            with self.assertRaisesRegex(Unreachable, "no orders of this user"):
+                connection.quit()
 
     def test_the_switch_ends_the_connection(self) -> None:
         with FakePort(lambda line: ENDS) as port, Connection(port.port, 5) as connection:

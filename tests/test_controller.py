@@ -25,6 +25,7 @@ NAMES = ("web-v1", "web-v2", "web-v3")
 class Turns(unittest.TestCase):
     """A switch, two endpoints for each of three revisions, and a controller that takes twenty turns a second."""
     steps: Sequence[str] = ("pause",)
+    knows_down = False
 
     def setUp(self) -> None:
         self.stack = contextlib.ExitStack()
@@ -35,7 +36,7 @@ class Turns(unittest.TestCase):
         for pair in self.endpoints.values():
             for endpoint in pair:
                 self.stack.callback(endpoint.stop)
-        self.switch = FakeSwitch(*self.steps)
+        self.switch = FakeSwitch(*self.steps, knows_down=self.knows_down)
         self.stack.callback(self.switch.kill)
         self.plan = plan_of(self.folder, self.switch.port)
         self.out = io.StringIO()
@@ -53,6 +54,7 @@ class Turns(unittest.TestCase):
         runner = Runner(file, plan, Log(self.out, as_json))
         runner.thread.start()
         self.stack.callback(runner.stop)
+        self.runner = runner
         return runner
 
     def log(self) -> str:

@@ -29,6 +29,13 @@ MISSING = "python3-aiohttp and python3-prometheus-client are not installed: apt-
 HAS_LIBRARIES = (shutil.which(PYTHON) is not None
                  and subprocess.run([PYTHON, "-c", LIBRARIES], capture_output=True, check=False).returncode == 0)
 PAGE = TOP / "lib" / "bg_switch_tools" / "dashboard" / "page"
+# Metrics by their names, each with the one that it had before; counters without `_total`.
+OLD_NAMES = {
+    "bg_switch_rollout_info": "rollout_info", "bg_switch_rollout_events": "rollout_events",
+    "bg_switch_replicas_desired": "rollout_info_replicas_desired", "bg_switch_replicas_available": "rollout_info_replicas_available",
+    "bg_switch_replicas_unavailable": "rollout_info_replicas_unavailable", "bg_switch_http_requests": "nginx_http_requests",
+    "bg_switch_http_request_duration_seconds": "nginx_ingress_controller_request_duration_seconds",
+    "bg_switch_http_response_duration_seconds": "nginx_ingress_controller_response_duration_seconds"}
 NO_ORDERS = dict.fromkeys(("promote", "promote full", "abort", "retry"), False)
 HOSTILE = '/"><script>alert(1)</script><img src=x onerror=alert(2)>'
 
@@ -232,7 +239,9 @@ class Streams(unittest.TestCase):
             self.skipTest(MISSING)
         run = subprocess.run([PYTHON, "-B", "-m", "tests.streams_of_a_server", str(free_port())], cwd=TOP, capture_output=True,
                              text=True, timeout=WAIT, check=False, env={**os.environ, "PYTHONPATH": "lib:scripts"})
-        wanted = "orders in the state and the update: 1, 0\nstreams 0, connections 0\n"
+        wanted = ("orders in the state and the update: 1, 0\nstreams 0, connections 0\n"
+                  "faults 3, said 2, traces 2: the dashboard could not look at the switch: KeyError: 'planted'; some requests may not "
+                  "be counted\n")
         self.assertEqual((run.stdout, run.returncode), (wanted, 0), run.stderr)
 
 
@@ -244,28 +253,60 @@ class Metrics(Dashboard):
     def test_values(self) -> None:
         labels = '{revision="web-v2",service="active",status="5xx"}'
         self.log.add([*self.now([Part(2, 20, 1.0)]), refused("no_preview")._replace(time=time.time())])
-        self.assertTrue(comes(lambda: self.value(f"nginx_http_requests_total{labels}")))
-        self.assertEqual(self.value(f"nginx_http_requests_total{labels}"), 20)
-        self.assertEqual(self.value('nginx_http_requests_total{revision="none",service="active",status="5xx"}'), 1)
+        self.assertTrue(comes(lambda: self.value(f"bg_switch_http_requests_total{labels}")))
+        self.assertEqual(self.value(f"bg_switch_http_requests_total{labels}"), 20)
+        self.assertEqual(self.value('bg_switch_http_requests_total{revision="none",service="active",status="5xx"}'), 1)
         # these stood there before
-        self.assertIsNone(self.value('nginx_http_requests_total{revision="web-v1",service="active",status="2xx"}'))
-        self.assertEqual(self.value(f"nginx_ingress_controller_request_duration_seconds_count{labels}"), 20)
+        self.assertEqual(self.value('bg_switch_http_requests_total{revision="web-v1",service="active",status="2xx"}'), 0)
+        self.assertEqual(self.value(f"bg_switch_http_request_duration_seconds_count{labels}"), 20)
         for line, wanted in (('bg_switch_phase{phase="paused"}', 1), ('bg_switch_phase{phase="steady"}', 0), ("bg_switch_up", 1),
                              ('bg_switch_selected{revision="web-v2",service="preview"}', 1),
                              ('bg_switch_open_requests{revision="web-v1"}', 0),
-                             ('rollout_info{phase="Paused",strategy="blueGreen"}', 1),
-                             ('rollout_info_replicas_desired{revision="web-v2"}', 2),
-                             ('rollout_info_replicas_available{revision="web-v2"}', 2)):
+                             ('bg_switch_rollout_info{phase="Paused",strategy="blueGreen"}', 1),
+                             ('bg_switch_replicas_desired{revision="web-v2"}', 2),
+                             ('bg_switch_replicas_available{revision="web-v2"}', 2),
+                             ('bg_switch_service_without_endpoint{service="active"}', 0), ("bg_switch_dashboard_faults_total", 0)):
             self.assertEqual(self.value(line), wanted, line)
         self.by_hand("promote")
-        self.assertTrue(comes(lambda: self.value('rollout_events_total{reason="SwitchService"}') == 1))
+        self.assertTrue(comes(lambda: self.value('bg_switch_rollout_events_total{reason="SwitchService"}') == 1))
+
+    def test_old_names_have_the_same_values(self) -> None:
+        self.log.add(self.now([Part(2, 20, 0.5)]))
+        self.by_hand("abort")
+        self.assertTrue(comes(lambda: "bg_switch_http_requests_total{" in self.get("/metrics").body))
+        self.assertTrue(comes(lambda: "RolloutAborted" in self.get("/metrics").body))
+        lines = [line for line in self.get("/metrics").body.splitlines() if not line.startswith("#")]
+        for name, old in OLD_NAMES.items():
+            by_new = [line.removeprefix(name) for line in lines if re.match(rf"{name}(_total|_bucket|_sum|_count)?[{{ ]", line)]
+            by_old = [line.removeprefix(old) for line in lines if re.match(rf"{old}(_total|_bucket|_sum|_count)?[{{ ]", line)]
+            self.assertEqual((by_new, len(by_new) > 0), (by_old, True), name)
+        other = [line for line in lines if not line.startswith(("bg_switch_", *OLD_NAMES.values()))]
+        self.assertEqual(other, [])
+
+    def test_no_endpoint_is_up(self) -> None:
+        self.by_hand("available 1 0")
+        self.assertTrue(comes(lambda: self.value('bg_switch_service_without_endpoint{service="active"}') == 1))
+        self.assertEqual(self.value('bg_switch_service_without_endpoint{service="preview"}'), 0)
+        self.log.add([refused("no_endpoint")._replace(time=time.time())] * 3)
+        labels = '{revision="web-v1",service="active",status="5xx"}'
+        self.assertTrue(comes(lambda: self.value(f"bg_switch_http_requests_total{labels}") == 3))
+        self.assertIn("No endpoint of web-v1 is up.", self.get("/api/state").body)
+
+    def test_requests_that_were_sent_to_another_endpoint(self) -> None:
+        self.log.add([each._replace(port=9202, slot_port=9201, tries=3) for each in self.now([Part(2, 4)])])
+        labels = '{revision="web-v2",service="active",status="2xx"}'
+        self.assertTrue(comes(lambda: self.value(f"bg_switch_redispatched_requests_total{labels}") == 4))
+        self.assertEqual(self.value(f"bg_switch_connect_retries_total{labels}"), 8)
+        recent = self.state()["recent"]
+        assert isinstance(recent, dict)
+        self.assertEqual([each["port"] for each in recent["web-v2"]["ports"]], [9202])
 
     def test_promtool(self) -> None:
         promtool = shutil.which("promtool")
         if promtool is None:
             self.skipTest("promtool is not installed: apt-get install prometheus to run this test")
         self.log.add(self.now([Part(1, 20), Part(2, 20, 0.5)]))
-        self.assertTrue(comes(lambda: "nginx_http_requests_total{" in self.get("/metrics").body))
+        self.assertTrue(comes(lambda: "bg_switch_http_requests_total{" in self.get("/metrics").body))
         self.by_hand("abort")
         self.assertTrue(comes(lambda: "RolloutAborted" in self.get("/metrics").body))
         run = subprocess.run([promtool, "check", "metrics"], input=self.get("/metrics").body, capture_output=True, text=True,
@@ -333,7 +374,7 @@ class Started(Dashboard):
     def test_a_port_that_is_taken(self) -> None:
         words = [str(TOOLS / "dashboard"), str(self.switch.port), "--listen", str(self.port)]
         run = subprocess.run(words, capture_output=True, text=True, timeout=WAIT, check=False)
-        self.assertEqual((run.returncode, f"port {self.port} can't be had" in run.stderr), (1, True), run.stderr)
+        self.assertEqual((run.returncode, run.stderr), (1, f"dashboard: port {self.port} can't be had: Address already in use\n"))
 
     def test_as_one_file(self) -> None:
         self.end()

@@ -6,6 +6,7 @@ from unittest import mock
 
 from bg_switch_tools.access_log import Batch
 from bg_switch_tools.dashboard import totals, traffic
+from bg_switch_tools.dashboard.alarms import without_endpoint
 from bg_switch_tools.dashboard.board import MOST_HAPPENED, Board
 from bg_switch_tools.dashboard.guard import fault_of, is_token
 from bg_switch_tools.dashboard.orders import Moved, Order, WrongOrder, carry_out, read_order
@@ -83,6 +84,14 @@ class Slots(unittest.TestCase):
         self.assertEqual((recent["requests_per_second"], recent["errors"]), (round(4 / traffic.RECENT, 1), 0.5))
         self.assertLess(abs(recent["p99"] / 8 - 1), 0.06)
 
+    def test_the_last_seconds_of_each_endpoint(self) -> None:
+        told = Traffic()
+        for port, status in ((9102, 200), (9101, 200), (9102, None), (9102, 503), (9102, 404), (None, 502)):
+            told.add(ANSWERED._replace(time=BEGIN - 1, port=port, status=status), "a")
+        self.assertEqual(told.recent(BEGIN)["a"]["ports"], [
+            {"port": 9101, "requests_per_second": round(1 / traffic.RECENT, 1), "errors": 0.0},
+            {"port": 9102, "requests_per_second": round(4 / traffic.RECENT, 1), "errors": 0.5}])
+
 
 class Counted(unittest.TestCase):
     def test_requests_and_durations(self) -> None:
@@ -91,20 +100,32 @@ class Counted(unittest.TestCase):
             counted.add(ANSWERED._replace(duration_ms=milliseconds, upstream_ms=None), "a")
         counted.add(refused("no_preview"), "")
         labels = Labels("active", "a", "2xx")
-        self.assertEqual(counted.requests, {labels: 4, Labels("active", "none", "5xx"): 1})
-        tally = counted.durations[labels]
+        self.assertEqual({each: found.requests for each, found in counted.items()}, {labels: 4, Labels("active", "none", "5xx"): 1})
+        tally = counted.counted[labels].durations
         self.assertEqual((tally.buckets()[0], tally.buckets()[2], tally.buckets()[-2:]),
                          (("0.001", 2.0), ("0.005", 3.0), [("60.0", 3.0), ("+Inf", 4.0)]))
         self.assertAlmostEqual(tally.sum, 99.0045)
-        self.assertEqual((len(counted.upstream), Tally().buckets()[-1]), (0, ("+Inf", 0.0)))
+        self.assertEqual((counted.counted[labels].upstream.is_empty, tally.is_empty, Tally().buckets()[-1]), (True, False, ("+Inf", 0.0)))
+
+    def test_each_end_of_a_bucket_belongs_to_it(self) -> None:
+        for place, end in enumerate(totals.BUCKETS):
+            tally = Tally()
+            tally.add(end * 1000)
+            self.assertEqual(tally.counts.index(1), place, end)
+
+    def test_other_endpoints_and_retries(self) -> None:
+        counted = Totals()
+        for slot_port, tries in ((None, None), (None, 1), (9101, 2), (9101, 4), (None, 2)):
+            counted.add(ANSWERED._replace(port=9102, slot_port=slot_port, tries=tries), "a")
+        found = counted.counted[Labels("active", "a", "2xx")]
+        self.assertEqual((found.requests, found.redispatched, found.retries), (5, 2, 5))
 
     def test_names_that_are_too_old_are_dropped(self) -> None:
         counted = Totals()
         with mock.patch.object(totals, "MOST_REVISIONS", 2):
             for name in ("a", "b", "a", "c"):
                 counted.add(ANSWERED, name)
-        for told in (set(counted.requests), set(counted.durations), set(counted.upstream), set(counted.bytes)):
-            self.assertEqual(sorted(labels.revision for labels in told), ["b", "c"])
+        self.assertEqual(sorted(labels.revision for labels in counted.counted), ["b", "c"])
 
     def test_events(self) -> None:
         told = reports(*PAUSED, "promote", "verdict post failed", "retry", "promote", "verdict post successful")
@@ -225,9 +246,16 @@ class Boards(unittest.TestCase):
         self.board.take_batch(Batch([], 0, 0), "")
         self.assertEqual(self.texts("log")[1:], ["the log /log can't be read: gone", "the log /log is read"])
 
+    def test_it_keeps_up_with_20000_lines_a_second(self) -> None:
+        told = Batch(list(entries([Part(1, 10000), Part(2, 10000, 0.01)], time.time() - 1, 1.0)), 0, 0)
+        begun = time.process_time()
+        self.board.take_batch(told, "")
+        self.board.update()
+        self.assertLess(time.process_time() - begun, 1)
+
     def test_what_stood_in_the_log_is_not_counted(self) -> None:
         self.board.take_batch(Batch([ANSWERED], 0, 0), "", is_counted=False)
-        self.assertEqual((len(self.board.traffic.slots), self.board.totals.requests.total()), (1, 0))
+        self.assertEqual((len(self.board.traffic.slots), len(self.board.totals.counted)), (1, 0))
 
     def test_no_list_grows_without_end(self) -> None:
         for _ in range(300):
@@ -235,6 +263,80 @@ class Boards(unittest.TestCase):
             self.board.take_batch(Batch([refused("connect_failed")] * 30, 0, 0), "")
         self.assertEqual((len(self.board.happened), len(self.board.failed)), (MOST_HAPPENED, 50))
         self.assertEqual(self.texts()[-1], "promote => refused NotPaused: the rollout is not paused")
+
+
+class Alarmed(unittest.TestCase):
+    """A board whose active service selects a revision without an endpoint."""
+
+    def setUp(self) -> None:
+        self.board = Board(8082, "/log", False)
+
+    def take(self, *lines: str) -> None:
+        self.board.take_report(reports(*lines)[-1])
+
+    def counted(self) -> dict[str, int]:
+        """How many requests were counted by each revision that had some."""
+        return {labels.revision: each.requests for labels, each in self.board.totals.items() if each.requests}
+
+    def said(self, kind: str) -> list[str]:
+        return [each["text"] for each in self.board.happened if each["kind"] == kind]
+
+    def test_no_endpoint_is_up(self) -> None:
+        self.take(*OPENED)
+        self.assertEqual(self.board.head()["alarms"], [])
+        for _ in range(2):
+            self.take(*OPENED, "available 1 0")
+        text = "No endpoint of web-v1 is up. The active service selects web-v1, so each request is answered 503."
+        self.assertEqual(self.board.head()["alarms"], [{"service": "active", "revision": "web-v1", "text": text}])
+        self.assertEqual((self.said("alarm"), self.board.happened[-1]["mark"]), ([text], "no endpoint"))
+        self.take(*OPENED)
+        self.assertEqual((self.board.head()["alarms"], self.said("answer")[-1]), ([], "an endpoint of web-v1 is up again: 2 of 2"))
+
+    def test_a_preview_without_an_endpoint_is_no_alarm(self) -> None:
+        self.take(*OPENED, "deploy web-v2 3 4")
+        assert self.board.report is not None
+        self.assertEqual((without_endpoint(self.board.report), self.board.head()["alarms"]), ({"active": False, "preview": True}, []))
+
+    def test_an_alarm_is_none_while_the_switch_gives_no_answer(self) -> None:
+        self.take("open web-v1 1 2")
+        self.assertEqual(len(self.said("alarm")), 1)
+        self.board.take_silence("gone")
+        self.assertEqual(self.board.head()["alarms"], [])
+
+    def test_requests_without_an_endpoint_are_errors_of_the_selected_revision(self) -> None:
+        now = [refused("no_endpoint")._replace(time=time.time() - 3)] * 4
+        self.take(*OPENED)
+        self.board.take_batch(Batch(now, 0, 0), "")  # one report alone does not tell what was selected before it
+        self.take(*OPENED, "available 1 0")
+        self.board.take_batch(Batch(now, 0, 0), "")
+        self.board.take_batch(Batch(now, 0, 0), "", is_counted=False)
+        recent = self.board.traffic.recent(time.time())
+        self.assertEqual({name: each["errors"] for name, each in recent.items()}, {"": 1.0, "web-v1": 1.0})
+        self.assertEqual(self.counted(), {"none": 4, "web-v1": 4})
+        self.assertEqual([each["revision"] for each in self.board.failed], [""] * 4 + ["web-v1"] * 4 + [""] * 4)
+
+    def test_a_service_that_moves(self) -> None:
+        """A request without an endpoint that came meanwhile is no revision's."""
+        self.take(*PAUSED)
+        self.take(*PAUSED, "promote")
+        self.board.take_batch(Batch([refused("no_endpoint")], 0, 0), "")
+        self.assertEqual(self.counted(), {"none": 1})
+
+    def test_counters_begin_at_0_before_the_first_request(self) -> None:
+        self.take(*PAUSED)
+        self.assertEqual({(labels.service, labels.revision) for labels in self.board.totals.counted},
+                         {("active", "web-v1"), ("preview", "web-v2")})
+        self.assertEqual({labels.status for labels in self.board.totals.counted}, set(traffic.CLASSES))
+        self.assertEqual({each.requests for each in self.board.totals.counted.values()}, {0})
+        self.board.take_batch(Batch([ANSWERED], 0, 0), "")
+        self.take(*PAUSED)
+        self.assertEqual(self.counted(), {"web-v1": 1})
+
+    def test_faults_of_its_own(self) -> None:
+        self.assertEqual([self.board.take_fault(fault) for fault in ("", "a", "a", "b", "", "")],
+                         [False, True, False, True, True, False])
+        self.assertEqual((len(self.said("fault")), self.said("answer"), self.board.own_faults),
+                         (2, ["the dashboard looks at the switch again"], 3))
 
 
 class Guarded(unittest.TestCase):

@@ -1,59 +1,62 @@
 """The files around the tools: the pipeline, the example's plan, and the tools as one file."""
+import contextlib
 import os
 import pathlib
 import subprocess
 import tempfile
-import threading
 import unittest
 import zipapp
 
 from bg_switch_tools.plan_reading import read_plan
 from tests.fake_switch import FakeSwitch
-from tests.scenes import TOP, WAIT, comes
+from tests.scenes import TOP, WAIT, Endpoint, comes, controlling, plan_of
 
 RELEASE = TOP / "examples" / "ci" / "release.sh"
 MOST_LINES = 15
 
 
 class Pipeline(unittest.TestCase):
-    def setUp(self) -> None:
-        self.switch = FakeSwitch("pause", "post")
-        self.addCleanup(self.switch.kill)
-        self.by_hand("open web-v1 1 2", "available 1 2")
+    """A job and a controller, which work by one plan."""
 
-    def by_hand(self, *lines: str) -> None:
-        for line in lines:
-            self.switch.book.answer(line)
+    def setUp(self) -> None:
+        self.stack = contextlib.ExitStack()
+        self.addCleanup(self.stack.close)
+        folder = self.stack.enter_context(tempfile.TemporaryDirectory())
+        self.switch = FakeSwitch("pause", "post")
+        self.stack.callback(self.switch.kill)
+        self.plan = plan_of(folder, self.switch.port)
+        self.ports = []
+        for _ in range(4):
+            endpoint = Endpoint()
+            self.stack.callback(endpoint.stop)
+            self.ports.append(endpoint.port)
+
+    def begin(self, status: int) -> None:
+        """Starts a controller, whose analysis ends with this status."""
+        self.plan.write([("web-v1", self.ports[:2])], analyses={"post": ["sh", "-c", f"exit {status}"]})
+        self.stack.enter_context(controlling(self.plan))
+        self.assertTrue(comes(lambda: "available 1 2" in self.switch.lines))
 
     def release(self) -> "subprocess.CompletedProcess[str]":
-        words = [str(RELEASE), str(self.switch.port), "web-v2", "3", "4"]
+        words = [str(RELEASE), str(self.switch.port), self.plan.path, "web-v2", *map(str, self.ports[2:])]
         return subprocess.run(words, capture_output=True, text=True, timeout=WAIT, check=False)
-
-    def as_controller(self, verdict: str) -> threading.Thread:
-        """Does what a controller does: endpoints come up, and the analysis after the switch ends."""
-        def act() -> None:
-            comes(lambda: self.switch.book.phase == "scaling")
-            self.by_hand("available 2 2")
-            comes(lambda: self.switch.book.phase == "postAnalysis")
-            self.by_hand(f"verdict post {verdict}")
-        thread = threading.Thread(target=act, daemon=True)
-        thread.start()
-        return thread
 
     def test_it_is_short(self) -> None:
         self.assertLessEqual(len(RELEASE.read_text(encoding="ascii").splitlines()), MOST_LINES)
 
     def test_a_release(self) -> None:
-        controller = self.as_controller("successful")
+        """The revision stands in the plan, so the controller probes its endpoints, and keeps its name over a crash."""
+        self.begin(0)
         told = self.release()
-        controller.join(WAIT)
         self.assertEqual(told.returncode, 0, told.stderr)
-        self.assertEqual(self.switch.orders(), ["deploy web-v2 3 4", "promote"])
+        self.assertEqual(self.switch.orders()[2:], [f"deploy web-v2 {self.ports[2]} {self.ports[3]}", "available 2 2", "promote",
+                                                    "verdict post successful"])
+        self.assertEqual([revision.name for revision in read_plan(pathlib.Path(self.plan.path).read_bytes()).revisions], ["web-v1", "web-v2"])
         again = self.release()
-        self.assertEqual((again.returncode, "revision 2 web-v2 is stable already" in again.stderr), (0, True), again.stderr)
+        self.assertEqual((again.returncode, "web-v2 is the last revision of" in again.stdout), (0, True), again.stderr)
 
     def test_one_that_fails(self) -> None:
-        self.as_controller("failed")
+        self.begin(1)
         told = self.release()
         self.assertEqual(told.returncode, 1)
         self.assertIn("stable=web-v2 can't come without a new order: the attempt of web-v2 was aborted", told.stderr)

@@ -1,17 +1,28 @@
 """A plan is judged as a whole, with the place of each problem."""
+import contextlib
+import importlib
+import io
 import json
+import os
+import pathlib
+import tempfile
 import time
 import unittest
+from unittest import mock
 
-from bg_switch_tools.plan import Health, PlannedRevision, Progress
+from bg_switch_tools import controller_command, plan_text
+from bg_switch_tools.plan import Commands, Health, PlannedRevision, Progress
+from bg_switch_tools.plan_edit import deploy_by_plan
 from bg_switch_tools.plan_file import PlanFile
+from bg_switch_tools.plan_limits import missing_commands
 from bg_switch_tools.plan_reading import WrongPlan, read_plan
 
 GOOD: dict[str, object] = {
     "control": 8082,
     "health": {"path": "/up?deep=1", "interval": 0.5, "timeout": 1, "failures": 3},
     "analyses": {"pre": ["./smoke_test.sh", "8081"], "seconds": 60},
-    "progress": {"seconds": 30, "abort": True},
+    "progress": {"seconds": 30, "abort": True, "outage": 3}, "redispatch": False, "active": 8080, "preview": 8081,
+    "start": ["systemctl", "start", "web@{port}"], "stop": ["true"], "notify": ["./tell"], "timeout": 20,
     "revisions": [{"name": "web-v1", "ports": [9101, 9102]}, {"name": "web-v2", "ports": [9201, 9202]}]}
 
 
@@ -40,7 +51,9 @@ def with_revision(name: object = "web-v2", ports: object = (1, 2)) -> object:
 class Good(unittest.TestCase):
     def test_every_value(self) -> None:
         plan = read_plan(json.dumps(GOOD).encode())
-        self.assertEqual((plan.control, plan.health, plan.progress), (8082, Health("/up?deep=1", 0.5, 1, 3), Progress(30, True)))
+        self.assertEqual((plan.control, plan.health, plan.progress), (8082, Health("/up?deep=1", 0.5, 1, 3), Progress(30, True, 3)))
+        self.assertEqual((plan.commands, plan.redispatch, plan.services),
+                         (Commands(("systemctl", "start", "web@{port}"), ("true",), ("./tell",), 20), False, {"active": 8080, "preview": 8081}))
         self.assertEqual((plan.analyses.commands, plan.analyses.seconds), ({"pre": ("./smoke_test.sh", "8081")}, 60))
         self.assertEqual((plan.first, plan.last), (PlannedRevision("web-v1", (9101, 9102)), PlannedRevision("web-v2", (9201, 9202))))
         self.assertEqual(plan.last.words, "web-v2 9201 9202")
@@ -48,7 +61,8 @@ class Good(unittest.TestCase):
 
     def test_what_is_left_out(self) -> None:
         plan = read_plan(b'{"control": 1, "revisions": [{"name": "a", "ports": [65535]}]}')
-        self.assertEqual((plan.health, plan.progress), (Health("/", 2, 2, 2), Progress(600, False)))
+        self.assertEqual((plan.health, plan.progress), (Health("/", 2, 2, 2), Progress(600, False, 5)))
+        self.assertEqual((plan.commands, plan.redispatch, plan.services), (Commands((), (), (), 60), True, {}))
         self.assertEqual((plan.analyses.commands, plan.analyses.seconds), ({}, 600))
         self.assertIs(plan.first, plan.last)
 
@@ -150,6 +164,149 @@ class Judged(unittest.TestCase):
         for wrong in ({"x\ny": 1}, with_keys(control="a\nb"), with_revision(name="x" * 100000), {"\u2028" * 9999: 1}):
             for problem in problems(wrong):
                 self.assertTrue(problem.isprintable() and len(problem) < 400, problem)
+
+
+def with_post(*words: str, seconds: float = 60) -> dict[str, object]:
+    """The good plan with this analysis after the switch."""
+    return with_keys(analyses={"post": list(words), "seconds": seconds})
+
+
+class Contradictions(unittest.TestCase):
+    """Plans that `check` took, and that could not work."""
+
+    def test_two_revisions_with_one_port(self) -> None:
+        self.assertEqual(problems(with_revision(ports=[9103, 9101])),
+                         ["revisions[1].ports[1]: 9101 stands at revisions[0].ports[0] already: an endpoint serves one revision"])
+
+    def test_a_port_of_the_switch_itself(self) -> None:
+        for port, key in ((8080, "active"), (8081, "preview"), (8082, "control")):
+            self.assertEqual(problems(with_revision(ports=[9201, port])),
+                             [f"revisions[1].ports[1]: {port} is a port of the switch itself, as {key} says"])
+        self.assertEqual(problems(with_keys(active=8082)), ["active: 8082 stands at control already"])
+
+    def test_limits_that_no_analysis_can_keep(self) -> None:
+        tool = ("/usr/local/bin/bg_switch_tools.pyz", "analysis", "--log", "x", "--errors-at-most", "1%")
+        self.assertEqual(problems(with_post(*tool, "--seconds", "60")), [
+            "analyses.post: --seconds 60 is not below analyses.seconds, 60: the analysis would be stopped before its end"])
+        self.assertEqual(problems(with_post("bin/analysis", "--seconds=9", "--every", "10")),
+                         ["analyses.post: --every 10 is above --seconds 9: nothing is measured before the end"])
+        self.assertEqual(problems(with_post(*tool, "--seconds", "59", "--every", "59")), [])
+        self.assertEqual(problems(with_post("./smoke.sh", "--seconds", "600")), [], "another program")
+
+    def test_commands_that_are_not_there(self) -> None:
+        with tempfile.TemporaryDirectory() as folder:
+            script = pathlib.Path(folder, "smoke_test.sh")
+            told = with_keys(analyses={"pre": ["./smoke_test.sh"], "post": ["no-such-program-anywhere"]}, start=["/no/such"],
+                             stop=["sh", "-c", "x"], notify=["./{revision}"])
+            plan = read_plan(json.dumps(told).encode())
+            wanted = {"analyses.pre[0]: there is no program ./smoke_test.sh that can be run",
+                      "analyses.post[0]: there is no program no-such-program-anywhere that can be run",
+                      "start[0]: there is no program /no/such that can be run"}
+            self.assertEqual(set(missing_commands(plan, folder)), wanted)
+            path = os.path.join(folder, "plan.json")
+            pathlib.Path(path).write_text(json.dumps(told), encoding="ascii")
+            with contextlib.redirect_stdout(io.StringIO()) as printed:
+                self.assertEqual(controller_command.main(["check", path]), 1)
+            self.assertEqual(set(printed.getvalue().splitlines()), wanted)
+            script.touch()
+            self.assertEqual(set(missing_commands(plan, folder)), wanted, "it is no program yet")
+            script.chmod(0o755)
+            self.assertEqual(len(missing_commands(plan, folder)), 2)
+
+
+YAML = b"""# a plan
+control: 8082
+health: {path: /up, interval: 0.5}
+revisions:
+- name: web-v1
+  ports: [9101, 9102]
+- {name: "web-v2", ports: [9201, 9202]}
+"""
+
+
+def problem(text: bytes) -> str:
+    """What is wrong with a plan of this text."""
+    try:
+        read_plan(text)
+        return ""
+    except WrongPlan as wrong:
+        return "; ".join(wrong.problems)
+
+
+class Yaml(unittest.TestCase):
+    def setUp(self) -> None:
+        if plan_text._yaml() is None:
+            self.skipTest("python3-yaml is not installed")
+
+    def test_a_plan_in_yaml(self) -> None:
+        plan = read_plan(YAML)
+        self.assertEqual((plan.control, plan.health.interval, [revision.words for revision in plan.revisions]),
+                         (8082, 0.5, ["web-v1 9101 9102", "web-v2 9201 9202"]))
+
+    def test_what_is_wrong_is_named_as_in_json(self) -> None:
+        self.assertEqual(problem(YAML.replace(b"9102", b"70000")), "revisions[0].ports[1]: 70000 is above 65535")
+        self.assertEqual(problem(YAML + b"control: 1\n"), "control: stands there more than once")
+        self.assertEqual(problem(b"control: x: y"), "it is neither JSON nor YAML: mapping values are not allowed here in line 1")
+        self.assertIn("a value that JSON does not have, of the type tag:yaml.org,2002:timestamp", problem(YAML + b"x: 2026-11-26\n"))
+        self.assertIn("a value that JSON does not have", problem(b"x: !!python/object/apply:os.system [ls]"))
+        self.assertIn("a key that is no text", problem(YAML + b"7: x\n"))
+
+    def test_no_text_grows(self) -> None:
+        bomb = b"a: &a [x]\n" + b"".join(b"%c: &%c [*%c, *%c]\n" % (c + 1, c + 1, c, c) for c in range(97, 121))
+        self.assertIn("it has an alias", problem(bomb))
+        self.assertIn("nested", problem(b"a: " + b"[" * 300 + b"]" * 300))
+
+    def test_without_the_library(self) -> None:
+        with mock.patch.object(importlib, "import_module", side_effect=ImportError):
+            self.assertIn("; YAML is read only where python3-yaml is installed", problem(YAML))
+            self.assertEqual(problem(json.dumps(GOOD).encode()), "")
+
+
+class Edits(unittest.TestCase):
+    def setUp(self) -> None:
+        folder = tempfile.TemporaryDirectory()
+        self.addCleanup(folder.cleanup)
+        self.path = os.path.join(folder.name, "plan.json")
+        pathlib.Path(self.path).write_text(json.dumps(GOOD), encoding="ascii")
+
+    def plan(self) -> list[str]:
+        return [revision.words for revision in read_plan(pathlib.Path(self.path).read_bytes()).revisions]
+
+    def test_a_deploy(self) -> None:
+        self.assertEqual(deploy_by_plan(self.path, "web-v3", [1, 2]), f"web-v3 is the last revision of {self.path}")
+        self.assertEqual(self.plan(), ["web-v1 9101 9102", "web-v2 9201 9202", "web-v3 1 2"])
+        deploy_by_plan(self.path, "web-v1", [9101, 9102])
+        self.assertEqual(self.plan(), ["web-v2 9201 9202", "web-v3 1 2", "web-v1 9101 9102"])
+        self.assertIn("already", deploy_by_plan(self.path, "web-v1", [9101, 9102]))
+        self.assertEqual(read_plan(pathlib.Path(self.path).read_bytes()).health, Health("/up?deep=1", 0.5, 1, 3))
+
+    def test_what_is_refused_changes_nothing(self) -> None:
+        before = pathlib.Path(self.path).read_bytes()
+        for name, ports in (("web-v3", [9101, 2]), ("Web", [1, 2]), ("web-v3", [1]), ("web-v3", [0, 1])):
+            with self.subTest(name=name, ports=ports), self.assertRaises(WrongPlan):
+                deploy_by_plan(self.path, name, ports)
+        self.assertEqual(pathlib.Path(self.path).read_bytes(), before)
+
+    def test_what_is_wrong_is_told(self) -> None:
+        with contextlib.redirect_stderr(io.StringIO()) as told:
+            self.assertEqual(controller_command.main(["deploy", self.path, "web-v3", "9101", "x"]), 1)
+        self.assertEqual(told.getvalue().splitlines(), [
+            f"controller: {self.path} stays as it is, since with web-v3 it would be no plan:", "  revisions[2].ports[1]: 0 is below 1",
+            "  revisions[2].ports[0]: 9101 stands at revisions[0].ports[0] already: an endpoint serves one revision"])
+
+    def test_comments_of_yaml_are_not_lost(self) -> None:
+        if plan_text._yaml() is None:
+            self.skipTest("python3-yaml is not installed")
+        pathlib.Path(self.path).write_bytes(YAML)
+        with self.assertRaisesRegex(WrongPlan, "it is YAML, whose comments this edit would lose"):
+            deploy_by_plan(self.path, "web-v3", [1, 2])
+        self.assertEqual(pathlib.Path(self.path).read_bytes(), YAML)
+
+    def test_the_oldest_goes_where_there_are_too_many(self) -> None:
+        revisions = [{"name": f"web-v{number}", "ports": [2 * number, 2 * number + 1]} for number in range(1, 65)]
+        pathlib.Path(self.path).write_text(json.dumps(with_keys(revisions=revisions)), encoding="ascii")
+        deploy_by_plan(self.path, "web-v65", [3001, 3002])
+        self.assertEqual((len(self.plan()), self.plan()[0], self.plan()[-1]), (64, "web-v2 4 5", "web-v65 3001 3002"))
 
 
 if __name__ == "__main__":

@@ -2,6 +2,7 @@
 import asyncio
 import time
 import unittest
+from unittest import mock
 
 from bg_switch_tools.plan import Health
 from bg_switch_tools.probes import Probes, is_up
@@ -96,6 +97,38 @@ class Together(unittest.TestCase):
         for up, wanted in ((True, 1), (False, 1), (False, 0), (True, 1), (None, 1), (False, 1), (True, 1), (False, 1)):
             probes._take_in(7, up)
             self.assertEqual(probes.first_up([7]), wanted)
+
+    def test_those_that_are_up_are_counted_wherever_they_stand(self) -> None:
+        probes = Probes()
+        for port, up in ((1, False), (2, True), (3, True), (4, False)):
+            probes._take_in(port, up)
+        self.assertEqual((probes.first_up([1, 2, 3, 4]), probes.count_up([1, 2, 3, 4]), probes.count_up([2, 3])), (0, 2, 2))
+        self.assertEqual([probes.is_down(port) for port in range(1, 6)], [True, False, False, True, None])
+        self.assertIsNone(probes.count_up([2, 5]))
+
+    def test_an_outage_counts_from_the_first_failure_of_the_last_endpoint(self) -> None:
+        probes = Probes()
+        with mock.patch("bg_switch_tools.probes.time.monotonic") as clock:
+            for now, port, up in ((10.0, 1, True), (10.0, 2, True), (11.0, 1, False), (13.0, 1, False), (14.0, 2, False)):
+                clock.return_value = now
+                probes._take_in(port, up)
+                self.assertEqual(probes.outage([1, 2]), 0.0)
+            clock.return_value = 16.0
+            probes._take_in(2, False)
+            self.assertEqual((probes.outage([1, 2]), probes.outage([1]), probes.outage([])), (2.0, 5.0, 0.0))
+            probes._take_in(1, True)
+            self.assertEqual((probes.outage([1, 2]), probes.outage([2])), (0.0, 2.0))
+
+    def test_what_was_asked_before_it_was_forgotten_says_nothing(self) -> None:
+        """The endpoint answers a probe, and is stopped before the answer has come."""
+        probes, endpoint = Probes(), Endpoint()
+        self.addCleanup(endpoint.stop)
+        endpoint.pieces, endpoint.pause = (b"HTTP/1.1 200 OK\r\nContent-Length: 2\r\n\r\n", b"ok"), 0.5
+        probes.watch([endpoint.port], Health("/", 60, 5, 2))
+        time.sleep(0.2)
+        probes.forget(endpoint.port)
+        time.sleep(0.8)
+        self.assertIsNone(probes.is_down(endpoint.port))
 
 
 if __name__ == "__main__":

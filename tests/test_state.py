@@ -4,16 +4,19 @@ import io
 import os
 import pathlib
 import tempfile
+import time
 import unittest
 
 from bg_switch_tools.log import Log
 from bg_switch_tools.memory import Memory
 from bg_switch_tools.plan import Analyses, Health, Plan, PlannedRevision, Progress
-from bg_switch_tools.state import NoState, State, StateFile, read_state, written
+from bg_switch_tools.process_groups import ProcessId
+from bg_switch_tools.state import IsLocked, NoState, State, StateFile, StateLock, read_state, written
 
 V1, V2, V3 = (PlannedRevision(f"web-v{number}", (9000 + number, 9100 + number)) for number in (1, 2, 3))
 PLAN = Plan(8082, Health(), Analyses({}), Progress(), (V1, V2, V3))
-STATE = State(5000, V2, V3, V3)
+BEGUN = int(time.time()) - 5000  # when the moment was 0
+STATE = State(5000, V2, V3, V3, BEGUN, ProcessId(700, 12345), (V2, V3), (ProcessId(701, 7),), (8082, 8182))
 
 
 class Texts(unittest.TestCase):
@@ -29,10 +32,15 @@ class Texts(unittest.TestCase):
 
     def test_what_is_no_state(self) -> None:
         text = written(STATE).decode()
-        for wrong in ("[]", "{}", text.replace("web-v2", "web-v2\\nabort"), text.replace("9002", "70000"), text.replace("5000", "-1"),
-                      text.replace("moment", "time"), text.replace("5000", "1.5"), text.replace('"web-v2"', "null")):
+        for wrong in ("[]", "{}", text.replace("web-v2", "web-v2\\nabort"), text.replace("9002", "70000"), text.replace('"moment": 5000', '"moment": -1'),
+                      text.replace("moment", "time"), text.replace('"moment": 5000', '"moment": 1.5'), text.replace('"web-v2"', "null"),
+                      text.replace("700", "1"), text.replace("700", "-7"), text.replace("12345", '"x"'), text.replace("pid", "process")):
             with self.subTest(text=wrong), self.assertRaises(NoState):
                 read_state(wrong.encode())
+
+    def test_a_file_of_an_earlier_controller(self) -> None:
+        text = b'{"moment": 7, "stable": null, "deployed": null, "attempt": null}'
+        self.assertEqual(read_state(text), State(7))
 
 
 class Files(unittest.TestCase):
@@ -45,6 +53,10 @@ class Files(unittest.TestCase):
 
     def memory(self, plan: Plan = PLAN) -> Memory:
         return Memory(self.plan, plan, Log(self.out, False))
+
+    @staticmethod
+    def without_since(memory: Memory) -> State:
+        return dataclasses.replace(memory.state, since=0)
 
     def cut(self, path: str) -> None:
         text = pathlib.Path(path).read_bytes()
@@ -59,7 +71,7 @@ class Files(unittest.TestCase):
 
     def test_a_file_that_is_not_there(self) -> None:
         memory = self.memory()
-        self.assertEqual((memory.state, memory.is_fresh), (State(), True))
+        self.assertEqual((self.without_since(memory), memory.is_fresh), (State(), True))
         self.assertIn("since there is none; a switch without a book will be opened with web-v1, the plan's first revision",
                       self.out.getvalue())
 
@@ -79,13 +91,13 @@ class Files(unittest.TestCase):
         self.file.write(STATE)
         self.cut(self.file.path)
         self.cut(self.file.copy)
-        self.assertEqual(self.memory().state, State())
-        self.assertIn("since it is cut, or no state file; a switch without a book will be opened with web-v1", self.out.getvalue())
+        self.assertEqual(self.without_since(self.memory()), State())
+        self.assertIn("since it is cut; a switch without a book will be opened with web-v1", self.out.getvalue())
 
     def test_a_file_of_another_plan(self) -> None:
         self.file.write(STATE)
         other = dataclasses.replace(PLAN, revisions=(PlannedRevision("media-v1", (1, 2)), PlannedRevision("media-v2", (3, 4))))
-        self.assertEqual(self.memory(other).state, State())
+        self.assertEqual(self.without_since(self.memory(other)), State())
         self.assertIn("since it is of another plan", self.out.getvalue())
 
     def test_a_plan_that_names_the_stable_revision_no_longer(self) -> None:
@@ -110,7 +122,51 @@ class Files(unittest.TestCase):
         os.mkdir(os.path.dirname(self.plan))
         memory.set_deployed(V3)
         self.assertIn("the state is kept again in", self.out.getvalue())
-        self.assertEqual(self.file.read()[0], State(0, None, V3, None))
+        self.assertEqual(dataclasses.replace(self.file.read()[0], since=0), State(0, None, V3, None))
+
+    def test_a_file_that_is_missing_beside_a_good_copy(self) -> None:
+        self.file.write(STATE)
+        os.remove(self.file.path)
+        memory = self.memory()
+        self.assertEqual((memory.state, memory.is_fresh), (STATE, False))
+        self.assertIn("plan.json.state is not there, so its copy is used", self.out.getvalue())
+
+    def test_only_a_file_that_is_cut_is_called_cut(self) -> None:
+        self.file.write(STATE)
+        for text, wanted in ((None, "can't be read: Is a directory"), (b"[7]", "is no state file: it has no object"),
+                             (b'{"moment": "x"}', "is no state file: stable: is missing"), (b"moment: 7\n", "is no state file: Expecting value"),
+                             (b"", "is empty")):
+            with self.subTest(wanted=wanted):
+                path = pathlib.Path(self.file.path)
+                path.unlink()
+                path.mkdir() if text is None else path.write_bytes(text)
+                self.assertEqual(self.memory().state, STATE)
+                self.assertIn(wanted, self.out.getvalue())
+                self.assertNotIn("is cut", self.out.getvalue())
+                if text is None:
+                    path.rmdir()
+                    path.touch()
+
+    def test_a_moment_that_the_clock_does_not_let_be_true(self) -> None:
+        """A damaged file would end the ticks of a healthy switch for ever: no moment comes after the greatest one."""
+        for moment in (1 << 53, 5000 + 90000):
+            self.file.write(dataclasses.replace(STATE, moment=moment))
+            memory = self.memory()
+            self.assertLessEqual(abs(memory.state.moment - (5000 + 86400)), 5)
+            self.assertIn(f"the moment {moment} of the state file lies more than a day ahead of the clock", self.out.getvalue())
+        self.file.write(dataclasses.replace(STATE, moment=1 << 53, since=0))
+        self.assertLess(self.memory().state.moment, 1 << 33)
+
+
+class Locks(unittest.TestCase):
+    def test_a_second_controller_has_no_lock(self) -> None:
+        with tempfile.TemporaryDirectory() as folder:
+            plan = os.path.join(folder, "plan.json")
+            lock = StateLock(plan)
+            with self.assertRaisesRegex(IsLocked, f"another controller runs this plan: process {os.getpid()} has the lock"):
+                StateLock(plan)
+            lock.release()
+            StateLock(plan).release()
 
 
 if __name__ == "__main__":

@@ -13,8 +13,8 @@ from support import TOP
 
 # How long a check waits, in seconds, for what is to come soon. A busy machine with two processors keeps it.
 LONGEST_WAIT = 30
-# How long a script may take, in seconds.
-LONGEST_RUN = 170
+# How long a script may take, in seconds; and one whose parts are named or run by hand.
+LONGEST_RUN, LONGEST_BY_HAND = 170, 1800
 PAUSE = 0.02  # seconds between two looks at what is awaited
 
 Part = Callable[[], None]
@@ -80,7 +80,7 @@ def run_part(part: Part) -> None:
 def run(name: str, parts: Sequence[Part], at_once: int = 1, by_hand: Sequence[Part] = ()) -> NoReturn:
     """Runs the parts in turn, or so many at once, and prints the counts; status 0 where no check has failed. The words
     name parts that are run alone; with `--by-hand` those are run that take too long for the gate."""
-    faulthandler.dump_traceback_later(LONGEST_RUN, exit=True)
+    faulthandler.dump_traceback_later(LONGEST_BY_HAND if sys.argv[1:] else LONGEST_RUN, exit=True)
     os.chdir(TOP)
     if sys.argv[1:] == ["--by-hand"]:
         parts = by_hand

@@ -1,17 +1,22 @@
 """Endpoints of revisions: each is a server that answers every connection's one request by a function."""
 import contextlib
 import itertools
+import os
 import random
+import signal
 import socket
+import subprocess
+import sys
 import threading
 import time
 from collections.abc import Callable, Iterator, Sequence
 from typing import NamedTuple
 
+from support import TOP, processes
 from support.checks import comes
-from support.clients import received, send_in_pieces
+from support.clients import received, reset, send_in_pieces
 from support.messages import response
-from support.ports import HOST
+from support.ports import HOST, is_open
 
 END_OF_HEAD = b"\r\n\r\n"
 BACKLOG = 1024
@@ -200,6 +205,35 @@ class Held:
         return comes(lambda: self.waiting - self.closed >= count)
 
 
+def reset_at_once(_: Request, connection: socket.socket) -> None:
+    """Resets the connection in place of an answer."""
+    reset(connection)
+
+
+class EndpointProcess:
+    """An endpoint in a process of its own, which can be killed, and stopped as by SIGSTOP. It answers with its name."""
+
+    def __init__(self, name: str, port: int) -> None:
+        self.name = name
+        self.port = port
+        self.start()
+
+    def start(self) -> None:
+        """Starts the process, and waits until it listens."""
+        paths = os.pathsep.join((str(TOP / "scripts"), str(TOP / "lib")))
+        self.process = subprocess.Popen([sys.executable, "-B", "-m", "support.endpoints", self.name, str(self.port)],
+                                        env={**os.environ, "PYTHONPATH": paths}, text=True)
+        processes.limit(self.process)
+        comes(lambda: is_open(self.port))
+
+    def kill(self) -> None:
+        processes.stop(self.process)
+
+    def stop(self) -> None:
+        """Stops the process: the system still accepts connections for it, and nothing reads them."""
+        self.process.send_signal(signal.SIGSTOP)
+
+
 def held_at(target: bytes, held: Held, others: Answer) -> Answer:
     """Holds the requests for a target, and answers the others otherwise."""
 
@@ -238,3 +272,8 @@ def full_backlog() -> Iterator[int]:
     """The port of an endpoint that accepts nothing, and whose backlog is full."""
     with full_listener() as listener:
         yield listener.getsockname()[1]
+
+
+if __name__ == "__main__":
+    Endpoint(by_target(sys.argv[1].encode()), int(sys.argv[2]))
+    threading.Event().wait()

@@ -57,10 +57,14 @@ def resident_memory(process: int) -> int:
     return next(int(line.split()[1]) for line in lines if line.startswith("VmRSS:"))
 
 
-def limit_descriptors(most: int) -> None:
-    """The descriptors that this process may have from now on."""
-    hard = resource.getrlimit(resource.RLIMIT_NOFILE)[1]
-    resource.setrlimit(resource.RLIMIT_NOFILE, (most if hard == resource.RLIM_INFINITY else min(most, hard), hard))
+def limit_descriptors(soft: int, hard: int | None = None) -> None:
+    """The descriptors that this process may have from now on, by its soft and its hard limit; the hard one stays where
+    none is given."""
+    most = resource.getrlimit(resource.RLIMIT_NOFILE)[1]
+    hard = most if hard is None else hard
+    if most != resource.RLIM_INFINITY:
+        soft, hard = min(soft, most), min(hard, most)
+    resource.setrlimit(resource.RLIMIT_NOFILE, (soft, hard))
 
 
 class DescriptorLimit:

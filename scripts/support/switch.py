@@ -4,7 +4,7 @@ import os
 import socket
 import subprocess
 import threading
-from collections.abc import Callable, Iterator, Mapping
+from collections.abc import Callable, Iterator, Mapping, Sequence
 from typing import NamedTuple
 
 from support import TOP, clients, processes
@@ -17,7 +17,8 @@ from support.ports import free_ports
 PROGRAM = os.environ.get("BG_SWITCH_PROGRAM", str(TOP / "bin" / "bg_switch"))
 TIMEOUT_VARIABLE = "BG_SWITCH_PATIENCE_SECONDS"
 LISTENING = "listening\n"
-# The usual limit of a system, which holds whatever the script itself may have.
+# The usual limit of a system, which holds whatever the script itself may have. The program raises its soft limit to the
+# hard one.
 USUAL_DESCRIPTORS = 1024
 
 
@@ -26,9 +27,11 @@ def run_to_end(rollout: str, active: int, control: int, preview: int | None = No
     return processes.run_to_end([PROGRAM, *words_of_serve(active, control, preview, 1, 1)], rollout)
 
 
-def words_of_serve(active: int, control: int, preview: int | None, workers: int, count: int | None) -> list[str]:
+def words_of_serve(active: int, control: int, preview: int | None, workers: int, count: int | None,
+                   instead_of_workers: Sequence[str] = ()) -> list[str]:
     """The words of a `serve`; without a count it serves for ever."""
-    return ["serve", "--active", str(active), "--control", str(control), "--workers", str(workers),
+    return ["serve", "--active", str(active), "--control", str(control),
+            *(instead_of_workers or ("--workers", str(workers))),
             *([] if preview is None else ["--preview", str(preview)]),
             *(["--forever"] if count is None else ["--count", str(count)])]
 
@@ -48,19 +51,21 @@ class Switch:
     """
 
     def __init__(self, rollout: str = ROLLOUT, *, workers: int = 1, count: int | None = None, preview: bool = True,
-                 timeout: int | str | None = None, descriptors: int = USUAL_DESCRIPTORS,
-                 prepare: Callable[[], object] = lambda: None, variables: Mapping[str, str] | None = None) -> None:
+                 timeout: int | str | None = None, descriptors: int | tuple[int, int] = USUAL_DESCRIPTORS,
+                 instead_of_workers: Sequence[str] = (), prepare: Callable[[], object] = lambda: None, variables: Mapping[str, str] | None = None) -> None:
         self.active, self.preview, self.control = free_ports(3)
         self.left = {self.active: workers * (count or 0), self.preview: count or 0 if preview else 0}
         self.lock = threading.Lock()
-        words = [PROGRAM, *words_of_serve(self.active, self.control, self.preview if preview else None, workers, count)]
+        words = [PROGRAM, *words_of_serve(self.active, self.control, self.preview if preview else None, workers, count,
+                                          instead_of_workers)]
         environment = {name: value for name, value in os.environ.items() if name != TIMEOUT_VARIABLE}
         environment.update(variables or {})
         if timeout is not None:
             environment[TIMEOUT_VARIABLE] = str(timeout)
 
         def before() -> None:
-            processes.limit_descriptors(descriptors)
+            soft, hard = descriptors if isinstance(descriptors, tuple) else (descriptors, descriptors)
+            processes.limit_descriptors(soft, hard)
             prepare()
 
         self.process = subprocess.Popen(words, stdin=subprocess.PIPE, stdout=subprocess.PIPE, stderr=subprocess.PIPE,

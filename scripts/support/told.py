@@ -38,6 +38,16 @@ def full() -> re.Pattern[str]:
     return re.compile(r"bg_switch: the history is full; lines refused: (\d+), requests refused: (\d+)")
 
 
+def turned_away() -> re.Pattern[str]:
+    """Connections of users that aren't listed were turned away; the group is how many."""
+    return re.compile(r"bg_switch: connections at the control port that are not of the users of BG_SWITCH_OPERATORS: (\d+)")
+
+
+def orders_told() -> re.Pattern[str]:
+    """An order was carried out; the groups are the number of its user, and the line."""
+    return re.compile(r"bg_switch: user (\d+): (.+)")
+
+
 def told(switch: Switch, pattern: re.Pattern[str]) -> list[re.Match[str]]:
     """The lines that a switch has told, and that match a pattern as a whole."""
     return [match for line in list(switch.told) if (match := pattern.fullmatch(line))]

@@ -1,0 +1,164 @@
+"""bin/analysis before a running `serve`: an outage of the new revision after the switch is found, and the revision is taken back;
+by the access log alone, by reports of the switch, and by Prometheus."""
+import contextlib
+import pathlib
+import shutil
+import subprocess
+import sys
+import tempfile
+from collections.abc import Iterator
+
+from support import TOP, checks
+from support.checks import check, comes
+from support.dashboards import failing, missing, showing
+from support.endpoints import Endpoint
+from support.operators import Operator
+from support.plans import Plan
+from support.ports import free_port, free_ports
+from support.switch import Switch
+from support.traffic import Traffic, ask, prepared_log
+
+# isort: split; `support` tells where the tests' package is
+sys.path.insert(0, str(TOP))
+from tests.fake_prometheus import real_prometheus  # noqa: E402
+
+ANALYSIS, CONTROLLER = str(TOP / "bin" / "analysis"), str(TOP / "bin" / "controller")
+ROLLOUT = """{"spec": {"replicas": 1, "strategy": {"blueGreen": {"activeService": "web", "autoPromotionEnabled": true,
+"postPromotionAnalysis": {}, "scaleDownDelaySeconds": 60}}}}"""
+CLIENTS, PAUSE = 2, 0.02
+WAIT = 30  # seconds for which anything is awaited
+LIMITS = ("--seconds", "1m", "--every", "1s", "--errors-at-most", "1%", "--requests-at-least", "20")
+PROMETHEUS = "prometheus"
+SHARE = ("sum(rate(bg_switch_http_requests_total{revision='{{args.revision}}',status=~'5xx|none'}[5s])) / "
+         "sum(rate(bg_switch_http_requests_total{revision='{{args.revision}}'}[5s]))")
+
+
+class Scene:
+    """A switch with web-v1 and web-v2, of an endpoint each, traffic, and the folder of an access log and a plan."""
+
+    def __init__(self, folder: str) -> None:
+        self.folder = pathlib.Path(folder)
+        self.log = self.folder / "access.log"
+        self.ports = dict(zip(("web-v1", "web-v2"), free_ports(2)))
+        self.endpoints = {name: Endpoint(failing(name.encode(), 0), port) for name, port in self.ports.items()}
+        self.switch = Switch(ROLLOUT, workers=4, preview=False, variables=prepared_log(self.log))
+        self.traffic = Traffic(self.switch.active, CLIENTS, PAUSE)
+
+    def order(self, *lines: str) -> None:
+        with contextlib.closing(Operator(self.switch.control)) as operator:
+            for line in lines:
+                check(f"{line} is carried out", operator.order(line)[:3], "ok ")
+
+    def open_and_switch(self) -> None:
+        """web-v2 is active, and waits for its analysis."""
+        self.order(f"open web-v1 {self.ports['web-v1']}", "available 1 1")
+        self.traffic.start()
+        self.order(f"deploy web-v2 {self.ports['web-v2']}", "available 2 1")
+        check("web-v2 is live", ask(self.switch.active).revision, "web-v2")
+
+    def fail(self) -> None:
+        """The endpoint of web-v2 is gone, and an operator reports it."""
+        self.endpoints["web-v2"].stop()
+        self.order("available 2 0")
+
+    def report(self) -> str:
+        with contextlib.closing(Operator(self.switch.control)) as operator:
+            return operator.report()
+
+    def end(self) -> None:
+        self.traffic.ended.set()
+        self.switch.kill()
+
+
+@contextlib.contextmanager
+def scene() -> Iterator[Scene]:
+    with tempfile.TemporaryDirectory(ignore_cleanup_errors=True) as folder:
+        played = Scene(folder)
+        try:
+            yield played
+        finally:
+            played.end()
+
+
+class Running:
+    """A tool that runs, whose lines are kept in a file."""
+
+    def __init__(self, path: pathlib.Path, *words: str) -> None:
+        self.path = path
+        with open(path, "wb") as file:
+            self.process = subprocess.Popen(words, stdout=file, stderr=subprocess.STDOUT)
+
+    def text(self) -> str:
+        return self.path.read_text(encoding="utf-8")
+
+    def check_says(self, text: str) -> None:
+        said = comes(lambda: text in self.text(), WAIT)
+        check(f"it says {text}", text if said else self.text(), text)
+
+    def status(self) -> int | None:
+        with contextlib.suppress(subprocess.TimeoutExpired):
+            return self.process.wait(WAIT)
+        self.process.kill()
+        return None
+
+
+@contextlib.contextmanager
+def running(path: pathlib.Path, *words: str) -> Iterator[Running]:
+    run = Running(path, *words)
+    try:
+        yield run
+    finally:
+        run.process.terminate()
+        run.process.wait(WAIT)
+
+
+def in_a_plan() -> None:
+    """The only endpoint of the new revision goes away after the switch: the controller reports it, and the analysis fails."""
+    with scene() as played:
+        plan = Plan(str(played.folder), played.switch.control, health={"path": "/", "interval": 0.3, "failures": 2},
+                    analyses={"post": [ANALYSIS, "--log", str(played.log), *LIMITS]})
+        plan.write([("web-v1", [played.ports["web-v1"]])])
+        with running(played.folder / "controller.log", CONTROLLER, plan.path) as controller:
+            controller.check_says("available 1 1 => ok 0")
+            played.traffic.start()
+            plan.write([(name, [port]) for name, port in played.ports.items()])
+            controller.check_says("analysis of revision 2 web-v2: 2 s")
+            check("the limits hold first", "the limits hold\n" in controller.text(), True)
+            played.endpoints["web-v2"].stop()
+            controller.check_says("verdict post failed => ok")
+            check("the limits that it names", "errors are above 1%" in controller.text(), True)
+        check("live traffic is back", ask(played.switch.active).revision, "web-v1")
+
+
+def by_reports() -> None:
+    """No endpoint was ever up, so no request names the revision: the reports tell it."""
+    with scene() as played:
+        played.open_and_switch()
+        played.fail()
+        words = ("--log", str(played.log), "--revision", "web-v2", "--control", str(played.switch.control), *LIMITS)
+        with running(played.folder / "analysis", ANALYSIS, *words) as run:
+            check("an analysis by reports", (run.status(), "errors are above 1%" in run.text()), (1, True))
+
+
+def by_prometheus() -> None:
+    """The dashboard's metrics tell the outage, and a Prometheus has them."""
+    program = shutil.which(PROMETHEUS)
+    why = missing() or ("" if program else f"{PROMETHEUS} is not installed: apt-get install prometheus")
+    if why or program is None:
+        print(f"live_analysis: no analysis by Prometheus is tried: {why}")
+        return
+    with scene() as played:
+        played.open_and_switch()
+        listen = free_port()
+        with showing(played.switch.control, listen, "--log", str(played.log)), \
+                real_prometheus(program, played.folder, [listen]) as url:
+            words = ("--prometheus", url, "--query", SHARE, "--revision", "web-v2", "--control", str(played.switch.control),
+                     "--at-most", "1%", "--interval", "1s", "--count", "60", "--inconclusive", "20")
+            with running(played.folder / "analysis", ANALYSIS, *words) as run:
+                run.check_says(": the limits hold\n")
+                played.fail()
+                check("an analysis by Prometheus", (run.status(), "it is above 0.01" in run.text()), (1, True))
+
+
+if __name__ == "__main__":
+    checks.run("live_analysis", [in_a_plan, by_reports, by_prometheus], at_once=3)

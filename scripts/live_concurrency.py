@@ -1,0 +1,276 @@
+"""`bg_switch serve --concurrency` on loopback: hundreds of requests at a time, and workers that wait."""
+import concurrent.futures
+import contextlib
+import random
+import re
+import resource
+import shutil
+import socket
+import subprocess
+import threading
+import time
+from collections.abc import Iterator
+
+from support import checks, clients, processes
+from support.checks import check, check_within, comes
+from support.endpoints import Endpoint, Request
+from support.messages import BAD_GATEWAY, BY_HAND, UNAVAILABLE, answer, request, response
+from support.processes import descriptors, resident_memory, threads
+from support.switch import Switch
+
+# How long a worker's thread may keep waiting where it has ended its work, in seconds.
+SOON = 10
+# A line of strace that begins a call of a thread, and the moment.
+CALL = re.compile(r"\[pid +\d+\] (\d+\.\d+) \w+\(")
+# For how long it is seen what the switch doesn't do, in seconds.
+SEEN = 0.3
+SEED = 52
+# The descriptors that a switch with a thousand workers needs, by its soft and its hard limit.
+MANY = (8192, 8192)
+
+
+class Gate:
+    """An endpoint whose answers to `/held` wait until it is opened. It answers all others at once."""
+
+    def __init__(self) -> None:
+        self.opening = threading.Event()
+        self.held = 0
+        self.lock = threading.Lock()
+        self.endpoint = Endpoint(self.answer)
+
+    def answer(self, asked: Request, connection: socket.socket) -> None:
+        if asked.target == b"/held":
+            with self.lock:
+                self.held += 1
+            self.opening.wait(checks.LONGEST_WAIT)
+        connection.sendall(response(b"ok"))
+
+
+@contextlib.contextmanager
+def held(port: int, count: int) -> Iterator[list[socket.socket]]:
+    """So many clients of the port whose requests the endpoint holds."""
+    with contextlib.ExitStack() as stack:
+        sockets = [stack.enter_context(clients.connect(port)) for _ in range(count)]
+        for client in sockets:
+            client.sendall(request(b"/held"))
+        yield sockets
+
+
+@contextlib.contextmanager
+def serving(gate: Gate, descriptors: tuple[int, int], *words: str, preview: bool = True) -> Iterator[Switch]:
+    """A switch with these words in place of `--workers`, that serves the endpoint, and may have so many descriptors by
+    its soft and its hard limit."""
+    switch = Switch(BY_HAND, instead_of_workers=words, preview=preview, descriptors=descriptors)
+    try:
+        check("opened", switch.order(f"open one {gate.endpoint.port}"), "ok 0")
+        check("available", switch.order("available 1 1"), "ok 0")
+        yield switch
+    finally:
+        switch.stop()
+
+
+def hundreds_at_a_time() -> None:
+    """300 requests are open at once, a further one is served beside them, and all are answered."""
+    gate = Gate()
+    with serving(gate, MANY, "--concurrency", "301") as switch, held(switch.active, 300) as waiting:
+        check("300 requests at the endpoint", comes(lambda: gate.held == 300), True)
+        check("300 open requests", switch.open_requests(), [300])
+        check("a request beside them", clients.asked(switch.active, request()), answer(b"ok"))
+        gate.opening.set()
+        check("their answers", {clients.received(client) for client in waiting}, {answer(b"ok")})
+        check("no open request", comes(lambda: switch.open_requests() == [0]), True)
+
+
+def most_at_a_time() -> None:
+    """As many requests as the words say are at the endpoint; a further one waits, and is answered after them."""
+    for words, active, preview in ((("--concurrency=24",), 24, 3), (("--concurrency", "5"), 5, 1),
+                                   (("--concurrency", "9", "--preview-concurrency", "4"), 9, 4),
+                                   (("--workers", "3"), 3, 1), (("--workers", "3", "--preview-concurrency=2"), 3, 2)):
+        for is_preview, most in ((False, active), (True, preview)):
+            with serving(gate := Gate(), MANY, *words) as switch:
+                check_most_at_a_time(gate, switch.preview if is_preview else switch.active, most,
+                                     f"{' '.join(words)} at the {'preview' if is_preview else 'active'} port")
+
+
+def check_most_at_a_time(gate: Gate, port: int, most: int, name: str) -> None:
+    with held(port, most + 1) as waiting:
+        check(f"{name}: {most} at the endpoint", comes(lambda: gate.held == most), True)
+        time.sleep(SEEN)
+        check(f"{name}: no more than {most}", gate.held, most)
+        gate.opening.set()
+        check(f"{name}: answers", [clients.received(client) for client in waiting], [answer(b"ok")] * (most + 1))
+
+
+def a_slow_route_beside_a_fast_one() -> None:
+    """100 clients wait for a slow route; the requests of a fast one don't wait for them."""
+    gate = Gate()
+    with serving(gate, MANY, "--concurrency", "128") as switch, held(switch.active, 100) as waiting:
+        check("100 requests at the slow route", comes(lambda: gate.held == 100), True)
+        began = time.monotonic()
+        for _ in range(50):
+            check("the fast route", clients.asked(switch.active, request()), answer(b"ok"))
+        check_within("50 requests of the fast route", time.monotonic() - began, 5)
+        gate.opening.set()
+        check("the slow route", {clients.received(client) for client in waiting}, {answer(b"ok")})
+
+
+def calls_of_idle_workers() -> None:
+    """An idle switch with 1,000 workers makes at most ten system calls a second, all threads together."""
+    if shutil.which("strace") is None:
+        print("live_concurrency: no strace, so the system calls of idle workers were not counted")
+        return
+    gate = Gate()
+    with serving(gate, MANY, "--concurrency", "1000") as switch:
+        check("a request", clients.asked(switch.active, request()), answer(b"ok"))
+        time.sleep(4)
+        traced = subprocess.run(["timeout", "--signal=INT", "9", "strace", "-ttt", "-f", "-p", str(switch.process.pid)],
+                                capture_output=True, text=True, check=False).stderr
+        moments = [float(found[1]) for line in traced.splitlines() if (found := CALL.match(line))]
+        check("system calls were counted", moments != [], True)
+        # strace interrupts each thread as it begins, and so makes each of them call again
+        check_within("system calls of a second", sum(moment > moments[0] + 3 for moment in moments) / 6, 10)
+        check("a request after it", clients.asked(switch.active, request()), answer(b"ok"))
+
+
+def memory_of_idle_workers() -> None:
+    """An idle worker takes at most 64 KiB of memory."""
+    gate = Gate()
+    sizes = []
+    for count in ("1", "1000"):
+        with serving(gate, MANY, "--concurrency", count, preview=False) as switch:
+            check("a request", clients.asked(switch.active, request()), answer(b"ok"))
+            check("its threads", comes(lambda: threads(switch.process.pid) >= int(count)), True)
+            sizes.append(resident_memory(switch.process.pid))
+    check_within("KiB of an idle worker", (sizes[1] - sizes[0]) / 999, 64)
+
+
+def descriptors_of_many_workers() -> None:
+    """The switch raises its soft limit of descriptors to the hard one, and tells where that is too little."""
+    gate = Gate()
+    with serving(gate, (256, 4096), "--concurrency", "255") as switch:
+        soft, _ = resource.prlimit(switch.process.pid, resource.RLIMIT_NOFILE)
+        check("the soft limit", soft, 4096)
+        check("no notice", switch.count_told("descriptors"), 0)
+    with serving(gate, (256, 512), "--concurrency", "255") as switch:
+        check("the notice", switch.tells("512", "descriptors"), True)
+        check("a request", clients.asked(switch.active, request()), answer(b"ok"))
+
+
+class Soak:
+    """Clients of many kinds, operators and endpoints that crash, by a seed."""
+
+    def __init__(self, requests: int, workers: int) -> None:
+        self.rng = random.Random(SEED)
+        self.requests = requests
+        self.endpoints = [Endpoint(self.answer) for _ in range(2)]
+        self.switch = Switch(BY_HAND, instead_of_workers=("--concurrency", str(workers)), descriptors=MANY)
+        self.ends: dict[bytes | None, int] = {}
+        self.lock = threading.Lock()
+        self.over = threading.Event()
+
+    @staticmethod
+    def answer(asked: Request, connection: socket.socket) -> None:
+        if asked.target == b"/late":
+            time.sleep(0.05)
+        if asked.target != b"/closes":
+            connection.sendall(response(b"ok"))
+
+    def client(self, kind: int) -> None:
+        """One client: it gets its answer, closes early, sends a part, or resets."""
+        port = self.switch.preview if kind % 7 == 0 else self.switch.active
+        target = (b"/", b"/late", b"/closes")[kind % 3]
+        with contextlib.suppress(OSError), clients.connect(port) as client:
+            text = request(target)
+            if kind % 11 == 0:
+                client.sendall(text[:kind % len(text)])
+                return
+            client.sendall(text)
+            if kind % 13 == 0:
+                clients.reset(client)
+                return
+            got = clients.received(client)
+            with self.lock:
+                self.ends[got] = self.ends.get(got, 0) + 1
+
+    def operate(self) -> None:
+        """Orders at random, none of which takes the last endpoint for long."""
+        rng = random.Random(SEED + 1)
+        first, second = (endpoint.port for endpoint in self.endpoints)
+        lines = [f"deploy two {second}", "available 2 1", "promote", "promote full", "abort", "retry", "available 1 1",
+                 f"deploy one {first}", "tick 1", "report", "compact", "verdict pre successful", "available 1 0",
+                 "available 1 1", "available 2 1"]
+        moment = 1
+        while not self.over.wait(0.02):
+            line = rng.choice(lines)
+            if line == "tick 1":
+                moment += rng.randrange(3)
+                line = f"tick {moment}"
+            self.switch.order(line)
+
+    def crash_endpoints(self) -> None:
+        rng = random.Random(SEED + 2)
+        while not self.over.wait(0.5):
+            endpoint = rng.choice(self.endpoints)
+            endpoint.stop()
+            self.over.wait(0.1)
+            endpoint.start()
+
+    def run(self, at_once: int) -> None:
+        first = self.endpoints[0].port
+        check("opened", self.switch.order(f"open one {first}"), "ok 0")
+        check("available", self.switch.order("available 1 1"), "ok 0")
+        before = None
+        with concurrent.futures.ThreadPoolExecutor(2) as helpers:
+            helpers.submit(self.operate)
+            helpers.submit(self.crash_endpoints)
+            try:
+                with concurrent.futures.ThreadPoolExecutor(at_once) as pool:
+                    half = self.requests // 2
+                    list(pool.map(self.client, (self.rng.randrange(1 << 20) for _ in range(half))))
+                    before = self.footprint()
+                    list(pool.map(self.client, (self.rng.randrange(1 << 20) for _ in range(half))))
+            finally:
+                self.over.set()
+        check("what the switch told", self.switch.told, [])
+        self.check_end(before)
+
+    def footprint(self) -> tuple[int, int]:
+        """The descriptors and the threads, once no client is there any more."""
+        process = self.switch.process.pid
+        counts = []
+        for _ in range(50):
+            time.sleep(0.02)
+            counts.append(len(descriptors(process)))
+        return min(counts), threads(process)
+
+    def check_end(self, before: tuple[int, int] | None) -> None:
+        check("each answer is of a known kind", set(self.ends) - {answer(b"ok"), BAD_GATEWAY, UNAVAILABLE, b"", None}, set())
+        check("many answers are of endpoints", self.ends.get(answer(b"ok"), 0) > self.requests // 10, True)
+        check("no open request", comes(lambda: not any(self.switch.open_requests()), SOON), True)
+        check("descriptors and threads", self.footprint(), before)
+        with contextlib.closing(self.switch.operator()) as operator:
+            operator.order_quit()
+            ended = self.switch.wait()
+        check("the status", ended.status, 0)
+        opens = [line.split(" open ")[1].split()[0] for line in ended.printed.splitlines() if " open " in line]
+        check("open requests of the last report", set(opens), {"0"})
+        calls = int(ended.printed.splitlines()[-1].removeprefix("calls "))
+        check("calls come in pairs", calls % 2, 0)
+        check("at least the answered requests entered", calls // 2 >= self.ends.get(answer(b"ok"), 0), True)
+
+
+def requests_beside_crashes() -> None:
+    """3,000 requests over 200 workers, with random orders, endpoints that crash, and clients that go."""
+    Soak(3_000, 200).run(64)
+
+
+def three_hundred_thousand() -> None:
+    """The same with 300,000 requests."""
+    processes.LONGEST = checks.LONGEST_BY_HAND
+    Soak(300_000, 200).run(256)
+
+
+if __name__ == "__main__":
+    checks.run("live_concurrency", [hundreds_at_a_time, most_at_a_time, a_slow_route_beside_a_fast_one,
+                                    calls_of_idle_workers, memory_of_idle_workers, descriptors_of_many_workers,
+                                    requests_beside_crashes], by_hand=[three_hundred_thousand])

@@ -1,0 +1,195 @@
+"""BG_SWITCH_OPERATORS: the users whose orders a running `serve` takes, what others are told, and whose orders were carried
+out. Skipped where the script isn't run by root, which alone can make connections of several users."""
+import contextlib
+import os
+import pwd
+import signal
+import socket
+import sys
+import threading
+import time
+from collections.abc import Iterator
+
+from support import checks, processes
+from support.checks import check, check_within, comes
+from support.clients import connect, received
+from support.endpoints import Endpoint, by_target
+from support.messages import BY_HAND
+from support.ports import free_ports
+from support.processes import Run
+from support.switch import LISTENING, PROGRAM, Switch, words_of_serve
+from support.told import orders_told, told, turned_away
+from support.users import NOBODY, connect_as, is_root
+
+VARIABLE = "BG_SWITCH_OPERATORS"
+ROOT = 0
+NOT_ALLOWED = b"refused NotAllowed\n"
+# How long an order waits at most beside connections of others; and one of a new connection. A busy machine keeps it.
+AT_ONCE, PROMPT = 0.3, 1.0
+# How many connections others make at least, and how many of them side by side.
+STRANGERS, CALLERS = 1500, 40
+
+
+@contextlib.contextmanager
+def switch_of(users: str, *, is_open: bool = True) -> Iterator[Switch]:
+    """A switch that serves these users, whose book is open, or isn't. This script's own user is one of them."""
+    switch = Switch(BY_HAND, workers=2, variables={VARIABLE: users})
+    check(f"listening for {users}", switch.first, LISTENING)
+    if is_open:
+        check("open", switch.order(f"open one {Endpoint(by_target(b'one')).port}"), "ok 0")
+    try:
+        yield switch
+    finally:
+        switch.stop()
+
+
+def asked_as(user: int, switch: Switch, text: bytes) -> bytes:
+    """All that a connection of this user is sent that sends this text, and then no more."""
+    with connect_as(user, switch.control) as connection:
+        with contextlib.suppress(ConnectionError):
+            connection.sendall(text)
+            connection.shutdown(socket.SHUT_WR)
+        return received(connection)
+
+
+def report_of(switch: Switch) -> str:
+    with contextlib.closing(switch.operator()) as operator:
+        return operator.report()
+
+
+def others_are_turned_away() -> None:
+    """No line of another user is carried out, whatever it sends; each connection is told so, and all are counted."""
+    with switch_of("root") as switch:
+        before = report_of(switch)
+        lines = (b"tick 1\n", b"quit\n", b"abort\nquit\n", b"report\n", b"down 1\n", b"GET / HTTP/1.1\r\n\r\n", b"x" * 9000, b"")
+        for text in lines:
+            check(f"another user that sends {text[:20]!r}", asked_as(NOBODY, switch, text), NOT_ALLOWED)
+        check("the report after the lines of another user", report_of(switch), before)
+        check("an order of a listed user", switch.order("tick 1"), "ok 0")
+        counted = comes(lambda: sum(int(match[1]) for match in told(switch, turned_away())) == len(lines))
+        check("the connections that were turned away are told", counted or switch.told, True)
+    with switch_of("root", is_open=False) as switch:
+        check("an open of another user", asked_as(NOBODY, switch, b"open one 1\n"), NOT_ALLOWED)
+        check("an open of a listed user", switch.order("open one 1"), "ok 0")
+
+
+def without_the_variable() -> None:
+    """All users are served, and nothing is told of whose orders are carried out."""
+    switch = Switch(BY_HAND, workers=2)
+    check("listening for all", switch.first, LISTENING)
+    check("an open of another user", asked_as(NOBODY, switch, b"open one 1\n"), b"ok 0\n")
+    check("a moment of root", switch.order("tick 1"), "ok 0")
+    time.sleep(1.5)
+    check("nothing is told", switch.told, [])
+    switch.stop()
+
+
+def names_and_numbers() -> None:
+    """A list has names and numbers, with spaces or without. A user that isn't in it is turned away."""
+    nobody = pwd.getpwuid(NOBODY).pw_name
+    for users in (f"root,{nobody}", f"0,{NOBODY}", f" root , {nobody} ", f"{nobody},,0,", f"0,{nobody},{nobody}"):
+        with switch_of(users) as switch:
+            check(f"{users}: a listed user", asked_as(NOBODY, switch, b"tick 1\n"), b"ok 0\n")
+            check(f"{users}: a user that isn't listed", asked_as(NOBODY - 1, switch, b"tick 2\n"), NOT_ALLOWED)
+    with switch_of("0,00065534") as switch:
+        check("a number with zeros before it", asked_as(NOBODY, switch, b"tick 1\n"), b"ok 0\n")
+
+
+def run_with(users: str) -> Run:
+    """A run of `serve` that can't begin, since this list can't be used."""
+    active, control = free_ports(2)
+    words = ["env", f"{VARIABLE}={users}", PROGRAM, *words_of_serve(active, control, None, 1, 1)]
+    return processes.run_to_end(words, BY_HAND)
+
+
+def lists_that_cannot_be_used() -> None:
+    """The program ends before it listens, with status 1, and says why. A list that it can't use never stands for all users."""
+    for users, why in {"": "it names no user", " , ,": "it names no user", "root,nosuchuser": "there is no user nosuchuser",
+                       "-1": "there is no user -1", "+0": "there is no user +0", "4294967295": "there is no user 4294967295",
+                       "4294967296": "there is no user 4294967296", "root nobody": "there is no user root nobody",
+                       "roo": "there is no user roo", "x": "there is no user x", "/root": "there is no user /root"}.items():
+        check(f"the list {users!r}", run_with(users), Run("", f"bg_switch: {VARIABLE}: {why}\n", 1))
+
+
+def gone_before_it_is_looked_at() -> None:
+    """A socket that its process has closed belongs to nobody, though the system's table lists it as one of root: lines that it
+    has sent before aren't carried out."""
+    with switch_of("root") as switch:
+        before = report_of(switch)
+        os.kill(switch.process.pid, signal.SIGSTOP)
+        for text in (b"tick 7\n", b"quit\n"):
+            connection = connect_as(NOBODY, switch.control)
+            connection.sendall(text)
+            connection.close()
+        os.kill(switch.process.pid, signal.SIGCONT)
+        check("the lines of a user that has gone", report_of(switch), before)
+        gone = comes(lambda: sum(int(match[1]) for match in told(switch, turned_away())) == 2)
+        check("connections whose user isn't known are turned away", gone or switch.told, True)
+
+
+def half_closed() -> None:
+    """A listed user that shuts its writing side after its lines is answered."""
+    with switch_of("root") as switch:
+        os.kill(switch.process.pid, signal.SIGSTOP)
+        with connect(switch.control) as connection:
+            connection.sendall(b"tick 7\n")
+            connection.shutdown(socket.SHUT_WR)
+            os.kill(switch.process.pid, signal.SIGCONT)
+            check("a listed user that has shut its writing side", received(connection), b"ok 0\n")
+
+
+def orders_are_told() -> None:
+    """Each order that is carried out is told with its user; a moment, a report and a refused line aren't."""
+    nobody = pwd.getpwuid(NOBODY).pw_name
+    switch = Switch(BY_HAND, workers=2, variables={VARIABLE: f"root,{nobody}"})
+    check("listening", switch.first, LISTENING)
+    one, two = (Endpoint(by_target(name)).port for name in (b"one", b"two"))
+    check("open", switch.order(f"open one {one}"), "ok 0")
+    for line, reply in ((f"deploy two {two}", b"ok 0\n"), ("available 2 1", b"ok 1\n"), ("tick 1", b"ok 0\n"),
+                        ("retry", b"refused NotAborted\n"), ("jump", b"fault UnknownWord\n"), ("abort", b"ok 0\n")):
+        check(f"the reply to {line}", asked_as(NOBODY, switch, f"{line}\n".encode("ascii")), reply)
+    with contextlib.closing(switch.operator()) as operator:
+        operator.check("promote", "refused Aborted")
+        operator.order_quit()
+        check("the status after quit", switch.wait().status, 0)
+    orders = [(int(match[1]), match[2]) for match in told(switch, orders_told())]
+    wanted = [(ROOT, f"open one {one}"), (NOBODY, f"deploy two {two}"), (NOBODY, "abort"), (ROOT, "quit")]
+    check("the orders", orders, wanted)
+
+
+def strangers_hold_up_nobody() -> None:
+    """Connections of others, more than the port has room for and without end, close no operator's, and hold up no order."""
+    with switch_of("root") as switch, contextlib.closing(switch.operator()) as operator:
+        operator.check("tick 1", "ok 0")
+        ends = threading.Event()
+        callers = [threading.Thread(target=call_again, args=(switch, ends), daemon=True) for _ in range(CALLERS)]
+        for caller in callers:
+            caller.start()
+        check("others call", comes(lambda: sum(int(match[1]) for match in told(switch, turned_away())) > STRANGERS), True)
+        for moment in range(2, 12):
+            start = time.monotonic()
+            operator.check(f"tick {moment}", "ok 0")
+            check_within("an order while others connect", time.monotonic() - start, AT_ONCE)
+        start = time.monotonic()
+        check("an order of a new connection", switch.order("tick 20"), "ok 0")
+        check_within("a new connection while others connect", time.monotonic() - start, PROMPT)
+        ends.set()
+        for caller in callers:
+            caller.join()
+        check("their descriptors are closed", comes(lambda: switch.count_descriptors() < 100), True)
+
+
+def call_again(switch: Switch, ends: threading.Event) -> None:
+    """Connects as another user, again and again, until it ends."""
+    while not ends.is_set():
+        with contextlib.suppress(OSError):
+            check("a caller", asked_as(NOBODY, switch, b"abort\n"), NOT_ALLOWED)
+
+
+if __name__ == "__main__":
+    if not is_root():
+        print("live_operators: skipped: only root can make connections of several users")
+        sys.exit(0)
+    checks.run("live_operators", (
+        others_are_turned_away, without_the_variable, names_and_numbers, lists_that_cannot_be_used,
+        gone_before_it_is_looked_at, half_closed, orders_are_told, strangers_hold_up_nobody), 4)

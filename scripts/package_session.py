@@ -1,0 +1,289 @@
+"""The session of scripts/package.sh: it uses the installed package in a Debian of its own, whose ports are all free.
+
+systemd does not run there. So the units' commands are run as systemd runs them: with the user, the groups, the folders, the
+variables and the standard input of the unit. What the operator's lines answer is what README.md says of the same lines."""
+import contextlib
+import grp
+import http.client
+import json
+import os
+import pathlib
+import pwd
+import shutil
+import signal
+import stat
+import subprocess
+import tempfile
+import threading
+import time
+from collections.abc import Iterator, Sequence
+from functools import partial
+
+from support.checks import check, comes, fail, run
+
+UNITS = pathlib.Path("/lib/systemd/system")
+DOCUMENTS = pathlib.Path("/usr/share/doc/bg-switch")
+LOG = pathlib.Path("/var/log/bg/access.log")
+PLAN = pathlib.Path("/var/lib/bg/plan.json")
+HOST = "127.0.0.1"
+ACTIVE, PREVIEW, CONTROL, PAGE = 8080, 8081, 8082, 8090
+ENDPOINTS = {"v1": (9101, 9102), "v2": (9201, 9202)}
+SOON = 30  # seconds for a command
+CLIENTS = 4
+
+
+class Unit:
+    """A unit of the package, whose commands are run as systemd does."""
+
+    def __init__(self, name: str) -> None:
+        self.lines = (UNITS / f"{name}.service").read_text(encoding="ascii").splitlines()
+        self.user = pwd.getpwnam(self.value("User"))
+        group = self.value("Group")
+        self.group = grp.getgrnam(group).gr_gid if group else self.user.pw_gid
+        self.groups = [grp.getgrnam(other).gr_gid for other in self.value("SupplementaryGroups").split()]
+
+    def values(self, key: str) -> list[str]:
+        return [line.partition("=")[2] for line in self.lines if line.startswith(f"{key}=")]
+
+    def value(self, key: str) -> str:
+        """The only value of a key, empty where it has none."""
+        return next(iter(self.values(key)), "")
+
+    def make_folders(self) -> None:
+        """The folders of its logs and of its state, which belong to its user."""
+        for key, place in (("LogsDirectory", "/var/log"), ("StateDirectory", "/var/lib")):
+            for name in self.values(key):
+                folder = os.path.join(place, name)
+                os.makedirs(folder, exist_ok=True)
+                os.chmod(folder, int(self.value(f"{key}Mode") or "755", 8))
+                os.chown(folder, self.user.pw_uid, self.group)
+
+    def start(self, command: str) -> "subprocess.Popen[bytes]":
+        """Starts a command, as its user."""
+        self.make_folders()
+        given = self.value("StandardInput").removeprefix("file:") or os.devnull
+        variables = dict(pair.split("=", 1) for pair in self.values("Environment"))
+        with open(given, "rb") as told:
+            return subprocess.Popen(
+                command.split(), stdin=told, stdout=subprocess.DEVNULL, user=self.user.pw_uid, group=self.group,
+                extra_groups=self.groups, umask=int(self.value("UMask") or "022", 8), cwd=self.value("WorkingDirectory") or "/",
+                env={"PATH": "/usr/sbin:/usr/bin:/sbin:/bin", "LANG": "C.UTF-8", **variables})
+
+    @contextlib.contextmanager
+    def running(self) -> Iterator["subprocess.Popen[bytes]"]:
+        process = self.start(self.value("ExecStart"))
+        try:
+            yield process
+        finally:
+            process.kill()
+            process.wait(SOON)
+
+    def stop(self, process: "subprocess.Popen[bytes]") -> list[int]:
+        """Runs its commands of a stop, in turn. Gives their statuses."""
+        commands = [command.replace("${MAINPID}", str(process.pid)) for command in self.values("ExecStop")]
+        reaper = threading.Thread(target=process.wait)
+        reaper.start()
+        statuses = [self.start(command).wait(SOON) for command in commands]
+        reaper.join(SOON)
+        return statuses
+
+
+def told(words: Sequence[str], user: str = "nobody") -> tuple[str, int]:
+    """What a command prints for a user without rights, and its status."""
+    done = subprocess.run(words, capture_output=True, text=True, timeout=SOON, check=False, user=user, group="nogroup",
+                          extra_groups=[], cwd="/")
+    return done.stdout.strip(), done.returncode
+
+
+def order(line: str, reply: str) -> None:
+    """A check of the reply to a line of an operator."""
+    check(line, told(["bg-operator", str(CONTROL), *line.split()]), (reply, 0))
+
+
+def asked(port: int, target: str = "/") -> tuple[int, str]:
+    """The status and the text that a client is answered."""
+    connection = http.client.HTTPConnection(HOST, port, timeout=SOON)
+    try:
+        connection.request("GET", target)
+        response = connection.getresponse()
+        return response.status, response.read().decode().strip()
+    finally:
+        connection.close()
+
+
+def answers(port: int) -> bool:
+    with contextlib.suppress(ConnectionRefusedError):
+        return asked(port)[0] == 200
+    return False
+
+
+@contextlib.contextmanager
+def endpoints() -> Iterator[None]:
+    """Two endpoints for each of two revisions: python's own web server."""
+    started = []
+    with tempfile.TemporaryDirectory() as top:
+        os.chmod(top, 0o755)
+        for name, ports in ENDPOINTS.items():
+            folder = pathlib.Path(top, name)
+            folder.mkdir()
+            (folder / "index.html").write_text(f"hello from {name}\n", encoding="ascii")
+            words = ["python3", "-m", "http.server", "--bind", HOST, "--directory", str(folder)]
+            started += [subprocess.Popen([*words, str(port)], stderr=subprocess.DEVNULL, stdout=subprocess.DEVNULL, user="nobody")
+                        for port in ports]
+        try:
+            for port in (*ENDPOINTS["v1"], *ENDPOINTS["v2"]):
+                check(f"the endpoint at {port} answers", comes(partial(answers, port)), True)
+            yield
+        finally:
+            for process in started:
+                process.kill()
+                process.wait(SOON)
+
+
+class Clients:
+    """Clients that send one request after the other, until the port refuses connections."""
+
+    def __init__(self) -> None:
+        self.answered = 0
+        self.lost: list[str] = []
+        self.threads = [threading.Thread(target=self.ask, daemon=True) for _ in range(CLIENTS)]
+        for thread in self.threads:
+            thread.start()
+
+    def ask(self) -> None:
+        while True:
+            try:
+                reply = asked(ACTIVE)
+            except ConnectionRefusedError:
+                return
+            except (OSError, http.client.HTTPException) as error:
+                self.lost.append(repr(error))
+                continue
+            if reply == (200, "hello from v2"):
+                self.answered += 1
+            else:
+                self.lost.append(repr(reply))
+
+    def end(self) -> None:
+        for thread in self.threads:
+            thread.join(SOON)
+
+
+def lines_of(*files: pathlib.Path) -> int:
+    return sum(file.read_bytes().count(b"\n") for file in files if file.exists())
+
+
+def open_and_roll_back() -> None:
+    """The session of README.md up to the verdict that moves live traffic back, and the second attempt."""
+    order("open media-v1 9101 9102", "ok 0")
+    order("available 1 2", "ok 0")
+    check("clients of v1", asked(ACTIVE), (200, "hello from v1"))
+    order("deploy media-v2 9201 9202", "ok 0")
+    order("available 2 2", "ok 1")
+    check("testers of v2", asked(PREVIEW), (200, "hello from v2"))
+    check("clients during the test", asked(ACTIVE), (200, "hello from v1"))
+    order("verdict pre successful", "ok 0")
+    order("promote", "ok 2")
+    check("clients after the promotion", asked(ACTIVE), (200, "hello from v2"))
+    order("verdict post failed", "ok 0")
+    check("clients after the rollback", asked(ACTIVE), (200, "hello from v1"))
+    order("retry", "ok 1")
+    order("verdict pre successful", "ok 0")
+    order("promote", "ok 2")
+    order("verdict post successful", "ok 1")
+
+
+def rotate() -> None:
+    """The switch writes to the new file soon after logrotate has renamed the old one, and no line is lost."""
+    old = LOG.with_name(f"{LOG.name}.1")
+    check("lines of the log before", comes(lambda: lines_of(LOG) > 0), True)
+    before = lines_of(LOG)
+    check("logrotate", subprocess.run(["logrotate", "--force", "/etc/logrotate.d/bg-switch"], check=False).returncode, 0)
+    check("the old log is there", old.exists(), True)
+    requests = 0
+    while not LOG.exists() and requests < 1000:
+        requests += asked(ACTIVE)[0] == 200
+        time.sleep(0.02)
+    check("no line is lost", comes(lambda: lines_of(old, LOG) == before + requests), True)
+
+
+def judge_log() -> None:
+    """The unit's group may read the log, and nobody else."""
+    at = LOG.stat()
+    check("mode and group of the log", (stat.filemode(at.st_mode), grp.getgrgid(at.st_gid).gr_name), ("-rw-r-----", "bg-log"))
+    check("others may not read the log", told(["cat", str(LOG)]), ("", 1))
+
+
+def show_dashboard() -> None:
+    """The dashboard reads the switch and its log."""
+    with Unit("bg-dashboard").running():
+        check("the page", comes(lambda: answers(PAGE)), True)
+        asked(ACTIVE)
+
+        def counts() -> bool:
+            text = asked(PAGE, "/metrics")[1]
+            return "bg_switch_up 1" in text and 'bg_switch_response_bytes_total{revision="media-v2"' in text
+        check("the metrics have the requests of the log", comes(counts), True)
+
+
+def stop_under_traffic(unit: Unit, switch: "subprocess.Popen[bytes]") -> None:
+    """The unit's stop loses no request."""
+    clients = Clients()
+    check("clients before the stop", comes(lambda: clients.answered > CLIENTS), True)
+    check("the commands of the stop", unit.stop(switch), [0, 0])
+    check("the switch ends by itself", switch.poll(), 0)
+    clients.end()
+    check("lost requests", clients.lost, [])
+
+
+def by_hand() -> None:
+    """A rollout by an operator."""
+    shutil.copy(DOCUMENTS / "examples" / "live" / "rollout.json", "/etc/bg/rollout.json")
+    unit = Unit("bg-switch")
+    with unit.running() as switch:
+        check("the control port answers", comes(lambda: told(["bg-operator", str(CONTROL), "status"])[0] != ""), True)
+        open_and_roll_back()
+        judge_log()
+        rotate()
+        show_dashboard()
+        stop_under_traffic(unit, switch)
+
+
+def by_controller() -> None:
+    """The controller opens a switch by its plan, and keeps its state beside the plan."""
+    plan = {"control": CONTROL, "revisions": [{"name": "media-v1", "ports": ENDPOINTS["v1"]}]}
+    PLAN.write_text(json.dumps(plan), encoding="ascii")
+    switch = Unit("bg-switch")
+    with switch.running() as serving, Unit("bg-controller").running() as controller:
+        words = ["bg-operator", str(CONTROL), "wait", "stable=media-v1", "--wait", "10", "--timeout", "20"]
+        check("the book is opened", told(words)[1], 0)
+        check("clients are answered", comes(partial(answers, ACTIVE)), True)
+        check("clients", asked(ACTIVE), (200, "hello from v1"))
+        check("the state file", comes(PLAN.with_name("plan.json.state").exists), True)
+        controller.send_signal(signal.SIGTERM)
+        check("the controller ends", controller.wait(SOON), 0)
+        check("the commands of the stop", switch.stop(serving), [0, 0])
+
+
+def commands() -> None:
+    """Each command of the package runs for everybody; the program has the package's version."""
+    version, _ = told(["dpkg-query", "--show", "--showformat=${Version}", "bg-switch"])
+    check("the version", told(["bg_switch", "--version"]), (f"bg_switch {version}", 0))
+    names = [path.name for path in pathlib.Path("/usr/bin").glob("bg*") if path.name not in ("bg_switch", "bg")]
+    check("the commands", set(names) >= {"bgctl", "bg-operator", "bg-controller", "bg-analysis", "bg-dashboard"}, True)
+    for name in names:
+        printed, status = told([name, "--help"])
+        check(f"{name} --help", (status, "usage" in printed.lower()), (0, True))
+
+
+def session() -> None:
+    if os.geteuid() != 0 or not DOCUMENTS.exists():
+        fail("the session", "it is run by scripts/package.sh, in a Debian that has the package")
+        return
+    with endpoints():
+        by_hand()
+        by_controller()
+
+
+if __name__ == "__main__":
+    run("package_session", [commands, session])

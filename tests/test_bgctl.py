@@ -1,0 +1,291 @@
+"""bin/bgctl, in this process, before a fake switch."""
+import contextlib
+import io
+import json
+import os
+import pathlib
+import re
+import subprocess
+import sys
+import tempfile
+import unittest
+import zipapp
+from typing import NamedTuple
+from unittest import mock
+
+from bg_switch_tools import operator_command
+from bg_switch_tools.bgctl import VERSION, statuses
+from bg_switch_tools.bgctl.bgctl_command import main
+from bg_switch_tools.bgctl.command_line import long_options, parser, place_of_command
+from bg_switch_tools.bgctl.command_table import COMMANDS, FIRST_ONES, NAMES
+from bg_switch_tools.dashboard import dashboard_command
+from tests.fake_port import free_port
+from tests.fake_switch import FakeSwitch
+from tests.scenes import TOP
+
+
+class Ended(NamedTuple):
+    """What a run has printed, what it told on standard error, and its status."""
+    printed: str
+    told: str
+    status: int
+
+
+def run(*words: str, lines: str = "", tool: str = "bgctl", **variables: str) -> Ended:
+    """A run of bgctl or of bin/operator. No variable of bgctl is set but for these."""
+    printed, told = io.StringIO(), io.StringIO()
+    others = {name: value for name, value in os.environ.items() if not name.startswith("BG_")}
+    with contextlib.redirect_stdout(printed), contextlib.redirect_stderr(told), \
+            mock.patch("sys.stdin", io.TextIOWrapper(io.BytesIO(lines.encode()))), \
+            mock.patch.dict(os.environ, {**others, **variables}, clear=True):
+        try:
+            status = main(words) if tool == "bgctl" else operator_command.main(words)
+        except SystemExit as ended:
+            status = int(str(ended.code))
+    return Ended(printed.getvalue(), told.getvalue(), status)
+
+
+class Words(unittest.TestCase):
+    def test_alone_it_tells_how_to_begin(self) -> None:
+        told = run()
+        self.assertEqual((told.told, told.status, len(FIRST_ONES)), ("", 0, 5))
+        for text in (*(f"\n  {name} " for name in FIRST_ONES), "bgctl deploy web-v2 9201 9202", "docs/OPERATING.md"):
+            self.assertIn(text, told.printed)
+
+    def test_each_command_has_help_with_an_example_of_it(self) -> None:
+        for command in COMMANDS:
+            with self.subTest(command.name):
+                told = run(command.name, "--help")
+                self.assertEqual(told.status, 0)
+                self.assertIn(f"example:\n  {command.example}\n", told.printed)
+                self.assertTrue(command.example.startswith(f"bgctl {command.name}"))
+                parser().parse_args(command.example.split()[1:])
+
+    def test_did_you_mean(self) -> None:
+        self.assertEqual(run("promot"), ("", "bgctl: there is no command promot; did you mean promote?\n", 2))
+        self.assertEqual(run("--control", "1", "stauts").told, "bgctl: there is no command stauts; did you mean status?\n")
+        self.assertEqual(run("xyzzy").told, "bgctl: there is no command xyzzy; bgctl --help lists them\n")
+        self.assertEqual(run("verdict", "pre", "failed").told, "bgctl: verdict is a line of the switch: bgctl line verdict .. sends it\n")
+        wrong = run("deploy", "a", "1", "--watt")
+        self.assertEqual((wrong.status, "--watt; did you mean --wait?" in wrong.told), (2, True))
+        self.assertIn("the nearest is paused", run("wait", "phase=pausd", "--control", "1").told)
+        self.assertEqual(run("status", "--contr", "1").status, 2)
+
+    def test_the_place_of_the_command(self) -> None:
+        for line, place in (("status", 0), ("--control status watch", 2), ("--plan=status wait", 1), ("--version", None), ("", None)):
+            self.assertEqual(place_of_command(line.split()), place, line)
+
+    def test_the_statuses_stand_in_the_help_alone(self) -> None:
+        self.assertIn(statuses.listed(), run("--help").printed)
+        self.assertEqual([status for status, _ in statuses.TABLE], [0, 1, 2, 3, 70, 130])
+        for page in TOP.glob("docs/*.md"):
+            self.assertNotIn("ended by ctrl-C", page.read_text(encoding="utf-8"), page.name)
+
+    def test_the_version_is_that_of_the_switch(self) -> None:
+        self.assertEqual(run("--version").printed, f"bgctl {VERSION}\n")
+        source = (TOP / "crates" / "bg_command_line" / "src" / "command_line.rt").read_text(encoding="utf-8")
+        self.assertIn(f'"{VERSION}"', re.findall(r"VERSION: [^;]*", source)[0])
+
+    def test_the_dashboard_has_its_own_options(self) -> None:
+        told = run("dashboard", "--help").printed
+        for option in long_options(dashboard_command.parser()):
+            self.assertIn(option, told)
+
+    def test_each_command_is_carried_out_by_a_method(self) -> None:
+        from bg_switch_tools.bgctl.bgctl_command import Run
+        self.assertEqual([name for name in NAMES if not callable(getattr(Run, name, None))], [])
+
+
+class Ordered(unittest.TestCase):
+    """A switch whose book is open with web-v1."""
+
+    def setUp(self) -> None:
+        self.switch = FakeSwitch("pause")
+        self.addCleanup(self.switch.kill)
+        self.by_hand("open web-v1 1 2", "available 1 2")
+
+    def by_hand(self, *lines: str) -> None:
+        for line in lines:
+            self.switch.book.answer(line)
+
+    def bgctl(self, *words: str, lines: str = "") -> Ended:
+        return run(*words, lines=lines, BG_CONTROL=str(self.switch.port))
+
+
+class Ports(Ordered):
+    def test_where_the_port_comes_from(self) -> None:
+        port, other = str(self.switch.port), str(free_port())
+        self.assertEqual(run("status", "--control", port, BG_CONTROL=other).status, 0)
+        self.assertEqual(run("--control", port, "status").status, 0)
+        self.assertEqual(run("--control", other, "status", "--control", port).status, 0)
+        self.assertEqual(run("status", BG_CONTROL=port).status, 0)
+
+    def test_what_names_no_port(self) -> None:
+        told = run("status", BG_CONTROL="")
+        self.assertEqual((told.status, told.told), (2, "bgctl: the control port is not known: --control PORT names it, or the variable "
+                                                    "BG_CONTROL, or a plan (--plan FILE, BG_PLAN)\n"))
+        self.assertEqual(run("status", BG_CONTROL="8o82").told, "bgctl: BG_CONTROL: the control port is wanted, a number from 1 to 65535, "
+                         "and not '8o82'\n")
+        self.assertEqual(run("status", "--control", "0").status, 2)
+
+    def test_a_plan_that_cannot_be_read_is_told_whatever_else_names_the_port(self) -> None:
+        words, path = ("abort", "--control", str(self.switch.port)), "/none/plan.json"
+        for told in (run(*words, "--plan", path), run(*words, BG_PLAN=path)):
+            self.assertEqual((told.status, told.told),
+                             (2, "bgctl: /none/plan.json is no plan: it can't be read: No such file or directory\n"))
+        self.assertEqual(self.switch.orders(), [])
+
+    def test_nobody_answers(self) -> None:
+        told = run("promote", "--control", str(free_port()), "--request-timeout", "0.2")
+        self.assertEqual((told.status, told.printed, "can't be reached" in told.told), (2, "", True))
+
+
+class Orders(Ordered):
+    def test_they_are_the_lines_of_operators(self) -> None:
+        """The same output and the same statuses as those of bin/operator."""
+        for words in (["status"], ["status", "--json"], ["promote"], ["abort"], ["retry"], ["wait", "settled"],
+                      ["wait", "stable=web-v9", "--timeout", "5"], ["wait", "settled", "--json"]):
+            with self.subTest(words):
+                ours, theirs = self.bgctl(*words), run(str(self.switch.port), *words, tool="operator")
+                self.assertEqual((ours.printed, ours.status), (theirs.printed, theirs.status))
+                self.assertEqual(ours.told, theirs.told.replace("operator: ", "bgctl: "))
+
+    def test_promotions(self) -> None:
+        self.by_hand("deploy web-v2 3 4")
+        self.assertEqual(self.bgctl("promote")[::2], ("refused NotPaused\n", 1))
+        self.by_hand("available 2 2")
+        self.assertEqual(self.bgctl("promote", "--json").status, 0)
+        self.by_hand("deploy web-v1 1 2")
+        self.assertEqual(self.bgctl("promote", "--full").status, 0)
+        self.assertEqual(self.switch.orders(), ["promote", "promote", "promote full"])
+
+    def test_abort_and_retry(self) -> None:
+        self.by_hand("deploy web-v2 3 4", "available 2 2")
+        self.assertEqual((self.bgctl("abort").printed, self.bgctl("status").status), ("ok 0\n", 1))
+        self.assertEqual((self.bgctl("retry").status, self.bgctl("status").status), (0, 0))
+        self.by_hand("available 1 0")
+        self.assertEqual(self.bgctl("status").status, 3)
+
+    def test_lines(self) -> None:
+        self.assertEqual(self.bgctl("line", "tick", "5"), ("ok 0\n", "", 0))
+        self.assertEqual(self.bgctl("line", lines="tick 6\npromote\ntick 7\n")[::2], ("ok 0\nrefused NotPaused\n", 1))
+        self.assertEqual(json.loads(self.bgctl("line", "--json", "jump").printed)["reply"], "fault UnknownWord")
+        self.assertEqual(self.bgctl("line", "tick", "999999")[::2], ("", 1))
+        self.assertEqual(self.bgctl("line", "--yes", "tick", "999999").status, 0)
+
+    def test_a_shutdown_asks_at_a_terminal_alone(self) -> None:
+        self.assertEqual((self.bgctl("shutdown").status, self.switch.orders()), (2, []))
+        self.assertEqual((self.bgctl("shutdown", "--yes").status, self.switch.orders()), (0, ["quit"]))
+
+    def test_interrupted(self) -> None:
+        with mock.patch("bg_switch_tools.operator_command.ask", side_effect=KeyboardInterrupt):
+            self.assertEqual(self.bgctl("status").status, 130)
+
+
+class OtherTools(Ordered):
+    """The commands that are tools of their own."""
+
+    def handed_on(self, function: str, *words: str, **variables: str) -> list[object]:
+        """What a tool is given."""
+        with mock.patch(f"bg_switch_tools.{function}", return_value=0) as tool:
+            self.assertEqual(run(*words, **variables).status, 0)
+        return list(tool.call_args.args)
+
+    def test_check_and_controller(self) -> None:
+        with tempfile.TemporaryDirectory() as folder:
+            path = os.path.join(folder, "plan.json")
+            pathlib.Path(path).write_text('{"control": 8082, "revisions": [{"name": "web-v1", "ports": [1]}]}', encoding="ascii")
+            for words in (("check", path), ("check", "--plan", path), ("--plan", path, "check")):
+                self.assertEqual(run(*words), (f"{path} is a plan\n", "", 0))
+            self.assertEqual(run("check", BG_PLAN=path).status, 0)
+            pathlib.Path(path).write_text('{"control": 0}', encoding="ascii")
+            self.assertEqual(run("check", path), ("revisions: is missing\ncontrol: 0 is below 1\n", "", 1))
+            for words in (("controller", path, "--json"), ("controller", "--json", "--plan", path)):
+                self.assertEqual(self.handed_on("controller_command.run", *words), [path, True])
+
+    def test_analysis(self) -> None:
+        words = ["--log", "f", "--seconds", "1", "--revision", "web-v1"]
+        self.assertEqual(self.handed_on("analysis_command.main", "analysis", *words), [words])
+        self.assertEqual(self.handed_on("analysis_command.main", "analysis", *words, "--control", "5", BG_CONTROL="6"),
+                         [[*words, "--control", "5"]])
+        self.assertEqual(self.handed_on("analysis_command.main", "analysis", *words, BG_CONTROL="6"), [[*words, "--control", "6"]])
+        self.assertEqual(self.handed_on("analysis_command.main", "--control", "7", "analysis", *words), [[*words, "--control", "7"]])
+
+    def test_dashboard(self) -> None:
+        self.assertEqual(self.handed_on("dashboard.dashboard_command.main", "dashboard", "--listen", "8090", "--read-only", BG_CONTROL="6"),
+                         [["6", "--listen", "8090", "--log", "", "--read-only"]])
+
+    def test_prompt(self) -> None:
+        with mock.patch("builtins.input", side_effect=["tick 5", "exit"]):
+            told = self.bgctl("prompt")
+        self.assertEqual((told.status, self.switch.orders(), "tick 5" in self.switch.lines), (0, [], True))
+
+    def test_they_are_one_file_as_well(self) -> None:
+        with tempfile.TemporaryDirectory() as folder:
+            archive = os.path.join(folder, "tools.pyz")
+            zipapp.create_archive(TOP / "lib", archive, filter=lambda path: "__pycache__" not in path.parts)
+            told = subprocess.run([sys.executable, archive, "bgctl", "promot"], capture_output=True, text=True)
+        self.assertEqual((told.returncode, told.stderr), (2, "bgctl: there is no command promot; did you mean promote?\n"))
+
+    def test_no_library_is_needed(self) -> None:
+        """Python's standard library alone, without what Debian or anybody has installed, carries an order out."""
+        words = [sys.executable, "-I", "-S", "-B", str(TOP / "lib"), "bgctl", "status", "--control", str(self.switch.port)]
+        told = subprocess.run(words, capture_output=True, text=True)
+        self.assertEqual((told.returncode, told.stdout[:7], told.stderr), (0, "steady:", ""))
+
+
+class WithoutAPlan(Ordered):
+    def test_deploy(self) -> None:
+        self.assertEqual(self.bgctl("deploy", "web-v2", "3", "4"), ("ok 0\n", "bgctl: makes revision 2 web-v2\n", 0))
+        self.assertEqual(self.bgctl("deploy", "web-v2", "3", "4").status, 0)
+        self.by_hand("abort")
+        self.assertEqual(self.bgctl("deploy", "web-v2", "3", "4").status, 1)
+        self.assertEqual(self.bgctl("deploy", "web-v3", "3")[::2], ("refused BadPorts\n", 1))
+        self.assertEqual(self.bgctl("deploy", "web-v3", "0", "1").status, 2)
+
+    def test_deploy_and_wait(self) -> None:
+        self.assertEqual(self.bgctl("deploy", "web-v2", "3", "4", "--wait", "--timeout", "0.5").status, 2)
+        self.by_hand("available 2 2", "promote")
+        waited = self.bgctl("deploy", "web-v2", "3", "4", "--wait", "--timeout", "5")
+        self.assertEqual((waited.status, "steady: active web-v2" in waited.printed), (0, True))
+        self.by_hand("deploy web-v3 5 6")
+
+        def aborted_by_another(_: str) -> int:
+            self.by_hand("abort")
+            return 0
+        with mock.patch("bg_switch_tools.bgctl.session.Session.line", side_effect=aborted_by_another):
+            aborted = self.bgctl("deploy", "web-v3", "5", "6", "--wait", "--timeout", "5")
+        self.assertEqual((aborted.status, "the attempt of web-v3 was aborted" in aborted.told), (1, True))
+
+    def test_undo_while_the_attempt_runs(self) -> None:
+        self.by_hand("deploy web-v2 3 4")
+        told = self.bgctl("undo")
+        self.assertEqual((told.status, self.switch.orders()), (2, []))
+        self.assertIn("the ports of web-v1 are not known, since the switch does not report them: --ports PORT.. names them", told.told)
+        self.assertEqual(self.bgctl("undo", "--ports", "1", "2").status, 0)
+        self.assertEqual((self.switch.orders(), self.switch.book.newest), (["deploy web-v1 1 2"], 1))
+
+    def test_undo_to_a_name_or_a_number(self) -> None:
+        self.by_hand("deploy web-v2 3 4", "available 2 2", "promote", "deploy web-v3 5 6", "abort")
+        self.assertEqual(self.bgctl("undo", "--to", "1", "--ports", "1", "2").status, 0)
+        self.assertEqual(self.bgctl("undo", "--to", "web-v3", "--ports", "5", "6").status, 0)
+        self.assertEqual(self.switch.orders(), ["deploy web-v1 1 2", "deploy web-v3 5 6"])
+        self.assertEqual(self.bgctl("undo", "--to", "web-v33").told, "bgctl: no revision web-v33 is known; did you mean web-v3?\n")
+        self.assertEqual(self.bgctl("undo", "--to", "9").status, 2)
+
+    def test_undo_that_is_not_clear(self) -> None:
+        self.assertEqual(self.bgctl("undo").told, "bgctl: no revision is known that was stable before web-v1: --to NAME names "
+                         "another one\n")
+        self.by_hand("deploy web-v2 3 4", "abort", "deploy web-v3 5 6", "available 3 2", "promote")
+        self.assertEqual(self.bgctl("undo").told, "bgctl: no history tells which revision was stable before web-v3: --to NAME names one "
+                         "of web-v1, web-v2\n")
+        self.assertEqual(self.switch.orders(), [])
+
+    def test_what_needs_a_plan(self) -> None:
+        for command in ("history", "pause", "resume", "check", "controller"):
+            told = self.bgctl(command)
+            self.assertEqual((told.status, "--plan FILE or the variable BG_PLAN names the plan" in told.told), (2, True), command)
+
+
+if __name__ == "__main__":
+    unittest.main()

@@ -1,0 +1,88 @@
+"""The completions and the manual pages of bgctl, where the tools of Debian that make them are installed."""
+import os
+import pathlib
+import shutil
+import subprocess
+import tempfile
+import unittest
+
+from bg_switch_tools.bgctl.command_table import COMMANDS, NAMES
+from tests.scenes import TOP
+
+PYTHON = "/usr/bin/python3"
+SCRIPT = TOP / "scripts" / "bgctl_share.py"
+
+
+def output(words: list[str], **variables: str) -> str:
+    """What a program prints; its status is 0."""
+    return subprocess.run(words, check=True, capture_output=True, text=True, env={**os.environ, **variables}).stdout
+
+
+def missing() -> list[str]:
+    """What is not installed of what makes the files."""
+    libraries = ("shtab", "argcomplete") if os.path.exists(PYTHON) else ()
+    absent = [name for name in libraries if subprocess.run([PYTHON, "-c", f"import {name}"], capture_output=True).returncode]
+    return [*absent, *([] if libraries else [PYTHON]), *([] if shutil.which("help2man") else ["help2man"])]
+
+
+class Share(unittest.TestCase):
+    folder: pathlib.Path
+
+    @classmethod
+    def setUpClass(cls) -> None:
+        if absent := missing():
+            raise unittest.SkipTest(f"not installed: {', '.join(absent)}")
+        held = tempfile.TemporaryDirectory()
+        cls.addClassCleanup(held.cleanup)
+        cls.folder = pathlib.Path(held.name)
+        output([str(SCRIPT), held.name])
+
+    def needs(self, tool: str) -> None:
+        if shutil.which(tool) is None:
+            self.skipTest(f"not installed: {tool}")
+
+    def completed(self, shell: str, line: str) -> str:
+        """What a shell prints, which has the completions of this folder and bgctl on its path."""
+        return output([shell, "-c", line], PATH=f"{TOP / 'bin'}:{os.environ['PATH']}", SHARE=str(self.folder))
+
+    def test_each_command_has_a_page_with_its_example(self) -> None:
+        pages = {path.stem: path.read_text(encoding="utf-8") for path in (self.folder / "man" / "man1").iterdir()}
+        self.assertEqual(set(pages), {"bgctl", *(f"bgctl-{name}" for name in NAMES)})
+        for command in COMMANDS:
+            with self.subTest(command.name):
+                text = pages[f"bgctl-{command.name}"]
+                self.assertIn(f".SH NAME\nbgctl-{command.name} \\- {command.meaning}\n", text)
+                self.assertIn(".SH SYNOPSIS\n", text)
+                self.assertIn(command.example, text.replace("\\fB", "").replace("\\fR", "").replace("\\-", "-"))
+
+    def test_the_pages_are_well_formed(self) -> None:
+        self.needs("man")
+        page = self.folder / "man" / "man1" / "bgctl.1"
+        told = subprocess.run(["man", "--warnings", "-l", str(page)], check=True, capture_output=True, text=True)
+        self.assertEqual(told.stderr, "")
+        self.assertIn("no endpoint of the active revision is available", " ".join(told.stdout.split()))
+
+    def test_bash(self) -> None:
+        told = self.completed("bash", """. "$SHARE/bash-completion/completions/bgctl"
+            COMP_LINE='bgctl --plan p de'; COMP_POINT=17; COMP_TYPE=9; COMP_WORDS=(bgctl --plan p de); COMP_CWORD=3
+            IFS=$'\\013' _python_argcomplete bgctl; printf '%s\\n' "${COMPREPLY[@]}" """)
+        self.assertEqual(told.strip(), "deploy")
+
+    def test_fish(self) -> None:
+        self.needs("fish")
+        told = self.completed("fish", "source $SHARE/fish/vendor_completions.d/bgctl.fish; complete -C 'bgctl de'; "
+                              "complete -C 'bgctl deploy --w'")
+        self.assertEqual([line.split("\t")[0] for line in told.splitlines()], ["deploy", "--wait"])
+
+    def test_zsh(self) -> None:
+        self.needs("zsh")
+        path = self.folder / "zsh" / "vendor-completions" / "_bgctl"
+        output(["zsh", "-n", str(path)])
+        text = path.read_text(encoding="utf-8")
+        for command in COMMANDS:
+            self.assertIn(f'"{command.name}:', text)
+        self.assertIn('"--wait[', text)
+
+
+if __name__ == "__main__":
+    unittest.main()
