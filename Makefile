@@ -1,5 +1,6 @@
 # check: for the working day.  build: proves and builds the program.  test: the gate.  demo: the examples.  demo-live: a
-# rollout under traffic, and one that its analysis takes back.  bench: times.  tools: one file of the Python tools.  lint, test-tools: judge and test them.  NAME:
+# rollout under traffic, and one that its analysis takes back.  bench: times.  tools: one file of the Python tools.  share: completions and
+# manual pages of bgctl.  lint, test-tools: judge and test them.  NAME:
 # proves and builds the library NAME and what it stands on.
 CRATES := $(shell sed -n 's/^\([a-z_]*\)[^:]*:.*/\1/p' crates.txt)
 LIBRARIES := $(foreach crate,$(CRATES),$(if $(wildcard crates/$(crate)/src/lib.rt),$(crate)))
@@ -10,11 +11,11 @@ below = $(filter $(LIBRARIES),$(shell sed -n 's/^$(1)\( [^:]*\)*: *//p' crates.t
 PROCESSORS := $(shell nproc)
 CHECKS := $(shell count=$$(nproc); [ $$count -lt 3 ] || count=3; echo $$count)
 GROUPS := group-rules group-http group-others
-BENCHES := $(filter-out bench/run.sh,$(wildcard bench/*.sh))
+BENCHES := $(filter-out bench/run.sh,$(wildcard bench/*.sh)) bench/sick_endpoint.py
 PYTHON := $(shell git ls-files '*.py')
 ARCHIVE := out/bg_switch_tools.pyz
 
-.PHONY: check build test lint tools test-tools demo demo-live bench $(GROUPS) $(LIBRARIES)
+.PHONY: check build test lint tools share test-tools deb dist demo demo-live bench $(GROUPS) $(LIBRARIES)
 
 check:
 	rt all check
@@ -48,6 +49,7 @@ test:
 	scripts/whole_program.sh
 	scripts/live.sh
 	scripts/refused_memory.sh
+	scripts/package.sh
 
 lint:
 	@command -v mypy > /dev/null || { echo 'lint needs mypy: apt-get install mypy, or pip install mypy' >&2; exit 1; }
@@ -61,7 +63,19 @@ tools:
 	@mkdir -p out
 	@find lib -name __pycache__ -prune -exec rm -rf {} +
 	@python3 -m zipapp lib --python '/usr/bin/env python3' --output $(ARCHIVE)
+	@chmod 755 $(ARCHIVE)
 	@echo 'the tools are one file now, $(ARCHIVE): $(ARCHIVE) operator 8082 status, $(ARCHIVE) controller PLAN.json'
+
+# Completions and manual pages of bgctl, in out/share.
+share:
+	scripts/bgctl_share.py out/share
+
+# A Debian package, and a tar with the same files, of the built program or of the one that BG_SWITCH_PROGRAM names.
+deb: $(if $(BG_SWITCH_PROGRAM),,build)
+	packaging/build.sh deb
+
+dist: $(if $(BG_SWITCH_PROGRAM),,build)
+	packaging/build.sh dist
 
 demo: build
 	bin/bg_switch check < examples/direct.json
