@@ -13,7 +13,7 @@ LEAST_BLOCKS = 8
 # Parts of a line of the log that stand for what differs from line to line.
 PLACES = re.compile(r"\bNAME\b|\bN\b|\bA\b|\bB\b|\bR\b|\.\.|\bLINE\b|\bREPLY\b|\bpre\b")
 
-SWITCH_PLACES = re.compile(r"\bactive\b|\bN\b|\bM\b|\bP\b|\bWORD\b|\bFILE\b|\.\.|\b60\b|\b1000000\b|\bBG_SWITCH_\w+")
+SWITCH_PLACES = re.compile(r"\bactive\b|\bN\b|\bM\b|\bP\b|\bWORD\b|\bFILE\b|\bLINE\b|\bNAME\b|\.\.|\b60\b|\b1000000\b|\bBG_SWITCH_\w+")
 
 
 def session() -> None:
@@ -38,8 +38,9 @@ def lines_of_the_log() -> None:
 
 
 def lines_of_the_switch() -> None:
-    """The same of the lines that the switch writes to standard error."""
-    source = "".join(path.read_text(encoding="utf-8") for path in (TOP / "crates" / "bg_switch" / "src").glob("*.rt"))
+    """The same of the lines that the switch writes to standard error. Faults of a list of users are named in bg_peers."""
+    source = "".join(path.read_text(encoding="utf-8") for crate in ("bg_switch", "bg_peers")
+                     for path in (TOP / "crates" / crate / "src").glob("*.rt"))
     parts = explained("What the switch writes to standard error", SWITCH_PLACES)
     check("parts of lines that the switch doesn't write", sorted(part for part in parts if part not in source), [])
     check("parts of the switch's lines", len(parts) > 10, True)
