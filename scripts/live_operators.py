@@ -9,13 +9,14 @@ import sys
 import threading
 import time
 from collections.abc import Iterator
+from functools import partial
 
 from support import checks, processes
 from support.checks import check, check_within, comes
 from support.clients import connect, received
 from support.endpoints import Endpoint, by_target
 from support.messages import BY_HAND
-from support.ports import free_ports
+from support.ports import LOCAL, STATE, TABLE, free_ports
 from support.processes import Run
 from support.switch import LISTENING, PROGRAM, Switch, words_of_serve
 from support.told import orders_told, told, turned_away
@@ -23,6 +24,8 @@ from support.users import NOBODY, connect_as, is_root
 
 VARIABLE = "BG_SWITCH_OPERATORS"
 ROOT = 0
+# The column of the user in the system's table of sockets, and the state of one that waits for the end of the other side.
+USER, ENDED = 7, "05"
 NOT_ALLOWED = b"refused NotAllowed\n"
 # How long an order waits at most beside connections of others; and one of a new connection. A busy machine keeps it.
 AT_ONCE, PROMPT = 0.3, 1.0
@@ -111,6 +114,12 @@ def lists_that_cannot_be_used() -> None:
         check(f"the list {users!r}", run_with(users), Run("", f"bg_switch: {VARIABLE}: {why}\n", 1))
 
 
+def is_listed_as_root(port: int) -> bool:
+    """Whether the system lists a socket at this port that has ended its output, as one of root."""
+    rows = [line.split() for line in TABLE.read_text(encoding="ascii").splitlines() if f":{port:04X} " in line]
+    return any(row[LOCAL].endswith(f":{port:04X}") and row[STATE] == ENDED and row[USER] == str(ROOT) for row in rows)
+
+
 def gone_before_it_is_looked_at() -> None:
     """A socket that its process has closed belongs to nobody, though the system's table lists it as one of root: lines that it
     has sent before aren't carried out."""
@@ -119,8 +128,10 @@ def gone_before_it_is_looked_at() -> None:
         os.kill(switch.process.pid, signal.SIGSTOP)
         for text in (b"tick 7\n", b"quit\n"):
             connection = connect_as(NOBODY, switch.control)
+            port = connection.getsockname()[1]
             connection.sendall(text)
             connection.close()
+            check("the system lists its socket as one of root", comes(partial(is_listed_as_root, port)), True)
         os.kill(switch.process.pid, signal.SIGCONT)
         check("the lines of a user that has gone", report_of(switch), before)
         gone = comes(lambda: sum(int(match[1]) for match in told(switch, turned_away())) == 2)

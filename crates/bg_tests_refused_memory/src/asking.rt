@@ -28,8 +28,8 @@ pub fn change<R: Print + Eprint, S: Subject>(
     say_made(rt, name)
 }
 
-/// Makes a call. A refused call must not change the display of the subject; if it does, standard output says so.
-fn make<R: Print + Eprint, S: Subject>(
+/// Makes a call, and repeats it if it was refused. A refused call must not change the display of the subject; if it does, standard output says so.
+pub fn make<R: Print + Eprint, S: Subject>(
     rt: &R,
     name: &str,
     subject: &mut S,

@@ -2,7 +2,7 @@
 ghost use Rattle.std.specs.Prelude.{◌≡◌};
 ghost use Rattle.bg_ledger.specs.Blanks.{AreAllFor};
 
-use crate::asking::{Subject, change, say_made, say_refused};
+use crate::asking::{Subject, change, make, say_made, say_refused};
 use crate::desks::{Desk, available};
 use crate::stop::Stop;
 use crate::strategies::base_strategy;
@@ -14,6 +14,10 @@ use std::marker::Brand;
 
 /// The number of seats.
 const SEATS: u32 = 200;
+
+/// The number of moments that are recorded beside a request at each seat. The history has grown for requests before,
+/// to at most twice what they need, and these fill it.
+const MOMENTS: u64 = 1_000;
 
 /// A desk at whose seats requests enter and stay. Its display is short, since that of two hundred seats fits no page.
 #[derive(Drop)]
@@ -90,16 +94,26 @@ fn make_calls_at<N: Names, R: AllocGlobal + Print + Eprint>(
     say_made(rt, "Book::open_with_many_seats")?;
     record(rt, desk, "Book::control at many seats", available())?;
     enter_all(rt, desk)?;
-    record(
-        rt,
-        desk,
-        "Book::control beside many requests",
-        Control::Tick(1),
-    )?;
+    record_moments(rt, desk)?;
     leave_all(desk)
 }
 
-/// Records an event, which reserves room for the open requests too.
+/// Records so many moments that the history has to grow. Each reserves room for the open requests too.
+fn record_moments<N: Names, R: Print + Eprint>(rt: &R, desk: &mut Desk<N>) -> Result<(), Stop> {
+    let name = "Book::control beside many requests";
+    let mut recording = Recording { desk };
+    for moment in 1..=MOMENTS {
+        make(
+            rt,
+            name,
+            &mut recording,
+            &Call::Control(Control::Tick(moment)),
+        )?;
+    }
+    say_made(rt, name)
+}
+
+/// Records an event.
 fn record<N: Names, R: Print + Eprint>(
     rt: &R,
     desk: &mut Desk<N>,
