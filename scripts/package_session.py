@@ -30,6 +30,8 @@ ACTIVE, PREVIEW, CONTROL, PAGE = 8080, 8081, 8082, 8090
 ENDPOINTS = {"v1": (9101, 9102), "v2": (9201, 9202)}
 SOON = 30  # seconds for a command
 CLIENTS = 4
+# A user without rights of whom the switch takes orders, by the list in its unit.
+OPERATOR = "bg-controller"
 
 
 class Unit:
@@ -97,7 +99,7 @@ def told(words: Sequence[str], user: str = "nobody") -> tuple[str, int]:
 
 def order(line: str, reply: str) -> None:
     """A check of the reply to a line of an operator."""
-    check(line, told(["bg-operator", str(CONTROL), *line.split()]), (reply, 0))
+    check(line, told(["bg-operator", str(CONTROL), *line.split()], OPERATOR), (reply, 0))
 
 
 def asked(port: int, target: str = "/") -> tuple[int, str]:
@@ -241,7 +243,9 @@ def by_hand() -> None:
     shutil.copy(DOCUMENTS / "examples" / "live" / "rollout.json", "/etc/bg/rollout.json")
     unit = Unit("bg-switch")
     with unit.running() as switch:
-        check("the control port answers", comes(lambda: told(["bg-operator", str(CONTROL), "status"])[0] != ""), True)
+        words = ["bg-operator", str(CONTROL), "status"]
+        check("the control port answers", comes(lambda: told(words, OPERATOR)[0] != ""), True)
+        check("a user who is not in the list gets no answer", told(words), ("", 2))
         open_and_roll_back()
         judge_log()
         rotate()
@@ -256,7 +260,7 @@ def by_controller() -> None:
     switch = Unit("bg-switch")
     with switch.running() as serving, Unit("bg-controller").running() as controller:
         words = ["bg-operator", str(CONTROL), "wait", "stable=media-v1", "--wait", "10", "--timeout", "20"]
-        check("the book is opened", told(words)[1], 0)
+        check("the book is opened", told(words, OPERATOR)[1], 0)
         check("clients are answered", comes(partial(answers, ACTIVE)), True)
         check("clients", asked(ACTIVE), (200, "hello from v1"))
         check("the state file", comes(PLAN.with_name("plan.json.state").exists), True)
