@@ -117,10 +117,12 @@ wait "$slow"
 judge 'p99 of 8 fast clients beside 100 slow ones to their p99 alone' \
     "$(over "$(millis "$(awk '$1 == "99%" {print $2}' beside)")" "$(millis "$(awk '$1 == "99%" {print $2}' alone)")")" 2 at-most
 
-# System calls of a request under load, of all threads.
+# System calls of a request under load, of all threads. A switch of its own: the one before still looks up whether its 100
+# slow clients have gone, which reads the whole table of sockets.
+switch_at 18340 19300 --concurrency 255
 strace -c -f -o calls -p "$switch" 2> /dev/null & tracer=$!
 sleep 1
-wrk -t1 -c64 -d3s -H 'Connection: close' http://127.0.0.1:18320/ > load 2>&1
+wrk -t1 -c64 -d3s -H 'Connection: close' http://127.0.0.1:18340/ > load 2>&1
 kill -INT "$tracer"; wait "$tracer" 2> /dev/null
 requests=$(awk '/requests in/ {print $1}' load)
 calls=$(awk '$4 + 0 > 0 && $NF != "total" {t += $4} END {print t}' calls)
