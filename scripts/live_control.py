@@ -11,9 +11,8 @@ from collections.abc import Iterator
 from support import checks, processes
 from support.checks import check, check_within, comes
 from support.clients import SMALL_BUFFER, connect, received, send_in_pieces, timed_for
-from support.endpoints import Endpoint, by_target
 from support.messages import BY_HAND
-from support.switch import LISTENING, Switch
+from support.switch import Switch, book
 from support.told import accepts_fail, check_told_once, told
 
 # How long, in seconds, an order waits at most. Where another connection kept it out, it would wait for as long as that
@@ -44,19 +43,6 @@ BROWSERS = {
 # Faulty lines that aren't HTTP, and their faults.
 FAULTS = {b"jump": "UnknownWord", b"": "Empty", b"tick x": "BadNumber", b"tick\t5": "NotAscii",
           b"GET / HTTP": "UnknownWord", b": x": "UnknownWord", b"a b: c": "UnknownWord"}
-
-
-@contextlib.contextmanager
-def book(*, is_open: bool = True, rollout: str = BY_HAND) -> Iterator[Switch]:
-    """A switch whose book is open, or isn't."""
-    switch = Switch(rollout, workers=2)
-    check("listening", switch.first, LISTENING)
-    if is_open:
-        check("open", switch.order(f"open one {Endpoint(by_target(b'one')).port}"), "ok 0")
-    try:
-        yield switch
-    finally:
-        switch.stop()
 
 
 def check_order(name: str, switch: Switch, line: str, most: float = SOON) -> None:

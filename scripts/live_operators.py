@@ -18,7 +18,7 @@ from support.endpoints import Endpoint, by_target
 from support.messages import BY_HAND
 from support.ports import LOCAL, STATE, TABLE, free_ports
 from support.processes import Run
-from support.switch import LISTENING, PROGRAM, Switch, words_of_serve
+from support.switch import LISTENING, PROGRAM, Switch, book, words_of_serve
 from support.told import orders_told, told, turned_away
 from support.users import NOBODY, connect_as, is_root
 
@@ -36,14 +36,8 @@ STRANGERS, CALLERS = 1500, 40
 @contextlib.contextmanager
 def switch_of(users: str, *, is_open: bool = True) -> Iterator[Switch]:
     """A switch that serves these users, whose book is open, or isn't. This script's own user is one of them."""
-    switch = Switch(BY_HAND, workers=2, variables={VARIABLE: users})
-    check(f"listening for {users}", switch.first, LISTENING)
-    if is_open:
-        check("open", switch.order(f"open one {Endpoint(by_target(b'one')).port}"), "ok 0")
-    try:
+    with book(is_open=is_open, variables={VARIABLE: users}) as switch:
         yield switch
-    finally:
-        switch.stop()
 
 
 def asked_as(user: int, switch: Switch, text: bytes) -> bytes:

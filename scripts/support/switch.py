@@ -9,7 +9,8 @@ from typing import NamedTuple
 
 from support import TOP, clients, processes
 from support.checks import check, comes, fail
-from support.messages import ROLLOUT
+from support.endpoints import Endpoint, by_target
+from support.messages import BY_HAND, ROLLOUT
 from support.operators import Operator
 from support.ports import free_ports
 
@@ -195,6 +196,19 @@ def serving(endpoint: int, rollout: str = ROLLOUT, *, workers: int = 1, timeout:
     """The same, for ever, and with no operator: it is ended at the end of the block."""
     switch, operator = opened(endpoint, rollout, workers=workers, timeout=timeout, descriptors=descriptors)
     operator.close()
+    try:
+        yield switch
+    finally:
+        switch.stop()
+
+
+@contextlib.contextmanager
+def book(*, is_open: bool = True, rollout: str = BY_HAND, variables: Mapping[str, str] | None = None) -> Iterator[Switch]:
+    """A switch with these variables of the environment, whose book is open, or isn't."""
+    switch = Switch(rollout, workers=2, variables=variables)
+    check("listening", switch.first, LISTENING)
+    if is_open:
+        check("open", switch.order(f"open one {Endpoint(by_target(b'one')).port}"), "ok 0")
     try:
         yield switch
     finally:
