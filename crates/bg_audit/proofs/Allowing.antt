@@ -11,13 +11,13 @@ use Rattle.bg_revisions.specs.declared.revision.Revision.{Revision}
 use Rattle.bg_revisions.specs.Rosters.{numbered, named, has_template}
 use Rattle.bg_history.specs.declared.entry.Entry.{Entry}
 use Rattle.bg_history.specs.Kept.{Template, Opening}
-use Rattle.bg_history.specs.Turns.{newest_of}
+use Rattle.bg_history.specs.AttemptBounds.{newest_of}
 use Rattle.bg_history.specs.Selections.{active_of, preview_of}
 use Rattle.bg_history.specs.Sizes.{existing, last_number, desired, available}
 use Rattle.bg_history.specs.Requests.{Request, open_requests, held_by, request_numbers}
 use Rattle.bg_history.specs.Deadlines.{exists_in}
-use Rattle.bg_history.specs.Templates.{template, is_named, has_ports, owner}
-use Rattle.bg_history.specs.Allowed.{is_template, fits_owner, selection, has_value, port_in, port_of, may_enter, holds}
+use Rattle.bg_history.specs.Templates.{template, is_named, has_ports, namesake}
+use Rattle.bg_history.specs.Allowed.{is_template, fits_namesake, selection, has_value, port_in, port_of, may_enter, holds}
 use Rattle.bg_history_laws.specs.Reachable.{Reachable}
 use Rattle.bg_history_laws.specs.Listed.{sized, revision_of, revisions_of}
 use Rattle.bg_audit.specs.declared.facts.Facts.{Facts}
@@ -37,9 +37,9 @@ templated name ports r n m (Some t) h = refl
 
 -- the template of the newest revision
 pub newest-template : (s : Strategy) (o : Opening) (p : List Entry) (f : Facts) (name ports : List ℕ) → Knows s o p f → Reachable s o p → Finds s o p (newest_of p)
-    → has_template name ports (numbered f.course.newest f.revisions.items) ≡ is_template name ports (template o (newest_of p) p)
+    → has_template name ports (numbered f.state.newest f.revisions.items) ≡ is_template name ports (template o (newest_of p) p)
 newest-template s o p f name ports known reach finds =
-    ap (λ r. has_template name ports (numbered r f.revisions.items)) known.course.newest_is
+    ap (λ r. has_template name ports (numbered r f.revisions.items)) known.state.newest_is
     ∙ ap (has_template name ports) (found-there s o p (newest_of p) f.revisions.items known.revisions finds reach.newest)
     ∙ templated name ports (newest_of p) (desired s (newest_of p) p) (available (newest_of p) p) (template o (newest_of p) p) (reach.templates (newest_of p) reach.newest)
 
@@ -48,17 +48,17 @@ owned : (r : ℕ) (ports : List ℕ) (q n m : ℕ) (t : Option Template) → is_
 owned r ports q n m None h = absurd (cc)
 owned r ports q n m (Some t) h = refl
 
--- the owner of a name
-pub owner-fits : (s : Strategy) (o : Opening) (p : List Entry) (f : Facts) (r : ℕ) (name ports : List ℕ) → Knows s o p f → Reachable s o p
-    → named name (revisions_of s o p) ≡ option_map (revision_of s o p) (owner o name p) → length (revisions_of s o p) ≡ length (existing p)
-    → fits_named (named name f.revisions.items) r ports f.course.last (length f.revisions.items) ≡ fits_owner o (owner o name p) r ports p
-owner-fits s o p f r name ports known reach law count =
-    ap (λ vs. fits_named (named name vs) r ports f.course.last (length vs)) known.revisions
-    ∙ ap (λ v. fits_named v r ports f.course.last (length (revisions_of s o p))) law
-    ∙ ap (λ n. fits_named (option_map (revision_of s o p) (owner o name p)) r ports n (length (revisions_of s o p))) known.course.last_is
-    ∙ ap (λ n. fits_named (option_map (revision_of s o p) (owner o name p)) r ports (last_number p) n) count
-    ∙ go (owner o name p) refl where
-      go : (q : Option ℕ) → owner o name p ≡ q → fits_named (option_map (revision_of s o p) q) r ports (last_number p) (length (existing p)) ≡ fits_owner o q r ports p
+-- the namesake of a name
+pub namesake-fits : (s : Strategy) (o : Opening) (p : List Entry) (f : Facts) (r : ℕ) (name ports : List ℕ) → Knows s o p f → Reachable s o p
+    → named name (revisions_of s o p) ≡ option_map (revision_of s o p) (namesake o name p) → length (revisions_of s o p) ≡ length (existing p)
+    → fits_named (named name f.revisions.items) r ports f.state.last (length f.revisions.items) ≡ fits_namesake o (namesake o name p) r ports p
+namesake-fits s o p f r name ports known reach law count =
+    ap (λ vs. fits_named (named name vs) r ports f.state.last (length vs)) known.revisions
+    ∙ ap (λ v. fits_named v r ports f.state.last (length (revisions_of s o p))) law
+    ∙ ap (λ n. fits_named (option_map (revision_of s o p) (namesake o name p)) r ports n (length (revisions_of s o p))) known.state.last_is
+    ∙ ap (λ n. fits_named (option_map (revision_of s o p) (namesake o name p)) r ports (last_number p) n) count
+    ∙ go (namesake o name p) refl where
+      go : (q : Option ℕ) → namesake o name p ≡ q → fits_named (option_map (revision_of s o p) q) r ports (last_number p) (length (existing p)) ≡ fits_namesake o q r ports p
       go None is = refl
       go (Some q) is =
           owned r ports q (desired s q p) (available q p) (template o q p) (reach.templates q (found-member (λ x. is_named name (template o x p)) q (existing p) is))

@@ -9,7 +9,7 @@ use Rattle.bg_revisions.specs.Rosters.{numbered}
 use Rattle.bg_history.specs.declared.entry.Entry.{Entry}
 use Rattle.bg_history.specs.declared.entry.Outcome.TheVariants.{ScaledDown, Removed}
 use Rattle.bg_history.specs.Kept.{Template, Opening}
-use Rattle.bg_history.specs.Turns.{moment}
+use Rattle.bg_history.specs.AttemptBounds.{moment}
 use Rattle.bg_history.specs.Selections.{is_selected}
 use Rattle.bg_history.specs.Sizes.{existing, desired, available, is_scaled}
 use Rattle.bg_history.specs.Templates.{template}
@@ -19,9 +19,9 @@ use Rattle.bg_history.specs.Requests.{Request, open_requests, open_at}
 use Rattle.bg_history.specs.Deadlines.{exists_in, is_spare, is_left, left_later, rank_after, reaches_limit, is_reached, time_of, marks_due, is_empty, may_scale_down, is_old, old_revisions, is_first, may_remove}
 use Rattle.bg_history.specs.Steps.{is_settled}
 use Rattle.bg_history_laws.specs.Listed.{sized, revision_of, revisions_of}
-use Rattle.bg_audit.specs.declared.course.Course.{Course}
+use Rattle.bg_audit.specs.declared.audited_state.AuditedState.{AuditedState}
 use Rattle.bg_audit.specs.declared.facts.Facts.{Facts}
-use Rattle.bg_audit.specs.Course.{IsCourse}
+use Rattle.bg_audit.specs.AuditedState.{IsAuditedState}
 use Rattle.bg_audit.specs.Marked.{kind_told, mark_told, mark_there, mark_in}
 use Rattle.bg_audit.specs.Requests.{request_told}
 use Rattle.bg_audit.specs.Known.{Knows}
@@ -41,21 +41,21 @@ own-number s o p r = sized-number r (desired s r p) (available r p) (template o 
 own-desired : (s : Strategy) (o : Opening) (p : List Entry) (r : ℕ) → (revision_of s o p r).desired ≡ desired s r p
 own-desired s o p r = sized-desired r (desired s r p) (available r p) (template o r p)
 
-selects-is : (s : Strategy) (p : List Entry) (c : Course) (r : ℕ) → IsCourse s p c → selects_in c r ≡ is_selected r p
-selects-is s p c r course = rw (course.active_is, course.running_is, course.newest_is, course.stable_is) refl
+selects-is : (s : Strategy) (p : List Entry) (c : AuditedState) (r : ℕ) → IsAuditedState s p c → selects_in c r ≡ is_selected r p
+selects-is s p c r state = rw (state.active_is, state.running_is, state.newest_is, state.stable_is) refl
 
-spare-is : (s : Strategy) (o : Opening) (p : List Entry) (c : Course) (r : ℕ) → IsCourse s p c → is_spare_in c (revision_of s o p r) ≡ is_spare s r p
-spare-is s o p c r course =
+spare-is : (s : Strategy) (o : Opening) (p : List Entry) (c : AuditedState) (r : ℕ) → IsAuditedState s p c → is_spare_in c (revision_of s o p r) ≡ is_spare s r p
+spare-is s o p c r state =
     ap (λ n. nat_le 1 n && not (selects_in c (revision_of s o p r).number)) (own-desired s o p r)
     ∙ ap (λ n. is_scaled s r p && not (selects_in c n)) (own-number s o p r)
-    ∙ ap (λ b. is_scaled s r p && not b) (selects-is s p c r course)
+    ∙ ap (λ b. is_scaled s r p && not b) (selects-is s p c r state)
 
-old-is : (s : Strategy) (o : Opening) (p : List Entry) (c : Course) (r : ℕ) → IsCourse s p c → is_old_in c (revision_of s o p r) ≡ is_old s p r
-old-is s o p c r course =
+old-is : (s : Strategy) (o : Opening) (p : List Entry) (c : AuditedState) (r : ℕ) → IsAuditedState s p c → is_old_in c (revision_of s o p r) ≡ is_old s p r
+old-is s o p c r state =
     ap (λ n. not (nat_le 1 n) && not (selects_in c (revision_of s o p r).number) && not ((revision_of s o p r).number == c.newest)) (own-desired s o p r)
     ∙ ap (λ n. not (is_scaled s r p) && not (selects_in c n) && not (n == c.newest)) (own-number s o p r)
-    ∙ ap (λ b. not (is_scaled s r p) && not b && not (r == c.newest)) (selects-is s p c r course)
-    ∙ ap (λ n. not (is_scaled s r p) && not (is_selected r p) && not (r == n)) course.newest_is
+    ∙ ap (λ b. not (is_scaled s r p) && not b && not (r == c.newest)) (selects-is s p c r state)
+    ∙ ap (λ n. not (is_scaled s r p) && not (is_selected r p) && not (r == n)) state.newest_is
 
 -- the list has the number
 abbrev member : ℕ → List ℕ → Bool
@@ -110,18 +110,18 @@ mark-is s o p f r known there = ap (λ n. mark_in n f.marks.items) (own-number s
 
 rank-is : (s : Strategy) (o : Opening) (p : List Entry) (f : Facts) (position : ℕ) → Knows s o p f → count_left_later f position ≡ rank_after s position p
 rank-is s o p f position known =
-    ap (λ vs. count_by (λ v. is_spare_in f.course v && left_later_in position (mark_in v.number f.marks.items)) vs) known.revisions
-    ∙ count-map (revision_of s o p) (λ v. is_spare_in f.course v && left_later_in position (mark_in v.number f.marks.items)) (λ q. is_spare s q p && left_later position (past.mark s q p)) (existing p)
+    ap (λ vs. count_by (λ v. is_spare_in f.state v && left_later_in position (mark_in v.number f.marks.items)) vs) known.revisions
+    ∙ count-map (revision_of s o p) (λ v. is_spare_in f.state v && left_later_in position (mark_in v.number f.marks.items)) (λ q. is_spare s q p && left_later position (past.mark s q p)) (existing p)
     (λ q there.
-    ap (λ b. b && left_later_in position (mark_in (revision_of s o p q).number f.marks.items)) (spare-is s o p f.course q known.course)
+    ap (λ b. b && left_later_in position (mark_in (revision_of s o p q).number f.marks.items)) (spare-is s o p f.state q known.state)
     ∙ ap (λ m. is_spare s q p && left_later_in position m) (mark-is s o p f q known there)
     ∙ ap (λ b. is_spare s q p && b) (later-told position (past.mark s q p)))
 
 due-told : (s : Strategy) (o : Opening) (p : List Entry) (f : Facts) (m : Option past.Mark) → Knows s o p f → marks_due_in s f (option_map mark_told m) ≡ marks_due s m p
 due-told s o p f None known = refl
 due-told s o p f (Some m) known =
-    ap (λ t. is_reached t f.course.moment || (is_left_in (kind_told m.kind) && reaches_limit s.revision_limit (count_left_later f m.position))) (time-told s m.kind m.moment)
-    ∙ ap (λ n. is_reached (time_of s m.kind m.moment) n || (is_left_in (kind_told m.kind) && reaches_limit s.revision_limit (count_left_later f m.position))) known.course.moment_is
+    ap (λ t. is_reached t f.state.moment || (is_left_in (kind_told m.kind) && reaches_limit s.revision_limit (count_left_later f m.position))) (time-told s m.kind m.moment)
+    ∙ ap (λ n. is_reached (time_of s m.kind m.moment) n || (is_left_in (kind_told m.kind) && reaches_limit s.revision_limit (count_left_later f m.position))) known.state.moment_is
     ∙ ap (λ b. is_reached (time_of s m.kind m.moment) (moment p) || (b && reaches_limit s.revision_limit (count_left_later f m.position))) (left-told m.kind)
     ∙ ap (λ n. is_reached (time_of s m.kind m.moment) (moment p) || (is_left m.kind && reaches_limit s.revision_limit n)) (rank-is s o p f m.position known)
 
@@ -141,7 +141,7 @@ scales-down s o p f r known finds =
       there : exists_in r p ≡ true → scales_down_in s f (Some (revision_of s o p r)) ≡ (is_spare s r p && marks_due s (past.mark s r p) p && is_empty (open_at r p))
       there is =
           ap (λ b. b && marks_due_in s f (mark_in (revision_of s o p r).number f.marks.items) && not (list_any (λ q. q.revision == (revision_of s o p r).number) f.requests.items))
-          (spare-is s o p f.course r known.course)
+          (spare-is s o p f.state r known.state)
           ∙ ap (λ m. is_spare s r p && marks_due_in s f m && not (list_any (λ q. q.revision == (revision_of s o p r).number) f.requests.items)) (mark-is s o p f r known is)
           ∙ ap (λ b. is_spare s r p && b && not (list_any (λ q. q.revision == (revision_of s o p r).number) f.requests.items)) (due-told s o p f (past.mark s r p) known)
           ∙ ap (λ n. is_spare s r p && marks_due s (past.mark s r p) p && not (list_any (λ q. q.revision == n) f.requests.items)) (own-number s o p r)
@@ -155,11 +155,11 @@ scales-down s o p f r known finds =
 -- a revision may be removed if the facts say so
 pub removes-is : (s : Strategy) (o : Opening) (p : List Entry) (f : Facts) (r : ℕ) → Knows s o p f → removes_in s f r ≡ may_remove s r p
 removes-is s o p f r known =
-    ap (λ vs. nat_lt s.history_limit (count_by (is_old_in f.course) vs) && is_numbered r (find (is_old_in f.course) vs)) known.revisions
-    ∙ ap (λ n. nat_lt s.history_limit n && is_numbered r (find (is_old_in f.course) (revisions_of s o p)))
-    (count-map (revision_of s o p) (is_old_in f.course) (is_old s p) (existing p) (λ q there. old-is s o p f.course q known.course) ∙ sym (length-filter (is_old s p) (existing p)))
+    ap (λ vs. nat_lt s.history_limit (count_by (is_old_in f.state) vs) && is_numbered r (find (is_old_in f.state) vs)) known.revisions
+    ∙ ap (λ n. nat_lt s.history_limit n && is_numbered r (find (is_old_in f.state) (revisions_of s o p)))
+    (count-map (revision_of s o p) (is_old_in f.state) (is_old s p) (existing p) (λ q there. old-is s o p f.state q known.state) ∙ sym (length-filter (is_old s p) (existing p)))
     ∙ ap (λ b. nat_lt s.history_limit (length (old_revisions s p)) && b)
-    (numbered-first (revision_of s o p) (is_old_in f.course) (is_old s p) r (existing p) (own-number s o p) (λ q. old-is s o p f.course q known.course))
+    (numbered-first (revision_of s o p) (is_old_in f.state) (is_old s p) r (existing p) (own-number s o p) (λ q. old-is s o p f.state q known.state))
 
 -- one of the two outcomes is allowed for some revision
 or-four : (a b c d : Bool) → (a || b) || (c || d) ≡ (a || c) || (b || d)

@@ -8,15 +8,15 @@ use Rattle.bg_history.specs.declared.entry.Entry.{Entry}
 use Rattle.bg_history.specs.declared.entry.Entry.TheVariants.{Deploy, Outcome}
 use Rattle.bg_history.specs.declared.entry.Outcome.TheVariants.{Resumed}
 use Rattle.bg_history.specs.Kept.{Template, Opening}
-use Rattle.bg_history.specs.Turns.{stable_of, newest_of, is_running}
+use Rattle.bg_history.specs.AttemptBounds.{stable_of, newest_of, is_running}
 use Rattle.bg_history.specs.Sizes.{existing, last_number, desired, available}
 use Rattle.bg_history.specs.Deadlines.{exists_in}
-use Rattle.bg_history.specs.Templates.{template, has_ports, owner}
+use Rattle.bg_history.specs.Templates.{template, has_ports, namesake}
 use Rattle.bg_history.specs.Promotion.{attempts}
-use Rattle.bg_history.specs.Allowed.{is_allowed, fits_owner, may_deploy}
+use Rattle.bg_history.specs.Allowed.{is_allowed, fits_namesake, may_deploy}
 use Rattle.bg_history_laws.specs.Reachable.{Reachable}
 use Rattle.bg_history_laws.specs.Listed.{sized, revision_of, revisions_of}
-use Rattle.bg_audit.specs.Sizes.{wanted, desired_in}
+use Rattle.bg_audit.specs.Sizes.{desired, desired_in}
 use Rattle.bg_audit.proofs.Tests.{and_parts, or_right, equal_itself, equal_numbers}
 
 -- the law of finding, for one number
@@ -31,9 +31,9 @@ sized-desired r n m (Some t) = refl
 pub desired-listed : (s : Strategy) (o : Opening) (past : List Entry) (r : ℕ) → Finds s o past r → exists_in r past ≡ true
     → desired_in r (revisions_of s o past) ≡ desired s r past
 desired-listed s o past r finds is =
-    ap wanted (finds ∙ ap (λ b. cond b (Some (revision_of s o past r)) None) is) ∙ sized-desired r (desired s r past) _ (template o r past)
+    ap desired (finds ∙ ap (λ b. cond b (Some (revision_of s o past r)) None) is) ∙ sized-desired r (desired s r past) _ (template o r past)
 
--- a revision whose wanted number of endpoints is raised
+-- a revision whose desired number of endpoints is raised
 pub raised-listed : (s : Strategy) (o : Opening) (past : List Entry) (e : Entry) (q n : ℕ) (old new : List Revision)
     → revisions_of s o (e ∷ past) ≡ map (resized q (max n (desired s q past))) (revisions_of s o past)
     → Finds s o past q → exists_in q past ≡ true → old ≡ revisions_of s o past
@@ -63,8 +63,8 @@ found-member p q (x ∷ xs) h = go (p x) h (found-member p q xs) where
 -- a deploy of a revision that doesn't exist has the next number
 pub deployed-next : (s : Strategy) (o : Opening) (r : ℕ) (name ports : List ℕ) (past : List Entry) → may_deploy s o r name ports past ≡ true → exists_in r past ≡ false
     → r ≡ last_number past + 1
-deployed-next s o r name ports past h fresh = go (owner o name past) refl (and_parts _ (fits_owner o (owner o name past) r ports past) h).1 where
-  go : (q : Option ℕ) → owner o name past ≡ q → fits_owner o q r ports past ≡ true → r ≡ last_number past + 1
+deployed-next s o r name ports past h fresh = go (namesake o name past) refl (and_parts _ (fits_namesake o (namesake o name past) r ports past) h).1 where
+  go : (q : Option ℕ) → namesake o name past ≡ q → fits_namesake o q r ports past ≡ true → r ≡ last_number past + 1
   go None is fits = equal_numbers r (last_number past + 1) (and_parts (r == last_number past + 1) (nat_lt (length (existing past)) 64) fits).0
   go (Some q) is fits =
       let e : q ≡ r = equal_numbers q r (and_parts (q == r) (has_ports ports (template o q past)) fits).0 in

@@ -9,7 +9,7 @@ use Rattle.bg_history.specs.declared.entry.Entry.{Entry}
 use Rattle.bg_history.specs.declared.entry.Entry.TheVariants.{Deploy, Outcome}
 use Rattle.bg_history.specs.declared.entry.Outcome.TheVariants.{Removed}
 use Rattle.bg_history.specs.Kept.{Opening}
-use Rattle.bg_history.specs.Turns.{moment, stable_of, newest_of}
+use Rattle.bg_history.specs.AttemptBounds.{moment, stable_of, newest_of}
 use Rattle.bg_history.specs.Selections.{active_of}
 use Rattle.bg_history.specs.Sizes.{put, existing}
 use Rattle.bg_history.specs.Deadlines.{exists_in}

@@ -1,4 +1,4 @@
-pub mod Course
+pub mod AuditedState
 pub mod Sizes
 pub mod Marked
 pub mod Requests

@@ -6,7 +6,7 @@ use Rattle.bg_strategy.specs.declared.strategy.Strategy.{Strategy}
 use Rattle.bg_history.specs.declared.entry.Entry.{Entry}
 use Rattle.bg_history.specs.declared.entry.Entry.TheVariants.{Deploy, Outcome}
 use Rattle.bg_history.specs.declared.entry.Outcome.TheVariants.{Removed}
-use Rattle.bg_history.specs.Turns.{moment, newest_of}
+use Rattle.bg_history.specs.AttemptBounds.{moment, newest_of}
 use Rattle.bg_history.specs.Sizes.{is_scaled}
 use Rattle.bg_history.specs.Deadlines.{exists_in}
 use Rattle.bg_history.specs.Marks as past
@@ -15,12 +15,12 @@ use Rattle.bg_audit.specs.declared.marks.MarkKind.{MarkKind}
 use Rattle.bg_audit.specs.declared.marks.MarkKind.TheVariants.{Left, Superseded, Aborted, Cleared}
 use Rattle.bg_audit.specs.declared.marks.NewestMark.{NewestMark}
 use Rattle.bg_audit.specs.declared.marks.Around.{Around}
-use Rattle.bg_audit.specs.Course.{IsCourse}
+use Rattle.bg_audit.specs.AuditedState.{IsAuditedState}
 
 -- the facts around an entry are what the past says before and after it
 pub record IsAround (s : Strategy) (e : Entry) (before : List Entry) (a : Around) : Type 0 where
-  pub before_is : IsCourse s before a.before
-  pub after_is : IsCourse s (e ∷ before) a.after
+  pub before_is : IsAuditedState s before a.before
+  pub after_is : IsAuditedState s (e ∷ before) a.after
   pub scaled_is : a.newest_is_scaled ≡ is_scaled s (newest_of before) before
   pub delay_is : a.has_abort_delay ≡ past.has_abort_delay s
   pub position_is : a.position ≡ length before

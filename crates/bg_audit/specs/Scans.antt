@@ -7,7 +7,7 @@ use Rattle.bg_revisions.specs.declared.revision.Revision.{Revision}
 use Rattle.bg_revisions.specs.Rosters.{numbered}
 use Rattle.bg_history.specs.Deadlines.{reaches_limit, is_reached}
 use Rattle.bg_history.specs.Allowed.{has_value}
-use Rattle.bg_audit.specs.declared.course.Course.{Course}
+use Rattle.bg_audit.specs.declared.audited_state.AuditedState.{AuditedState}
 use Rattle.bg_audit.specs.declared.marks.Mark.{Mark}
 use Rattle.bg_audit.specs.declared.marks.MarkKind.{MarkKind}
 use Rattle.bg_audit.specs.declared.marks.MarkKind.TheVariants.{Left, Superseded, Aborted, Cleared}
@@ -52,7 +52,7 @@ enters_in f seats selected seat number r port =
     && is_above number f.greatest
 
 -- the revision is scaled, and neither active nor preview nor stable
-abbrev pub is_spare_in : Course → Revision → Bool
+abbrev pub is_spare_in : AuditedState → Revision → Bool
 is_spare_in c v = nat_le 1 v.desired && not (selects_in c v.number)
 
 abbrev pub is_left_in : MarkKind → Bool
@@ -76,25 +76,25 @@ time_in s Cleared at = None
 -- the number of spare revisions that left after more than `position` entries
 abbrev pub count_left_later : Facts → ℕ → ℕ
 count_left_later f position =
-    count_by (λ v. is_spare_in f.course v && left_later_in position (mark_in v.number f.marks.items))
+    count_by (λ v. is_spare_in f.state v && left_later_in position (mark_in v.number f.marks.items))
     f.revisions.items
 
 -- the mark makes its revision due
 abbrev pub marks_due_in : Strategy → Facts → Option Mark → Bool
 marks_due_in s f None = false
 marks_due_in s f (Some m) =
-    is_reached (time_in s m.kind m.moment) f.course.moment
+    is_reached (time_in s m.kind m.moment) f.state.moment
     || (is_left_in m.kind && reaches_limit s.revision_limit (count_left_later f m.position))
 
 -- there is a revision, it is due, and no request is open at it
 abbrev pub scales_down_in : Strategy → Facts → Option Revision → Bool
 scales_down_in s f None = false
 scales_down_in s f (Some v) =
-    is_spare_in f.course v && marks_due_in s f (mark_in v.number f.marks.items)
+    is_spare_in f.state v && marks_due_in s f (mark_in v.number f.marks.items)
     && not (list_any (λ q. q.revision == v.number) f.requests.items)
 
 -- the revision isn't scaled, and neither active nor preview nor stable nor newest
-abbrev pub is_old_in : Course → Revision → Bool
+abbrev pub is_old_in : AuditedState → Revision → Bool
 is_old_in c v =
     not (nat_le 1 v.desired) && not (selects_in c v.number) && not (v.number == c.newest)
 
@@ -106,5 +106,5 @@ is_numbered r (Some v) = v.number == r
 -- more revisions are old than the strategy keeps, and r is the first of them
 abbrev pub removes_in : Strategy → Facts → ℕ → Bool
 removes_in s f r =
-    nat_lt s.history_limit (count_by (is_old_in f.course) f.revisions.items)
-    && is_numbered r (find (is_old_in f.course) f.revisions.items)
+    nat_lt s.history_limit (count_by (is_old_in f.state) f.revisions.items)
+    && is_numbered r (find (is_old_in f.state) f.revisions.items)

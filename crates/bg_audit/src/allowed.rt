@@ -5,12 +5,12 @@ ghost use Rattle.bg_strategy.specs.declared.strategy.Strategy.{Strategy};
 ghost use Rattle.bg_revisions.specs.Rosters.{has_template};
 ghost use Rattle.bg_history.specs.declared.entry.Entry.{Entry};
 ghost use Rattle.bg_history.specs.Kept.{Opening};
-ghost use Rattle.bg_history.specs.Turns.{newest_of};
+ghost use Rattle.bg_history.specs.AttemptBounds.{newest_of};
 ghost use Rattle.bg_history.specs.Sizes.{desired, available};
 ghost use Rattle.bg_history.specs.Requests.{held_by};
 ghost use Rattle.bg_history.specs.Deadlines.{exists_in};
-ghost use Rattle.bg_history.specs.Templates.{template, owner};
-ghost use Rattle.bg_history.specs.Allowed.{is_allowed, may_deploy, is_template, fits_owner, holds, has_value};
+ghost use Rattle.bg_history.specs.Templates.{template, namesake};
+ghost use Rattle.bg_history.specs.Allowed.{is_allowed, may_deploy, is_template, fits_namesake, holds, has_value};
 ghost use Rattle.bg_history_laws.specs.Reachable.{Reachable};
 ghost use Rattle.bg_audit.specs.Scans.{fits_named, wants_in, has_port_in, is_held_in, enters_in};
 
@@ -20,7 +20,7 @@ use crate::requests::AuditedRequest;
 use crate::revisions::{with_name, with_number};
 use bg_history::{Entry, Outcome};
 use bg_history_laws as laws;
-use bg_revisions::{Name, Ports, Revision, has_ports_form};
+use bg_revisions::{Name, Ports, Revision, are_replica_ports};
 use bg_strategy::{Strategy, is_dns_label};
 
 /// The greatest moment of a tick.
@@ -40,18 +40,18 @@ impl Facts {
     {
         laws::finds();
         match entry {
-            Entry::Tick(moment) => self.course.moment <= *moment && *moment <= LATEST_MOMENT,
+            Entry::Tick(moment) => self.state.moment <= *moment && *moment <= LATEST_MOMENT,
             Entry::Deploy {
                 revision,
                 name,
                 ports,
             } => self.may_deploy(strategy, *revision, name, ports),
             Entry::Available { revision, size } => self.may_report(*revision, *size),
-            Entry::Verdict { analysis, .. } => self.course.awaits(strategy, *analysis),
-            Entry::Promote => self.course.is_paused(strategy),
-            Entry::PromoteFull => { self.course.running && !self.course.attempt.promote_full_given }
-            Entry::Abort => self.course.running,
-            Entry::Retry => self.course.halted,
+            Entry::Verdict { analysis, .. } => self.state.awaits(strategy, *analysis),
+            Entry::Promote => self.state.is_paused(strategy),
+            Entry::PromoteFull => { self.state.running && !self.state.attempt.promote_full_given }
+            Entry::Abort => self.state.running,
+            Entry::Retry => self.state.halted,
             Entry::Enter {
                 seat,
                 service,
@@ -59,7 +59,7 @@ impl Facts {
                 revision,
                 port,
             } => {
-                let selected = self.course.selection(strategy, *service);
+                let selected = self.state.selection(strategy, *service);
                 self.may_enter(seats, selected, *seat, *number, *revision, *port)
             }
             Entry::Leave {
@@ -78,9 +78,9 @@ impl Facts {
             → result ≡ may_deploy strategy.now o number name.now ports.now past }
     {
         is_dns_label(name.get())
-            && has_ports_form(strategy.replicas, ports.get())
+            && are_replica_ports(strategy.replicas, ports.get())
             && !self.is_newest(name, ports)
-            && self.fits_owner(number, name, ports)
+            && self.fits_namesake(number, name, ports)
     }
 
     /// Whether the newest revision has this name and these ports.
@@ -91,7 +91,7 @@ impl Facts {
     {
         laws::finds();
         has_template(
-            with_number(&self.revisions, self.course.newest),
+            with_number(&self.revisions, self.state.newest),
             name,
             ports,
         )
@@ -99,10 +99,10 @@ impl Facts {
 
     /// Whether the revision of this name has this number and these ports; or no revision has the name, the number is
     /// the next one, and there is room.
-    fn fits_owner(&self, number: u64, name: &Name, ports: &Ports) -> bool
+    fn fits_namesake(&self, number: u64, name: &Name, ports: &Ports) -> bool
         ensures { (s : Strategy) (o : Opening) (past : List Entry) → Knows s o past self.now
             → Reachable s o past
-            → result ≡ fits_owner o (owner o name.now past) number ports.now past }
+            → result ≡ fits_namesake o (namesake o name.now past) number ports.now past }
     {
         laws::finds();
         laws::names();
@@ -129,13 +129,13 @@ impl Facts {
     /// Whether a template with these ports may be deployed as this number; `named` is the revision of its name.
     fn fits(&self, named: Option<&Revision>, number: u64, ports: &Ports) -> bool
         ensures { result ≡ fits_named (option_copied named.entry) number ports.now
-            self.now.course.last (length self.now.revisions.items) }
+            self.now.state.last (length self.now.revisions.items) }
     {
         match named {
             Some(revision) => revision.number == number && revision.ports.get() == ports.get(),
             None => {
-                number > self.course.last
-                    && number - self.course.last == 1
+                number > self.state.last
+                    && number - self.state.last == 1
                     && self.revisions.len() < MOST_REVISIONS
             }
         }
@@ -167,16 +167,16 @@ impl Facts {
             → result ≡ is_allowed strategy.now o (Entry.Outcome outcome) past }
     {
         laws::finds();
-        let newest = self.course.newest;
+        let newest = self.state.newest;
         match outcome {
             Outcome::Ready(number) => {
-                number == newest && self.course.may_be_ready(strategy, self.newest_available())
+                number == newest && self.state.may_be_ready(strategy, self.newest_available())
             }
-            Outcome::Resumed(number) => number == newest && self.course.may_resume(strategy),
+            Outcome::Resumed(number) => number == newest && self.state.may_resume(strategy),
             Outcome::Switched(number) => {
-                number == newest && self.course.may_switch(strategy, self.newest_available())
+                number == newest && self.state.may_switch(strategy, self.newest_available())
             }
-            Outcome::Promoted(number) => number == newest && self.course.may_promote(strategy),
+            Outcome::Promoted(number) => number == newest && self.state.may_promote(strategy),
             Outcome::ScaledDown(number) => self.may_scale_down(strategy, number),
             Outcome::Removed(number) => self.may_remove(strategy, number),
         }
@@ -188,7 +188,7 @@ impl Facts {
             → Reachable s o past → result ≡ available (newest_of past) past }
     {
         laws::finds();
-        match with_number(&self.revisions, self.course.newest) {
+        match with_number(&self.revisions, self.state.newest) {
             Some(revision) => revision.available,
             None => 0,
         }

@@ -22,7 +22,7 @@ pub struct AuditedAttempt {
 }
 
 impl AuditedAttempt {
-    ghost use Rattle.bg_audit.specs.Course.{empty_attempt};
+    ghost use Rattle.bg_audit.specs.AuditedState.{empty_attempt};
 
     /// An attempt in which nothing has happened.
     pub fn new() -> AuditedAttempt
@@ -40,7 +40,7 @@ impl AuditedAttempt {
     }
 
     /// Sets `passed_at` to this moment, if the test holds and it is not set yet.
-    pub fn pass(&mut self, test: bool, moment: u64)
+    pub fn set_passed(&mut self, test: bool, moment: u64)
         ensures { self.new ≡ record self.old
             { passed_at = first_at test moment self.old.passed_at } }
     {

@@ -9,7 +9,7 @@ use crate::fault::AuditFault;
 use crate::numbers::{are_given, entry_at};
 use bg_history::History;
 use bg_history_laws as laws;
-use bg_revisions::has_ports_form;
+use bg_revisions::are_replica_ports;
 use bg_strategy::{Strategy, is_dns_label};
 use std::alloc::{AllocError, Global};
 
@@ -44,7 +44,7 @@ fn audit_opened(
         × IsTrue (is_settled strategy.now history.now.past))) }
 {
     laws::reachable();
-    if !has_opening_form(seats, name, ports, strategy) {
+    if !is_opening_well_formed(seats, name, ports, strategy) {
         return Ok(false);
     }
     match facts_of(alloc, history, seats, name, ports, strategy)? {
@@ -54,11 +54,11 @@ fn audit_opened(
 }
 
 /// Whether the opening is well formed.
-fn has_opening_form(seats: usize, name: &str, ports: &[u16], strategy: &Strategy) -> bool
+fn is_opening_well_formed(seats: usize, name: &str, ports: &[u16], strategy: &Strategy) -> bool
     ensures { result ≡ is_opening strategy.now (opening_of seats name.now ports.now) }
 {
     is_dns_label(name)
-        && has_ports_form(strategy.replicas, ports)
+        && are_replica_ports(strategy.replicas, ports)
         && seats >= 1
         && seats <= MOST_SEATS
 }

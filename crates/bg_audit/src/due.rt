@@ -42,10 +42,10 @@ impl Facts {
             → result ≡ is_some (first_promotion strategy.now past) }
     {
         let available = self.newest_available();
-        self.course.may_be_ready(strategy, available)
-            || self.course.may_resume(strategy)
-            || self.course.may_switch(strategy, available)
-            || self.course.may_promote(strategy)
+        self.state.may_be_ready(strategy, available)
+            || self.state.may_resume(strategy)
+            || self.state.may_switch(strategy, available)
+            || self.state.may_promote(strategy)
     }
 
     /// Whether a revision may be scaled down or removed.
@@ -85,9 +85,9 @@ impl Facts {
 
     /// Whether the revision is scaled, and neither active nor preview nor stable.
     fn is_spare(&self, revision: &Revision) -> bool
-        ensures { result ≡ is_spare_in self.now.course revision.now }
+        ensures { result ≡ is_spare_in self.now.state revision.now }
     {
-        revision.desired >= 1 && !self.course.selects(revision.number)
+        revision.desired >= 1 && !self.state.selects(revision.number)
     }
 
     /// Whether the mark makes its revision due.
@@ -96,7 +96,7 @@ impl Facts {
     {
         match mark {
             Some(mark) => {
-                is_reached(strategy, mark, self.course.moment)
+                is_reached(strategy, mark, self.state.moment)
                     || (mark.kind == MarkKind::Left
                         && reaches_limit(strategy.revision_limit, self.rank_after(mark.position)))
             }
@@ -116,7 +116,7 @@ impl Facts {
 
     /// Whether the revision is spare and left the active service after more than `position` entries.
     fn is_later(&self, revision: &Revision, position: u64) -> bool
-        ensures { result ≡ (is_spare_in self.now.course revision.now
+        ensures { result ≡ (is_spare_in self.now.state revision.now
             && left_later_in position (mark_in revision.now.number self.now.marks.items)) }
     {
         self.is_spare(revision)
@@ -131,7 +131,7 @@ impl Facts {
     }
 
     fn old_count(&self) -> usize
-        ensures { result ≡ count_by (is_old_in self.now.course) self.now.revisions.items }
+        ensures { result ≡ count_by (is_old_in self.now.state) self.now.revisions.items }
     {
         self.revisions
             .iter()
@@ -141,18 +141,18 @@ impl Facts {
 
     fn first_old(&self) -> Option<&Revision>
         ensures { option_copied result
-            ≡ find (is_old_in self.now.course) self.now.revisions.items }
+            ≡ find (is_old_in self.now.state) self.now.revisions.items }
     {
         self.revisions.iter().find(|revision| self.is_old(revision))
     }
 
     /// Whether the revision isn't scaled, and neither active nor preview nor stable nor newest.
     fn is_old(&self, revision: &Revision) -> bool
-        ensures { result ≡ is_old_in self.now.course revision.now }
+        ensures { result ≡ is_old_in self.now.state revision.now }
     {
         revision.desired < 1
-            && !self.course.selects(revision.number)
-            && revision.number != self.course.newest
+            && !self.state.selects(revision.number)
+            && revision.number != self.state.newest
     }
 }
 

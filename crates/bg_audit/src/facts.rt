@@ -3,12 +3,12 @@ ghost use Rattle.std.specs.Prelude.{◌≡◌, ◌∷◌, ℕ, [], true, List, l
 ghost use Rattle.bg_history.specs.declared.entry.Entry.{Entry};
 ghost use Rattle.bg_strategy.specs.declared.strategy.Strategy.{Strategy};
 ghost use Rattle.bg_history.specs.Kept.{Opening};
-ghost use Rattle.bg_history.specs.Turns.{newest_of};
+ghost use Rattle.bg_history.specs.AttemptBounds.{newest_of};
 ghost use Rattle.bg_history.specs.Sizes.{is_scaled};
 ghost use Rattle.bg_history.specs.Allowed.{is_allowed};
 ghost use Rattle.bg_history_laws.specs.Reachable.{Reachable};
 
-use crate::course::Course;
+use crate::audited_state::AuditedState;
 use crate::marks::{Around, NewestMark};
 use crate::requests::AuditedRequest;
 use crate::{marks, requests, revisions};
@@ -20,7 +20,7 @@ use std::alloc::{AllocError, Global};
 /// The facts that the audit keeps of a past.
 #[derive(Drop)]
 pub struct Facts {
-    pub course: Course,
+    pub state: AuditedState,
     /// The revisions that exist, in ascending order of their numbers.
     pub revisions: Vec<Revision>,
     pub marks: Vec<NewestMark>,
@@ -52,7 +52,7 @@ impl Facts {
         let mut marks = Vec::new(alloc);
         marks::add(&mut marks, 1)?;
         Ok(Facts {
-            course: Course::new(),
+            state: AuditedState::new(),
             revisions,
             marks,
             requests: Vec::new(alloc),
@@ -67,12 +67,12 @@ impl Facts {
             → Reachable strategy.now o past → is_allowed strategy.now o entry.now past ≡ true
             → place ≡ length past → OnOk result (Knows strategy.now o (entry.now ∷ past) self.new) }
     {
-        let before = self.course;
+        let before = self.state;
         let newest_is_scaled = self.newest_is_scaled();
-        self.course.take(strategy, entry);
+        self.state.take(strategy, entry);
         let around = Around {
             before,
-            after: self.course,
+            after: self.state,
             newest_is_scaled,
             has_abort_delay: strategy.abort_delay > 0,
             position: place,
@@ -89,6 +89,6 @@ impl Facts {
         ensures { (s : Strategy) (o : Opening) (past : List Entry) → Knows s o past self.now
             → Reachable s o past → result ≡ is_scaled s (newest_of past) past }
     {
-        self.may_report(self.course.newest, 1)
+        self.may_report(self.state.newest, 1)
     }
 }

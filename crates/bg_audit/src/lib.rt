@@ -7,7 +7,7 @@
 mod allowed;
 mod audited_attempt;
 mod auditing;
-mod course;
+mod audited_state;
 mod due;
 mod facts;
 mod fault;

@@ -5,14 +5,14 @@ ghost use Rattle.std.specs.Option.{option_map, option_copied};
 ghost use Rattle.bg_strategy.specs.declared.strategy.Strategy.{Strategy};
 ghost use Rattle.bg_history.specs.declared.entry.Entry.{Entry};
 ghost use Rattle.bg_history.specs.Kept.{Opening};
-ghost use Rattle.bg_history.specs.Turns.{newest_of};
+ghost use Rattle.bg_history.specs.AttemptBounds.{newest_of};
 ghost use Rattle.bg_history.specs.Sizes.{begins, is_scaled};
 ghost use Rattle.bg_history.specs.Marks.{kind_of, halts, supersedes, scales_down};
 ghost use Rattle.bg_history_laws.specs.Reachable.{Reachable};
-ghost use Rattle.bg_audit.specs.Course.{IsCourse};
+ghost use Rattle.bg_audit.specs.AuditedState.{IsAuditedState};
 ghost use Rattle.bg_audit.specs.Marked.{IsAround, kind_told, remarked, mark_in, with_revision, prepared, HasMarks};
 
-use crate::course::Course;
+use crate::audited_state::AuditedState;
 use bg_history::{AnalysisResult, Entry, Outcome};
 use std::alloc::AllocError;
 
@@ -49,8 +49,8 @@ pub struct NewestMark {
 /// The facts before and after an entry that decide which marks it makes.
 #[derive(Clone, Copy, Drop, Debug)]
 pub struct Around {
-    pub before: Course,
-    pub after: Course,
+    pub before: AuditedState,
+    pub after: AuditedState,
     /// Whether the newest revision was scaled before the entry.
     pub newest_is_scaled: bool,
     /// Whether the strategy scales aborted revisions down after a delay.
@@ -176,8 +176,8 @@ fn kind_of(revision: u64, entry: &Entry, around: &Around) -> Option<MarkKind>
 }
 
 /// Whether the entry halts the attempt of the revision.
-fn halts(revision: u64, entry: &Entry, before: &Course) -> bool
-    ensures { (s : Strategy) (past : List Entry) → IsCourse s past before.now
+fn halts(revision: u64, entry: &Entry, before: &AuditedState) -> bool
+    ensures { (s : Strategy) (past : List Entry) → IsAuditedState s past before.now
         → result ≡ halts revision entry.now past }
 {
     let is_halt = match entry {
@@ -196,8 +196,8 @@ fn halts(revision: u64, entry: &Entry, before: &Course) -> bool
 
 /// Whether the entry deploys another revision in the place of this one, which is scaled and neither active nor
 /// stable.
-fn supersedes(revision: u64, entry: &Entry, before: &Course, newest_is_scaled: bool) -> bool
-    ensures { (s : Strategy) (past : List Entry) → IsCourse s past before.now
+fn supersedes(revision: u64, entry: &Entry, before: &AuditedState, newest_is_scaled: bool) -> bool
+    ensures { (s : Strategy) (past : List Entry) → IsAuditedState s past before.now
         → newest_is_scaled ≡ is_scaled s (newest_of past) past
         → result ≡ supersedes s revision entry.now past }
 {
@@ -213,8 +213,8 @@ fn supersedes(revision: u64, entry: &Entry, before: &Course, newest_is_scaled: b
 }
 
 /// Whether the entry begins an attempt of the revision.
-fn begins(revision: u64, entry: &Entry, before: &Course) -> bool
-    ensures { (s : Strategy) (past : List Entry) → IsCourse s past before.now
+fn begins(revision: u64, entry: &Entry, before: &AuditedState) -> bool
+    ensures { (s : Strategy) (past : List Entry) → IsAuditedState s past before.now
         → result ≡ begins revision entry.now past }
 {
     match entry {

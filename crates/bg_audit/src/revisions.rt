@@ -8,10 +8,10 @@ ghost use Rattle.bg_history.specs.Kept.{Opening};
 ghost use Rattle.bg_history.specs.Allowed.{is_allowed, may_deploy};
 ghost use Rattle.bg_history_laws.specs.Reachable.{Reachable};
 ghost use Rattle.bg_history_laws.specs.Listed.{revisions_of};
-ghost use Rattle.bg_audit.specs.Course.{IsCourse};
+ghost use Rattle.bg_audit.specs.AuditedState.{IsAuditedState};
 ghost use Rattle.bg_audit.specs.Sizes.{desired_in};
 
-use crate::course::Course;
+use crate::audited_state::AuditedState;
 use bg_history::{Entry, Outcome};
 use bg_history_laws as laws;
 use bg_revisions::{Name, Ports, Revision};
@@ -41,16 +41,16 @@ fn has_number(revisions: &[Revision], number: u64) -> bool
     with_number(revisions, number).is_some()
 }
 
-/// Updates the revisions with an allowed entry; `course` is the course of the past before it. The only error is an
+/// Updates the revisions with an allowed entry; `state` is the state of the past before it. The only error is an
 /// allocation failure.
 pub fn take(
     alloc: Global,
     revisions: &mut Vec<Revision>,
     strategy: &Strategy,
-    course: &Course,
+    state: &AuditedState,
     entry: &Entry,
 ) -> Result<(), AllocError>
-    ensures { (o : Opening) (past : List Entry) → IsCourse strategy.now past course.now
+    ensures { (o : Opening) (past : List Entry) → IsAuditedState strategy.now past state.now
         → Reachable strategy.now o past → is_allowed strategy.now o entry.now past ≡ true
         → revisions.old.items ≡ revisions_of strategy.now o past
         → OnOk result (revisions.new.items ≡ revisions_of strategy.now o (entry.now ∷ past)) }
@@ -64,9 +64,9 @@ pub fn take(
             revision,
             name,
             ports,
-        } => deploy(alloc, revisions, strategy, course, *revision, name, ports)?,
+        } => deploy(alloc, revisions, strategy, state, *revision, name, ports)?,
         Entry::Available { revision, size } => report(revisions, *revision, *size),
-        Entry::Retry => raise(revisions, course.newest, strategy.preview_replicas),
+        Entry::Retry => raise(revisions, state.newest, strategy.preview_replicas),
         Entry::Outcome(outcome) => settle(revisions, strategy, *outcome),
         _ => {}
     }
@@ -78,12 +78,12 @@ fn deploy(
     alloc: Global,
     revisions: &mut Vec<Revision>,
     strategy: &Strategy,
-    course: &Course,
+    state: &AuditedState,
     number: u64,
     name: &Name,
     ports: &Ports,
 ) -> Result<(), AllocError>
-    ensures { (o : Opening) (past : List Entry) → IsCourse strategy.now past course.now
+    ensures { (o : Opening) (past : List Entry) → IsAuditedState strategy.now past state.now
         → Reachable strategy.now o past
         → may_deploy strategy.now o number name.now ports.now past ≡ true
         → revisions.old.items ≡ revisions_of strategy.now o past
@@ -96,7 +96,7 @@ fn deploy(
     if !has_number(revisions, number) {
         let desired = strategy.preview_replicas;
         add(alloc, revisions, number, name.get(), ports.get(), desired)?;
-    } else if number != course.stable {
+    } else if number != state.stable {
         raise(revisions, number, strategy.preview_replicas);
     }
     Ok(())
@@ -163,11 +163,11 @@ fn raise(revisions: &mut Vec<Revision>, number: u64, least: u32)
     ensures { revisions.new.items ≡ map (resized number
         (max least (desired_in number revisions.old.items))) revisions.old.items }
 {
-    let wanted = match with_number(revisions, number) {
+    let desired = match with_number(revisions, number) {
         Some(revision) => revision.desired,
         None => 0,
     };
-    resize(revisions, number, least.max(wanted));
+    resize(revisions, number, least.max(desired));
 }
 
 /// Makes the revision want this many endpoints. If `desired` is 0, it has none available.

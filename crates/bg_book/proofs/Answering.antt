@@ -6,13 +6,13 @@ use Rattle.bg_revisions.specs.declared.revision.Service.{Service}
 use Rattle.bg_history.specs.declared.entry.Entry.{Entry}
 use Rattle.bg_history.specs.declared.entry.Analysis.{Analysis}
 use Rattle.bg_history.specs.declared.entry.Analysis.TheVariants.{Pre, Post}
-use Rattle.bg_history.specs.Turns.{newest_of}
+use Rattle.bg_history.specs.AttemptBounds.{newest_of}
 use Rattle.bg_history.specs.Sizes.{available}
 use Rattle.bg_history.specs.Requests.{open_requests, given}
 use Rattle.bg_history.specs.Allowed.{awaits, selection}
 use Rattle.bg_history.specs.Kept.{Opening}
-use Rattle.bg_history.specs.Templates.{template, owner}
-use Rattle.bg_history_laws.specs.Answers.{owner_answer}
+use Rattle.bg_history.specs.Templates.{template, namesake}
+use Rattle.bg_history_laws.specs.Answers.{namesake_answer}
 use Rattle.bg_rollout.specs.declared.control.Control.{Control}
 use Rattle.bg_rollout.specs.declared.control.Control.TheVariants.{Tick, Deploy, Available, Verdict, Promote, PromoteFull, Abort, Retry}
 use Rattle.bg_rollout.specs.declared.fault.EnterFault.TheVariants as enter_fault
@@ -33,13 +33,13 @@ less-full true false h e room = let x : false ≡ true = h refl in absurd (cc)
 less-full false true h e room = absurd (room refl)
 less-full false false h e room = refl
 
-owner_answer-same : (o : Opening) (ports : List ℕ) (q : Option ℕ) (a b : List Entry) → ((r : ℕ) → template o r a ≡ template o r b) → owner_answer o ports q a ≡ owner_answer o ports q b
-owner_answer-same o ports None a b h = refl
-owner_answer-same o ports (Some q) a b h = rw (h q) refl
+namesake_answer-same : (o : Opening) (ports : List ℕ) (q : Option ℕ) (a b : List Entry) → ((r : ℕ) → template o r a ≡ template o r b) → namesake_answer o ports q a ≡ namesake_answer o ports q b
+namesake_answer-same o ports None a b h = refl
+namesake_answer-same o ports (Some q) a b h = rw (h q) refl
 
 pub event-same : (b : Routing) → Compacts b.strategy b.opening b.closed b.past → (x : Control) → event_of (with_compacted b) x ≡ event_of b x
 event-same b c (Tick m) = refl
-event-same b c (Deploy name ports) = rw (← c.answers.owner_is name, ← c.same.alike.last) refl
+event-same b c (Deploy name ports) = rw (← c.answers.namesake_is name, ← c.same.alike.last) refl
 event-same b c (Available r n) = refl
 event-same b c (Verdict analysis result) = refl
 event-same b c Promote = refl
@@ -54,8 +54,8 @@ awaits-same b c Post = sym c.answers.post
 fault-same : (b : Routing) → Compacts b.strategy b.opening b.closed b.past → (x : Control) → event_fault (with_compacted b) x ≡ event_fault b x
 fault-same b c (Tick m) = rw (← c.same.now) refl
 fault-same b c (Deploy name ports) =
-    let own = owner_answer-same b.opening ports (owner b.opening name b.past) b.past (compacted b.past) c.same.alike.templates in
-    rw (← c.answers.owner_is name, ← c.same.alike.newest, ← c.same.alike.exist, ← c.same.alike.templates (newest_of b.past), ← own) refl
+    let own = namesake_answer-same b.opening ports (namesake b.opening name b.past) b.past (compacted b.past) c.same.alike.templates in
+    rw (← c.answers.namesake_is name, ← c.same.alike.newest, ← c.same.alike.exist, ← c.same.alike.templates (newest_of b.past), ← own) refl
 fault-same b c (Available r n) = rw (← c.same.alike.exist, ← c.same.alike.size r) refl
 fault-same b c (Verdict analysis result) = rw (awaits-same b c analysis) refl
 fault-same b c Promote = rw (← c.answers.paused, ← c.same.alike.halted) refl

@@ -6,7 +6,7 @@ use Rattle.bg_history.specs.declared.entry.Entry.TheVariants.{Tick, Deploy, Avai
 use Rattle.bg_history.specs.declared.entry.Outcome.TheVariants.{Ready, Resumed, Switched, Promoted, ScaledDown, Removed}
 use Rattle.bg_history.specs.declared.entry.AnalysisResult.TheVariants.{Successful, Failed, Error}
 use Rattle.bg_history.specs.Kept.{Opening}
-use Rattle.bg_history.specs.Turns.{stable_of}
+use Rattle.bg_history.specs.AttemptBounds.{stable_of}
 use Rattle.bg_history.specs.Selections.{active_of}
 use Rattle.bg_history.specs.Allowed.{is_allowed}
 use Rattle.bg_history.specs.Steps.{all_allowed}

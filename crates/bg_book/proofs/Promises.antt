@@ -4,7 +4,7 @@ use Rattle.std.specs.Prelude.{Result, Ok, Err, unwrap_or}
 use Rattle.std.specs.Option.{option_or}
 use Rattle.bg_strategy.specs.Label.{is_label}
 use Rattle.bg_revisions.specs.PortLists.{are_ports}
-use Rattle.bg_revisions.specs.Rosters.{form_of}
+use Rattle.bg_revisions.specs.Rosters.{well_formed}
 use Rattle.bg_revisions.specs.declared.revision_fault.RevisionFault.{RevisionFault}
 use Rattle.bg_revisions.specs.declared.revision_fault.RevisionFault.TheVariants.{BadName, BadPorts, SameTemplate, PortsDiffer}
 use Rattle.bg_history.specs.declared.entry.Entry.{Entry}
@@ -12,16 +12,16 @@ use Rattle.bg_history.specs.declared.entry.Entry.TheVariants as entry
 use Rattle.bg_history.specs.declared.entry.Entry.TheVariants.{Outcome}
 use Rattle.bg_history.specs.declared.entry.AnalysisResult.TheVariants.{Failed, Error}
 use Rattle.bg_history.specs.declared.entry.Outcome.TheVariants.{Promoted}
-use Rattle.bg_history.specs.Turns.{stable_of, newest_of, is_running, is_halted}
+use Rattle.bg_history.specs.AttemptBounds.{stable_of, newest_of, is_running, is_halted}
 use Rattle.bg_history.specs.Sizes.{existing, last_number, desired, is_scaled}
 use Rattle.bg_history.specs.Deadlines.{exists_in}
-use Rattle.bg_history.specs.Templates.{template, has_ports, owner}
-use Rattle.bg_history.specs.Allowed.{is_template, fits_owner, may_deploy, is_allowed}
+use Rattle.bg_history.specs.Templates.{template, has_ports, namesake}
+use Rattle.bg_history.specs.Allowed.{is_template, fits_namesake, may_deploy, is_allowed}
 use Rattle.bg_history.specs.Attempts.{has_promote_full}
 use Rattle.bg_history.specs.Selections.{active_of}
 use Rattle.bg_history.specs.Steps.{Step}
 use Rattle.bg_history_laws.specs.Reachable.{Reachable}
-use Rattle.bg_history_laws.specs.Answers.{template_answer, owner_answer}
+use Rattle.bg_history_laws.specs.Answers.{template_answer, namesake_answer}
 use Rattle.bg_history_laws.specs.Rollback.{RollsBack, CanRollBack}
 use Rattle.bg_history_laws.specs.FullPromotion.{next_promotion_call, CanPromote}
 use Rattle.bg_history_laws.specs.Live.{is_tested}
@@ -63,13 +63,13 @@ call-back b c e none is back = record {
 }
 
 -- the form, the template and the number of revisions have no fault
-no-fault : (r : ℕ) (form : Result (Unit {0}) RevisionFault) (owner : Result (Option ℕ) RevisionFault) (full : Bool) → form ≡ Ok tt → owner ≡ Ok (Some r) → full ≡ false
-    → option_or (fault_in of_revision form) (option_or (fault_in of_revision owner) (fault_if full TooManyRevisions None)) ≡ None
-no-fault r form owner full is there room = rw (is, there, room) refl
+no-fault : (r : ℕ) (form : Result (Unit {0}) RevisionFault) (namesake : Result (Option ℕ) RevisionFault) (full : Bool) → form ≡ Ok tt → namesake ≡ Ok (Some r) → full ≡ false
+    → option_or (fault_in of_revision form) (option_or (fault_in of_revision namesake) (fault_if full TooManyRevisions None)) ≡ None
+no-fault r form namesake full is there room = rw (is, there, room) refl
 
 -- a label and a revision's ports have the right form
-good-form : (label ports : Bool) → label ≡ true → ports ≡ true → ◌≡◌ {A = Result (Unit {0}) RevisionFault} (cond label (cond ports (Ok tt) (Err BadPorts)) (Err BadName)) (Ok tt)
-good-form label ports is are = rw (is, are) refl
+well_formed-both : (label ports : Bool) → label ≡ true → ports ≡ true → ◌≡◌ {A = Result (Unit {0}) RevisionFault} (cond label (cond ports (Ok tt) (Err BadPorts)) (Err BadName)) (Ok tt)
+well_formed-both label ports is are = rw (is, are) refl
 
 -- if the newest revision has another template, the deploy of an existing revision's template gives its number
 owned-answer : (r : ℕ) (newest same : Bool) → not newest ≡ true → same ≡ true
@@ -77,18 +77,18 @@ owned-answer : (r : ℕ) (newest same : Bool) → not newest ≡ true → same �
 owned-answer r true same other is = absurd (cc)
 owned-answer r false same other is = rw is refl
 
--- a template that may be deployed and whose revision exists has the number of its name's owner, and no fault
+-- a template that may be deployed and whose revision exists has the number of its name's namesake, and no fault
 record Deploys (b : Routing) (r : ℕ) (name ports : List ℕ) : Type 0 where
   faultless : deploy_fault b name ports ≡ None
   numbered : deployed_number b name ≡ r
 
 deploys : (b : Routing) (r : ℕ) (name ports : List ℕ) → r ≤ last_number b.past → may_deploy b.strategy b.opening r name ports b.past ≡ true → Deploys b r name ports
 deploys b r name ports given may =
-    let fits = and_parts _ (fits_owner b.opening (owner b.opening name b.past) r ports b.past) may in
+    let fits = and_parts _ (fits_namesake b.opening (namesake b.opening name b.past) r ports b.past) may in
     let other = and_parts _ (not (is_template name ports (template b.opening (newest_of b.past) b.past))) fits.0 in
     let form = and_parts (is_label name) (are_ports b.strategy.replicas ports) other.0 in
-    go (owner b.opening name b.past) refl fits.1 (good-form (is_label name) (are_ports b.strategy.replicas ports) form.0 form.1) other.1 where
-      go : (k : Option ℕ) → owner b.opening name b.past ≡ k → fits_owner b.opening k r ports b.past ≡ true → form_of b.strategy.replicas name ports ≡ Ok tt
+    go (namesake b.opening name b.past) refl fits.1 (well_formed-both (is_label name) (are_ports b.strategy.replicas ports) form.0 form.1) other.1 where
+      go : (k : Option ℕ) → namesake b.opening name b.past ≡ k → fits_namesake b.opening k r ports b.past ≡ true → well_formed b.strategy.replicas name ports ≡ Ok tt
           → not (is_template name ports (template b.opening (newest_of b.past) b.past)) ≡ true → Deploys b r name ports
       go None is fits form other =
           let next : r ≡ last_number b.past + 1 = eq_from r (last_number b.past + 1) (and_parts (r == last_number b.past + 1) _ fits).0 in
@@ -97,8 +97,8 @@ deploys b r name ports given may =
           let parts = and_parts (q == r) (has_ports ports (template b.opening q b.past)) fits in
           let same : q ≡ r = eq_from q r parts.0 in
           record {
-            faultless = no-fault q (form_of b.strategy.replicas name ports) (template_answer b.opening (newest_of b.past) name ports b.past) (has_no_place b name) form
-                (ap (λ k. cond (is_template name ports (template b.opening (newest_of b.past) b.past)) (Err SameTemplate) (owner_answer b.opening ports k b.past)) is
+            faultless = no-fault q (well_formed b.strategy.replicas name ports) (template_answer b.opening (newest_of b.past) name ports b.past) (has_no_place b name) form
+                (ap (λ k. cond (is_template name ports (template b.opening (newest_of b.past) b.past)) (Err SameTemplate) (namesake_answer b.opening ports k b.past)) is
                 ∙ owned-answer q (is_template name ports (template b.opening (newest_of b.past) b.past)) (has_ports ports (template b.opening q b.past)) other parts.1)
                 (ap (λ k. is_none k && nat_le 64 (length (existing b.past))) is);
             numbered = ap (λ k. unwrap_or k (last_number b.past + 1)) is ∙ same;

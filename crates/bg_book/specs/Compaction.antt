@@ -1,7 +1,7 @@
 -- A book whose history is compacted.
 use Rattle.std.specs.Prelude.{◌≡◌, ℕ, Bool, true, false, List}
 use Rattle.bg_ledger.specs.declared.holding.Holding.{Holding}
-use Rattle.bg_history.specs.Turns.{moment}
+use Rattle.bg_history.specs.AttemptBounds.{moment}
 use Rattle.bg_history.specs.Selections.{selectors_of}
 use Rattle.bg_history.specs.Deadlines.{deadline}
 use Rattle.bg_history.specs.Requests.{given, open_at}

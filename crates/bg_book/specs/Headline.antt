@@ -4,7 +4,7 @@ use Rattle.bg_strategy.specs.declared.strategy.Strategy.{Strategy}
 use Rattle.bg_history.specs.declared.entry.Entry.{Entry}
 use Rattle.bg_history.specs.declared.entry.Entry.TheVariants.{Deploy, Outcome}
 use Rattle.bg_history.specs.declared.entry.Outcome.TheVariants.{Switched}
-use Rattle.bg_history.specs.Turns.{is_halt, stable_of}
+use Rattle.bg_history.specs.AttemptBounds.{is_halt, stable_of}
 use Rattle.bg_history.specs.Selections.{active_of, preview_of}
 use Rattle.bg_history.specs.Sizes.{is_scaled}
 use Rattle.bg_history.specs.Deadlines.{deadline}

@@ -5,7 +5,7 @@ use Rattle.bg_revisions.specs.declared.revision.Service.TheVariants as service
 use Rattle.bg_history.specs.declared.entry.Analysis.{Analysis}
 use Rattle.bg_history.specs.declared.entry.AnalysisResult.TheVariants.{Failed, Error}
 use Rattle.bg_history.specs.Kept.{Template}
-use Rattle.bg_history.specs.Turns.{stable_of, newest_of, is_running}
+use Rattle.bg_history.specs.AttemptBounds.{stable_of, newest_of, is_running}
 use Rattle.bg_history.specs.Attempts.{has_promote_full}
 use Rattle.bg_history.specs.Templates.{template}
 use Rattle.bg_history.specs.Allowed.{awaits}
@@ -54,7 +54,7 @@ pub record CallsRollBack (b : Routing) : Type 0 where
   pub revert : (t : Template) → template b.opening (stable_of b.past) b.past ≡ Some t
       → IsFalse (newest_of b.past == stable_of b.past) → CallRollsBack b (Deploy t.name t.ports)
 
--- the next call of a full promotion: the full promotion if the attempt has none; else the report that all wanted
+-- the next call of a full promotion: the full promotion if the attempt has none; else the report that all desired
 -- endpoints of its revision are available
 abbrev pub next_promotion_control : Routing → Control
 next_promotion_control b =

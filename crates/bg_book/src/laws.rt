@@ -1,6 +1,6 @@
 //! What holds of every book, regardless of the calls that made it.
 ghost use Rattle.std.specs.Prelude.{◌≡◌, ◌<◌, ◌++◌, ℕ, List, length, take, drop, get_or, slice_get, slice_set, Some, IsTrue};
-ghost use Rattle.bg_history.specs.Turns.{newest_of, is_running};
+ghost use Rattle.bg_history.specs.AttemptBounds.{newest_of, is_running};
 ghost use Rattle.bg_history_laws.specs.Rollback.{CanRollBack};
 ghost use Rattle.bg_history_laws.specs.FullPromotion.{CanPromote};
 ghost use Rattle.bg_history_laws.specs.Live.{OnlyTestedIsLive};
@@ -90,7 +90,7 @@ pub fn can_roll_back<N: Names>(book: &Book<N>)
 
 /// A running attempt can always be promoted (`bg_history_laws::promises::can_promote`). At most three calls make its
 /// revision newest, active, preview and stable: a full promotion, unless the attempt has one, then reports that all
-/// wanted endpoints are available. The only errors are `HistoryFull` and `OutOfMemory`.
+/// desired endpoints are available. The only errors are `HistoryFull` and `OutOfMemory`.
 pub fn can_promote<N: Names>(book: &Book<N>)
     ensures past { IsTrue (is_running book.now.past)
         → CanPromote 3 book.now.strategy book.now.opening (newest_of book.now.past) book.now.past }

@@ -5,7 +5,7 @@ use crate::clock::PortClock;
 use crate::cut_responses::CutResponses;
 use crate::listener::CountedListener;
 use crate::pending::{Pending, Watch};
-use crate::pending_connection::{OverRequest, PendingConnection};
+use crate::pending_connection::{CompleteRequest, PendingConnection};
 use crate::request_buffer::Ending;
 use crate::response_buffer::{ResponseBuffer, Turn};
 use crate::signal::Signal;
@@ -225,11 +225,11 @@ impl ClientPort {
     pub(crate) fn end<R: Clock + Wait>(
         &self,
         rt: &R,
-        request: OverRequest,
+        request: CompleteRequest,
         response: Vec<u8>,
         was_whole: bool,
     ) {
-        if request.request.ending != Ending::LetGo {
+        if request.request.ending != Ending::GivenUp {
             let stream = request.stream;
             let mut response = ResponseBuffer::new(response, was_whole);
             if let Turn::Waits(interest) = response.go_on(&stream) {

@@ -3,7 +3,7 @@ ghost use Rattle.std.specs.Prelude.{◌≤◌, length};
 ghost use Rattle.std.specs.Io.{ReadsAtMost, WritesAtMost};
 
 use crate::client_port::ClientPort;
-use crate::pending_connection::OverRequest;
+use crate::pending_connection::CompleteRequest;
 use crate::request_buffer::Ending;
 use crate::sockets::{OtherEnd, other_end};
 use crate::sound_head::has_sound_head;
@@ -30,7 +30,7 @@ pub struct Connection<'a, R: Clock> {
     port: &'a ClientPort,
     rt: &'a R,
     wait_set: WaitSet,
-    request: OverRequest,
+    request: CompleteRequest,
     /// The number of bytes of the request that were read.
     read: usize,
     /// The number of bytes that were read and had not been buffered.
@@ -51,7 +51,7 @@ impl<'a, R: Clock> Connection<'a, R> {
         port: &'a ClientPort,
         rt: &'a R,
         wait_set: WaitSet,
-        request: OverRequest,
+        request: CompleteRequest,
     ) -> Connection<'a, R> {
         Connection {
             port,
@@ -150,7 +150,7 @@ impl<'a, R: Clock> Connection<'a, R> {
         match self.request.request.ending {
             Ending::Ended => Ok(0),
             Ending::Failed => Err(io::Error::from(ErrorKind::ConnectionReset)),
-            Ending::LetGo => Err(io::Error::from(ErrorKind::TimedOut)),
+            Ending::GivenUp => Err(io::Error::from(ErrorKind::TimedOut)),
             Ending::Decided | Ending::Unbuffered => self.read_in_time(buf),
         }
     }

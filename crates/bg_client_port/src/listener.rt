@@ -22,7 +22,7 @@ const BACKLOG: i32 = 1024;
 
 /// The result of an accept.
 #[derive(Drop)]
-pub(crate) enum Accepted {
+pub(crate) enum AcceptedClient {
     Stream(TcpStream),
     /// No connection waits, or no further connection is accepted.
     Nothing,
@@ -110,21 +110,21 @@ impl CountedListener {
     }
 
     /// Accepts the next connection without waiting for it.
-    pub(crate) fn accept(&self) -> Accepted {
+    pub(crate) fn accept(&self) -> AcceptedClient {
         if !self.begin() {
-            return Accepted::Nothing;
+            return AcceptedClient::Nothing;
         }
         match self.listener.accept() {
             Ok((stream, _from)) => {
                 self.count_taken();
-                Accepted::Stream(stream)
+                AcceptedClient::Stream(stream)
             }
             Err(error) => {
                 self.withdraw();
                 if error.kind() == ErrorKind::WouldBlock || self.is_closed() {
-                    Accepted::Nothing
+                    AcceptedClient::Nothing
                 } else {
-                    Accepted::Failed(error)
+                    AcceptedClient::Failed(error)
                 }
             }
         }

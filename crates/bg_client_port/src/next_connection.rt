@@ -2,9 +2,9 @@
 
 use crate::client_port::ClientPort;
 use crate::connection::Connection;
-use crate::listener::Accepted;
+use crate::listener::AcceptedClient;
 use crate::pending::Given;
-use crate::pending_connection::{OverRequest, PendingConnection};
+use crate::pending_connection::{CompleteRequest, PendingConnection};
 use crate::request_buffer::RequestBuffer;
 use crate::sockets::is_ready;
 use crate::wait_sets::{Ready, WaitSet};
@@ -33,7 +33,7 @@ const MOST_OF_BACKLOG: u32 = 2048;
 /// The result of a step.
 #[derive(Drop)]
 enum Step {
-    Given(OverRequest),
+    Given(CompleteRequest),
     Nothing,
     /// No further connection comes.
     NoneLeft,
@@ -67,7 +67,7 @@ impl ClientPort {
     }
 
     /// Waits at a set.
-    fn next_by<R: Clock + Wait>(&self, rt: &R, set: &WaitSet) -> io::Result<Option<OverRequest>> {
+    fn next_by<R: Clock + Wait>(&self, rt: &R, set: &WaitSet) -> io::Result<Option<CompleteRequest>> {
         let mut failures = 0;
         for _ in rt.forever() {
             let step = match set.wait() {
@@ -162,13 +162,13 @@ impl ClientPort {
             return self.make_room_alone(rt, set);
         }
         match self.listener.accept() {
-            Accepted::Stream(stream) => {
+            AcceptedClient::Stream(stream) => {
                 *failures = 0;
                 self.call_absent_worker();
                 Ok(self.begin_request(rt, stream))
             }
-            Accepted::Nothing => Ok(Step::Nothing),
-            Accepted::Failed(error) => {
+            AcceptedClient::Nothing => Ok(Step::Nothing),
+            AcceptedClient::Failed(error) => {
                 self.note_accept_failure();
                 *failures = failures.saturating_add(1);
                 if *failures >= ACCEPT_TRIES && self.listener.count_failure() {
@@ -237,7 +237,7 @@ impl ClientPort {
             if self.is_full.load(Ordering::SeqCst) {
                 return;
             }
-            let Accepted::Stream(stream) = self.listener.accept() else {
+            let AcceptedClient::Stream(stream) = self.listener.accept() else {
                 return;
             };
             if let Step::Given(request) = self.begin_request(rt, stream) {
@@ -261,7 +261,7 @@ impl ClientPort {
             request.read_on(&stream);
         }
         if request.is_over() {
-            return Step::Given(OverRequest {
+            return Step::Given(CompleteRequest {
                 stream,
                 request: request.into_buffered(),
                 until: None,

@@ -2,7 +2,7 @@
 
 use crate::bounds::Bounds;
 use crate::cut_responses::CutResponses;
-use crate::pending_connection::{OverRequest, PendingConnection};
+use crate::pending_connection::{CompleteRequest, PendingConnection};
 use crate::signal::Signal;
 use crate::wait_sets::LoopSet;
 use slab::Slab;
@@ -51,7 +51,7 @@ impl Totals {
 /// What a worker gets.
 #[derive(Drop)]
 pub(crate) enum Given {
-    Request(OverRequest),
+    Request(CompleteRequest),
     /// A connection was lost because an allocation failed.
     Lost,
     /// No request is over.
@@ -65,7 +65,7 @@ pub(crate) enum Given {
 #[derive(Drop)]
 pub(crate) struct Pending {
     pub(crate) connections: Slab<PendingConnection>,
-    over: VecDeque<OverRequest>,
+    over: VecDeque<CompleteRequest>,
     /// The number of lost connections that were not reported to a worker.
     lost: usize,
     pub(crate) totals: Totals,
@@ -204,7 +204,7 @@ impl Pending {
     }
 
     /// Adds a connection whose request is over, for a worker.
-    pub(crate) fn add_over(&mut self, request: OverRequest, watch: &Watch) {
+    pub(crate) fn add_over(&mut self, request: CompleteRequest, watch: &Watch) {
         let weight = request.weight();
         match self.over.push_back(request) {
             Ok(()) => {

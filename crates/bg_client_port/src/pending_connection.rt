@@ -21,21 +21,21 @@ const SMALL_REQUEST: usize = 1 << 15;
 
 /// What a connection waits for.
 #[derive(Drop)]
-enum Stage {
+enum PendingStage {
     Request(RequestBuffer),
     Response(ResponseBuffer),
 }
 
 /// A connection whose request is over and that is ready for a worker.
 #[derive(Drop)]
-pub(crate) struct OverRequest {
+pub(crate) struct CompleteRequest {
     pub(crate) stream: TcpStream,
     pub(crate) request: BufferedRequest,
     /// The moment by which the rest of it has to be read, if there is one.
     pub(crate) until: Option<u64>,
 }
 
-impl OverRequest {
+impl CompleteRequest {
     /// Its memory in bytes.
     pub(crate) fn weight(&self) -> usize {
         self.request.bytes.capacity()
@@ -45,7 +45,7 @@ impl OverRequest {
     pub(crate) fn let_go(&mut self) {
         self.request.bytes.clear();
         self.request.bytes.shrink_to_fit();
-        self.request.ending = Ending::LetGo;
+        self.request.ending = Ending::GivenUp;
         // the client may have ended it already
         let _ = self.stream.shutdown(Shutdown::Both);
     }
@@ -55,7 +55,7 @@ impl OverRequest {
 #[derive(Drop)]
 pub(crate) struct PendingConnection {
     stream: TcpStream,
-    stage: Stage,
+    stage: PendingStage,
     /// Of two connections the older one has the lower number.
     number: u64,
     interest: Interest,
@@ -76,7 +76,7 @@ impl PendingConnection {
         now: u64,
         until: u64,
     ) -> PendingConnection {
-        let stage = Stage::Request(request);
+        let stage = PendingStage::Request(request);
         PendingConnection::new(stream, stage, Interest::Input, now, until)
     }
 
@@ -93,12 +93,12 @@ impl PendingConnection {
             STILL_MILLIS
         };
         let until = now.saturating_add(wait);
-        PendingConnection::new(stream, Stage::Response(response), interest, now, until)
+        PendingConnection::new(stream, PendingStage::Response(response), interest, now, until)
     }
 
     fn new(
         stream: TcpStream,
-        stage: Stage,
+        stage: PendingStage,
         interest: Interest,
         now: u64,
         until: u64,
@@ -117,14 +117,14 @@ impl PendingConnection {
 
     /// Whether its request is arriving.
     pub(crate) fn is_arriving(&self) -> bool {
-        matches!(self.stage, Stage::Request(_))
+        matches!(self.stage, PendingStage::Request(_))
     }
 
     /// Its memory in bytes.
     pub(crate) fn weight(&self) -> usize {
         match &self.stage {
-            Stage::Request(request) => request.weight(),
-            Stage::Response(response) => response.weight(),
+            PendingStage::Request(request) => request.weight(),
+            PendingStage::Response(response) => response.weight(),
         }
     }
 
@@ -136,8 +136,8 @@ impl PendingConnection {
     /// Whether no byte of its request came.
     pub(crate) fn is_silent(&self) -> bool {
         match &self.stage {
-            Stage::Request(request) => request.len() == 0,
-            Stage::Response(_) => false,
+            PendingStage::Request(request) => request.len() == 0,
+            PendingStage::Response(_) => false,
         }
     }
 
@@ -174,17 +174,17 @@ impl PendingConnection {
 
     fn pace(&self) -> Pace {
         match &self.stage {
-            Stage::Request(request) if request.len() == 0 => FIRST_BYTE_PACE,
-            Stage::Request(_) => REQUEST_PACE,
-            Stage::Response(_) => RESPONSE_PACE,
+            PendingStage::Request(request) if request.len() == 0 => FIRST_BYTE_PACE,
+            PendingStage::Request(_) => REQUEST_PACE,
+            PendingStage::Response(_) => RESPONSE_PACE,
         }
     }
 
     /// The number of bytes that were moved in all.
     fn count_moved(&self) -> usize {
         match &self.stage {
-            Stage::Request(request) => request.len(),
-            Stage::Response(response) => response.moved(),
+            PendingStage::Request(request) => request.len(),
+            PendingStage::Response(response) => response.moved(),
         }
     }
 
@@ -192,11 +192,11 @@ impl PendingConnection {
     pub(crate) fn go_on(&mut self, key: usize, now: u64, set: &LoopSet) -> bool {
         let pace = self.pace();
         let is_over = match &mut self.stage {
-            Stage::Request(request) => {
+            PendingStage::Request(request) => {
                 request.read_on(&self.stream);
                 request.is_over()
             }
-            Stage::Response(_) => self.go_on_answered(key, now, set),
+            PendingStage::Response(_) => self.go_on_answered(key, now, set),
         };
         let moved = self.count_moved();
         self.progress.note(moved, pace, now);
@@ -204,7 +204,7 @@ impl PendingConnection {
     }
 
     fn go_on_answered(&mut self, key: usize, now: u64, set: &LoopSet) -> bool {
-        let Stage::Response(response) = &mut self.stage else {
+        let PendingStage::Response(response) = &mut self.stage else {
             return false;
         };
         let was_shut = response.is_shut();
@@ -247,8 +247,8 @@ impl PendingConnection {
     /// Whether it is a large request.
     pub(crate) fn is_upload(&self) -> bool {
         match &self.stage {
-            Stage::Request(request) => request.len() >= SMALL_REQUEST,
-            Stage::Response(_) => false,
+            PendingStage::Request(request) => request.len() >= SMALL_REQUEST,
+            PendingStage::Response(_) => false,
         }
     }
 
@@ -268,7 +268,7 @@ impl PendingConnection {
     /// Stops waiting for the rest of a request. Its client sees the end at once, even while all
     /// workers are busy.
     pub(crate) fn let_go(&mut self) {
-        if let Stage::Request(request) = &mut self.stage {
+        if let PendingStage::Request(request) = &mut self.stage {
             request.let_go();
             // the client may have ended it already
             let _ = self.stream.shutdown(Shutdown::Both);
@@ -278,13 +278,13 @@ impl PendingConnection {
     /// The number of bytes of a response that were not written.
     pub(crate) fn unwritten(&self) -> usize {
         match &self.stage {
-            Stage::Request(_) => 0,
-            Stage::Response(response) => response.unwritten(),
+            PendingStage::Request(_) => 0,
+            PendingStage::Response(response) => response.unwritten(),
         }
     }
 
     /// What a worker gets if a request was arriving. A request that is not over is given up.
-    pub(crate) fn into_over(self) -> Option<OverRequest> {
+    pub(crate) fn into_over(self) -> Option<CompleteRequest> {
         let PendingConnection {
             stream,
             stage,
@@ -292,12 +292,12 @@ impl PendingConnection {
             ..
         } = self;
         match stage {
-            Stage::Request(request) => Some(OverRequest {
+            PendingStage::Request(request) => Some(CompleteRequest {
                 stream,
                 request: request.into_buffered(),
                 until: Some(until),
             }),
-            Stage::Response(_) => None,
+            PendingStage::Response(_) => None,
         }
     }
 }

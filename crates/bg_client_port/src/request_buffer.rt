@@ -33,7 +33,7 @@ pub(crate) enum Ending {
     /// A read failed.
     Failed,
     /// The client took too long, its connection had to make room for others, or the port shuts down.
-    LetGo,
+    GivenUp,
     /// It is not over, but no more of it is buffered. The worker reads the rest.
     Unbuffered,
 }
@@ -138,7 +138,7 @@ impl RequestBuffer {
         self.bytes.clear();
         self.bytes.shrink_to_fit();
         self.extent = Extent::Unknown;
-        self.ending = Some(Ending::LetGo);
+        self.ending = Some(Ending::GivenUp);
     }
 
     /// The bytes that came. A request that is still arriving counts as given up.
@@ -152,7 +152,7 @@ impl RequestBuffer {
         BufferedRequest {
             bytes,
             was_continued,
-            ending: ending.unwrap_or(Ending::LetGo),
+            ending: ending.unwrap_or(Ending::GivenUp),
         }
     }
 

@@ -84,7 +84,7 @@ impl ResponseBuffer {
             }
             self.is_shut = true;
         }
-        self.pass_over(stream)
+        self.discard_input(stream)
     }
 
     /// The bytes that are still to be written.
@@ -114,7 +114,7 @@ impl ResponseBuffer {
     }
 
     /// Discards the bytes that still come, up to the bound.
-    fn pass_over(&mut self, stream: &TcpStream) -> Turn {
+    fn discard_input(&mut self, stream: &TcpStream) -> Turn {
         let mut piece = [0u8; PIECE];
         for _ in 0..CALLS_A_TURN {
             match receive_now(stream, &mut piece) {

@@ -9,7 +9,7 @@ const PAUSE_MILLIS: u64 = 100;
 
 /// The result of an accept.
 #[derive(Drop)]
-pub enum Accepted {
+pub enum AcceptedOperator {
     Stream(TcpStream),
     /// No connection waits, or its peer has given it up.
     Nothing,
@@ -75,12 +75,12 @@ impl Acceptor {
     }
 
     /// Accepts a connection, if one waits.
-    pub fn accept(&mut self, now: u64) -> Accepted {
+    pub fn accept(&mut self, now: u64) -> AcceptedOperator {
         match self.listener.accept() {
             Ok((stream, _from)) => {
                 self.is_failing = false;
                 self.due = Due::Now;
-                Accepted::Stream(stream)
+                AcceptedOperator::Stream(stream)
             }
             Err(error) => self.not_accepted(error, now),
         }
@@ -88,19 +88,19 @@ impl Acceptor {
 
     /// The result of a failed accept. If the peer has already given its connection up, the
     /// connection is skipped, and another one may wait.
-    fn not_accepted(&mut self, error: io::Error, now: u64) -> Accepted {
+    fn not_accepted(&mut self, error: io::Error, now: u64) -> AcceptedOperator {
         match error.kind() {
             ErrorKind::WouldBlock => {
                 self.due = Due::WhenReady;
-                Accepted::Nothing
+                AcceptedOperator::Nothing
             }
             ErrorKind::Interrupted | ErrorKind::ConnectionAborted => {
                 self.due = Due::Now;
-                Accepted::Nothing
+                AcceptedOperator::Nothing
             }
             _ => {
                 self.put_off(now);
-                Accepted::Failed(error)
+                AcceptedOperator::Failed(error)
             }
         }
     }

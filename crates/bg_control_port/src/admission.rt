@@ -69,7 +69,7 @@ impl Admission {
             if operators.has_peer_user(user) {
                 admitted.push(Admitted { stream, user })?;
             } else {
-                turn_away(&stream);
+                refuse(&stream);
             }
         }
         Ok(admitted)
@@ -78,7 +78,7 @@ impl Admission {
 
 /// Tells a connection that its orders are not taken. What has arrived of its line is read before it is closed, since a
 /// close beside unread bytes may keep the reply from its peer (RFC 2525 section 2.17).
-fn turn_away(mut stream: &TcpStream) {
+fn refuse(mut stream: &TcpStream) {
     let mut first = [0u8; FIRST_BYTES];
     // a connection that cannot be told is closed all the same
     let is_told = stream.set_nonblocking(true).is_ok() && stream.write(NOT_ALLOWED).is_ok();

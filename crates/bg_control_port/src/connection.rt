@@ -40,7 +40,7 @@ enum WholeLine {
 
 /// What happens next with a connection.
 #[derive(Drop)]
-enum Stage {
+enum OperatorStage {
     /// A line is awaited.
     Awaits,
     /// A line that is too long is skipped.
@@ -61,9 +61,9 @@ enum Stage {
 
 /// A connection of an operator. Moments are milliseconds from the start of the port.
 #[derive(Drop)]
-pub struct Connection {
+pub struct OperatorConnection {
     stream: TcpStream,
-    stage: Stage,
+    stage: OperatorStage,
     /// What was read of its input. No more is read while a whole line of it waits.
     input: LineBuffer,
     /// The user whose process is at its other end, if only listed users are served.
@@ -73,18 +73,18 @@ pub struct Connection {
     moved: u64,
 }
 
-impl Connection {
+impl OperatorConnection {
     /// A connection of this user that was accepted at this moment.
     pub fn new(
         alloc: Global,
         stream: TcpStream,
         user: Option<u32>,
         now: u64,
-    ) -> io::Result<Connection> {
+    ) -> io::Result<OperatorConnection> {
         stream.set_nonblocking(true)?;
-        Ok(Connection {
+        Ok(OperatorConnection {
             stream,
-            stage: Stage::Awaits,
+            stage: OperatorStage::Awaits,
             input: LineBuffer::new(alloc),
             user,
             moved: now,
@@ -102,7 +102,7 @@ impl Connection {
     /// The place of its whole line that waits.
     pub fn place(&self) -> Option<Place> {
         match &self.stage {
-            Stage::Waits { place, .. } => Some(*place),
+            OperatorStage::Waits { place, .. } => Some(*place),
             _ => None,
         }
     }
@@ -110,9 +110,9 @@ impl Connection {
     /// Its silence; `None` if an urgent line of it waits, or its line is being answered.
     pub fn silence(&self) -> Option<Silence> {
         let has_line = match &self.stage {
-            Stage::Waits { place, .. } if place.is_urgent => return None,
-            Stage::Asked => return None,
-            Stage::Waits { .. } => true,
+            OperatorStage::Waits { place, .. } if place.is_urgent => return None,
+            OperatorStage::Asked => return None,
+            OperatorStage::Waits { .. } => true,
             _ => false,
         };
         Some(Silence {
@@ -123,7 +123,7 @@ impl Connection {
 
     /// Whether it has taken nothing of a reply for too long.
     pub fn is_given_up(&self, now: u64) -> bool {
-        matches!(self.stage, Stage::Replies { .. })
+        matches!(self.stage, OperatorStage::Replies { .. })
             && has_passed(LONGEST_REPLY_SILENCE, self.moved, now)
     }
 
@@ -138,11 +138,11 @@ impl Connection {
         priority: &P,
     ) -> Fate {
         match &self.stage {
-            Stage::Awaits | Stage::Skips => {
+            OperatorStage::Awaits | OperatorStage::Skips => {
                 self.read_on(key, has_ended, number, now, readiness, priority)
             }
-            Stage::Waits { .. } | Stage::Asked => Fate::Stays,
-            Stage::Replies { .. } => self.write_on(key, number, now, readiness, priority),
+            OperatorStage::Waits { .. } | OperatorStage::Asked => Fate::Stays,
+            OperatorStage::Replies { .. } => self.write_on(key, number, now, readiness, priority),
         }
     }
 
@@ -158,7 +158,7 @@ impl Connection {
     ) -> Fate {
         match self.input.read(&self.stream) {
             Input::Came { is_piece_full } => {
-                if !matches!(self.stage, Stage::Skips) {
+                if !matches!(self.stage, OperatorStage::Skips) {
                     self.moved = now;
                 }
                 self.note_line(false, number, priority);
@@ -172,7 +172,7 @@ impl Connection {
 
     /// Handles the end of the input: the bytes that no line break followed are the last line.
     fn end_input<P: LinePriority>(&mut self, number: u64, priority: &P) -> Fate {
-        if matches!(self.stage, Stage::Awaits) && self.input.is_empty() {
+        if matches!(self.stage, OperatorStage::Awaits) && self.input.is_empty() {
             return Fate::Ends;
         }
         self.note_line(true, number, priority);
@@ -181,7 +181,7 @@ impl Connection {
 
     /// Notes whether the next line is whole. A whole line gets this number.
     fn note_line<P: LinePriority>(&mut self, has_ended: bool, number: u64, priority: &P) {
-        if matches!(self.stage, Stage::Skips) {
+        if matches!(self.stage, OperatorStage::Skips) {
             self.skip(has_ended, number);
             return;
         }
@@ -192,7 +192,7 @@ impl Connection {
             }
             Front::Part => {}
             Front::TooLong => {
-                self.stage = Stage::Skips;
+                self.stage = OperatorStage::Skips;
                 self.skip(has_ended, number);
             }
         }
@@ -208,14 +208,14 @@ impl Connection {
 
     fn wait_with(&mut self, line: WholeLine, is_urgent: bool, number: u64) {
         let place = Place { is_urgent, number };
-        self.stage = Stage::Waits { line, place };
+        self.stage = OperatorStage::Waits { line, place };
     }
 
     /// Watches the input again, if more may have arrived and is to be read. What has arrived already is reported
     /// after what is ready elsewhere.
     fn watch_on(&self, may_have_arrived: bool, key: usize, readiness: &Readiness) -> Fate {
         match &self.stage {
-            Stage::Awaits | Stage::Skips if may_have_arrived => {
+            OperatorStage::Awaits | OperatorStage::Skips if may_have_arrived => {
                 fate_of(readiness.watch_input(&self.stream, key))
             }
             _ => Fate::Stays,
@@ -225,10 +225,10 @@ impl Connection {
     /// Takes its whole line, with its line end. Of a line that was skipped, as many spaces are given as make a
     /// line too long. Returns whether that succeeded.
     pub fn take_line(&mut self, line: &mut Vec<u8>) -> bool {
-        let Stage::Waits { line: whole, .. } = self.stage else {
+        let OperatorStage::Waits { line: whole, .. } = self.stage else {
             return false;
         };
-        self.stage = Stage::Asked;
+        self.stage = OperatorStage::Asked;
         line.clear();
         match whole {
             WholeLine::First(length) => {
@@ -271,7 +271,7 @@ impl Connection {
 
     fn keep(&mut self, alloc: Global, rest: &[u8], after: AfterReply) -> Result<(), AllocError> {
         let reply = PendingReply::new(alloc, rest)?;
-        self.stage = Stage::Replies { reply, after };
+        self.stage = OperatorStage::Replies { reply, after };
         Ok(())
     }
 
@@ -284,7 +284,7 @@ impl Connection {
         readiness: &Readiness,
         priority: &P,
     ) -> Fate {
-        let Stage::Replies { reply, after } = &mut self.stage else {
+        let OperatorStage::Replies { reply, after } = &mut self.stage else {
             return Fate::Stays;
         };
         let after = *after;
@@ -316,7 +316,7 @@ impl Connection {
             let _ = self.stream.shutdown(Shutdown::Both);
             return Fate::Ends;
         }
-        self.stage = Stage::Awaits;
+        self.stage = OperatorStage::Awaits;
         self.note_line(false, number, priority);
         self.watch_on(true, key, readiness)
     }

@@ -1,6 +1,6 @@
 //! The connections of operators.
 
-use crate::connection::{AfterReply, Connection, Fate};
+use crate::connection::{AfterReply, OperatorConnection, Fate};
 use crate::priority::LinePriority;
 use crate::readiness::Readiness;
 use crate::turn::{MOST_CONNECTIONS, Place, Silence, has_passed, heeds_urgency, row_after};
@@ -30,7 +30,7 @@ impl Asker {
 #[derive(Drop)]
 pub struct Connections {
     alloc: Global,
-    connections: Slab<Connection>,
+    connections: Slab<OperatorConnection>,
     /// The number of the next whole line.
     next_number: u64,
     /// How many of the last lines were answered before others since they are urgent.
@@ -61,7 +61,7 @@ impl Connections {
         readiness: &Readiness,
         now: u64,
     ) -> io::Result<()> {
-        let connection = Connection::new(self.alloc, stream, user, now)?;
+        let connection = OperatorConnection::new(self.alloc, stream, user, now)?;
         let Ok(key) = self.connections.insert(connection) else {
             return Err(io::Error::from(io::ErrorKind::OutOfMemory));
         };

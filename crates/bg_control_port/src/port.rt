@@ -1,6 +1,6 @@
 //! The control port.
 
-use crate::acceptor::{Accepted, Acceptor};
+use crate::acceptor::{AcceptedOperator, Acceptor};
 use crate::admission::{Admission, Admitted};
 use crate::connection::AfterReply;
 use crate::connections::{Asker, Connections};
@@ -270,9 +270,9 @@ impl State {
             }
             match acceptor.accept(now) {
                 // without memory, it is closed
-                Accepted::Stream(stream) => drop(arrived.push(stream)),
-                Accepted::Nothing => {}
-                Accepted::Failed(reason) => {
+                AcceptedOperator::Stream(stream) => drop(arrived.push(stream)),
+                AcceptedOperator::Nothing => {}
+                AcceptedOperator::Failed(reason) => {
                     self.connections.close_silent(now);
                     return acceptor.is_first_failure().then_some(reason);
                 }

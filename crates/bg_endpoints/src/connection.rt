@@ -30,7 +30,7 @@ const TURN_SECONDS: u64 = 1;
 /// writes then do nothing, and reads give what it has sent. At its end they fail with the error of the
 /// write. The timeouts cost two system calls for each connection.
 #[derive(Drop)]
-pub struct Connection<'a, C: Clock + Wait> {
+pub struct EndpointConnection<'a, C: Clock + Wait> {
     stream: TcpStream,
     /// Where the request is counted, if the switch counts.
     visit: Option<Visit<'a, C>>,
@@ -47,7 +47,7 @@ pub struct Connection<'a, C: Clock + Wait> {
     unread: Option<ErrorKind>,
 }
 
-impl<'a, C: Clock + Wait> Connection<'a, C> {
+impl<'a, C: Clock + Wait> EndpointConnection<'a, C> {
     /// Connects to a port of 127.0.0.1. The timeout of the connect is 5 seconds, or what is left of the response
     /// timeout if that is shorter. The response timeout begins at `start`.
     pub(crate) fn open(
@@ -56,12 +56,12 @@ impl<'a, C: Clock + Wait> Connection<'a, C> {
         timeout: ResponseTimeout,
         start: Instant,
         left: Duration,
-    ) -> Result<Connection<'a, C>, ConnectFault> {
+    ) -> Result<EndpointConnection<'a, C>, ConnectFault> {
         let turns = timeout.silent_seconds();
         let write_wait = left.min(Duration::from_secs(CONNECT_SECONDS));
         let read_wait = left.min(Duration::from_secs(TURN_SECONDS));
         let stream = connect(clock, port, write_wait, read_wait)?;
-        Ok(Connection {
+        Ok(EndpointConnection {
             stream,
             visit: None,
             clock,
@@ -158,7 +158,7 @@ impl<'a, C: Clock + Wait> Connection<'a, C> {
     }
 }
 
-impl<C: Clock + Wait> Read for Connection<'_, C> {
+impl<C: Clock + Wait> Read for EndpointConnection<'_, C> {
     fn read(&mut self, buf: &mut [u8]) -> io::Result<usize> {
         let outcome = self.read_in_turn(buf);
         self.note_timeout(&outcome);
@@ -169,7 +169,7 @@ impl<C: Clock + Wait> Read for Connection<'_, C> {
     }
 }
 
-impl<C: Clock + Wait> Write for Connection<'_, C> {
+impl<C: Clock + Wait> Write for EndpointConnection<'_, C> {
     fn write(&mut self, bytes: &[u8]) -> io::Result<usize> {
         if self.unread.is_some() {
             return Ok(bytes.len());

@@ -3,7 +3,7 @@ ghost use Rattle.std.specs.Prelude.{◌≡◌, ◌<◌};
 ghost use Rattle.bg_endpoints.specs.Routing.{IsRoute};
 
 use crate::connecting::ConnectFault;
-use crate::connection::Connection;
+use crate::connection::EndpointConnection;
 use crate::directory::Directory;
 use crate::own_ports::OwnPorts;
 use crate::response_timeout::ResponseTimeout;
@@ -62,15 +62,15 @@ impl<'a, R: Net + Clock + Wait> Endpoints<'a, R> {
         port: u16,
         start: Instant,
         left: Duration,
-    ) -> Result<Connection<'a, R>, ConnectFault> {
+    ) -> Result<EndpointConnection<'a, R>, ConnectFault> {
         if self.own.is_own(port) {
             return Err(ConnectFault::Failed(io::Error::from(ErrorKind::InvalidInput)));
         }
-        Connection::open(self.rt, port, self.timeout, start, left)
+        EndpointConnection::open(self.rt, port, self.timeout, start, left)
     }
 
     /// Connects to one port.
-    fn dial_one(&self, port: u16) -> io::Result<Connection<'a, R>> {
+    fn dial_one(&self, port: u16) -> io::Result<EndpointConnection<'a, R>> {
         let start = Instant::now(self.rt)?;
         match self.connect(port, start, Duration::from_secs(self.timeout.seconds)) {
             Ok(connection) => Ok(connection),
@@ -82,7 +82,7 @@ impl<'a, R: Net + Clock + Wait> Endpoints<'a, R> {
 impl<'a, R: Net + Clock + Wait> Endpoints<'a, R> {
     /// Connects to the ports that the directory chooses, one after the other, until one connects. Each is dialled
     /// once. The error is that of the first dial.
-    fn dial_in_turn(&self, directory: &'a Directory, ticket: u16) -> Dialled<Connection<'a, R>>
+    fn dial_in_turn(&self, directory: &'a Directory, ticket: u16) -> Dialled<EndpointConnection<'a, R>>
         ensures { 0 < result.route.tries }
     {
         let (start, visit) = match (
@@ -115,7 +115,7 @@ impl<'a, R: Net + Clock + Wait> Endpoints<'a, R> {
         request: Request<'a>,
         first: u16,
         error: io::Error,
-    ) -> Dialled<Connection<'a, R>>
+    ) -> Dialled<EndpointConnection<'a, R>>
         ensures { 0 < result.route.tries }
     {
         let mut tried = Vec::new(request.directory.alloc);
@@ -157,7 +157,7 @@ impl<'a, R: Net + Clock + Wait> Endpoints<'a, R> {
         &self,
         mut visit: Visit<'a, R>,
         start: Instant,
-    ) -> Result<Connection<'a, R>, ConnectFault> {
+    ) -> Result<EndpointConnection<'a, R>, ConnectFault> {
         let left = match self.left_since(start) {
             Ok(left) => left,
             Err(error) => return Err(ConnectFault::NoSocket(error)),
@@ -185,7 +185,7 @@ impl<'a, R: Net + Clock + Wait> Endpoints<'a, R> {
 impl<'a, R: Net + Clock + Wait> Dial for Endpoints<'a, R> {
     ghost routes = { λ e port route. IsRoute e.directory port route };
 
-    type Stream = Connection<'a, R>;
+    type Stream = EndpointConnection<'a, R>;
 
     /// Connects to an endpoint. A port of the switch itself is refused with `InvalidInput`, without a
     /// connection. The connect fails with `TimedOut` after 5 seconds, or after the response timeout if that
@@ -195,7 +195,7 @@ impl<'a, R: Net + Clock + Wait> Dial for Endpoints<'a, R> {
     /// Without a directory, only this port is dialled. With one, it is the first choice: see
     /// [`Directory`]. If a dial fails, the next port of the same list is dialled, each at most once. If none
     /// connects, the error is that of the first dial. The response timeout bounds all dials together.
-    fn dial(&self, port: u16) -> Dialled<Connection<'a, R>> {
+    fn dial(&self, port: u16) -> Dialled<EndpointConnection<'a, R>> {
         match self.directory {
             Some(directory) => self.dial_in_turn(directory, port),
             None => Dialled::once(port, self.dial_one(port)),

@@ -14,7 +14,7 @@ mod table;
 mod time_left;
 mod visit;
 
-pub use connection::Connection;
+pub use connection::EndpointConnection;
 pub use directory::Directory;
 pub use endpoints::Endpoints;
 pub use own_ports::OwnPorts;

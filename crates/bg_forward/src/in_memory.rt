@@ -15,7 +15,7 @@ use std::alloc::Global;
 
 /// The outcome of a connection that is in memory.
 #[derive(Drop, Debug)]
-pub struct Exchange {
+pub struct InMemoryResult {
     /// What `serve_one` gave.
     pub served: Served,
     /// The bytes that were written to the client: `100 Continue` if it is owed, and the answer or
@@ -33,7 +33,7 @@ pub fn serve_in_memory<N: Names, G: Gate<N>, D: Dial>(
     service: Service,
     input: &[u8],
     dial: &D,
-) -> Exchange
+) -> InMemoryResult
     requires { seat.old.number ≡ 0 }
     ensures out { seat.new.number ≡ 0 }
     ensures index { seat.new.index ≡ seat.old.index }
@@ -48,5 +48,5 @@ pub fn serve_in_memory<N: Names, G: Gate<N>, D: Dial>(
     let mut client = Buffered::new(alloc, MemoryStream::new(alloc, input));
     let served = serve_one(alloc, gate, seat, service, &mut client, dial);
     let written = Bytes::from_vec(client.into_inner().written);
-    Exchange { served, written }
+    InMemoryResult { served, written }
 }

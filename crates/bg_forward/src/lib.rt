@@ -7,7 +7,7 @@
 
 mod buffered;
 mod desk_gate;
-mod exchange;
+mod forwarding;
 mod gate;
 mod in_memory;
 mod reason;
@@ -18,7 +18,7 @@ mod workers;
 pub use buffered::Buffered;
 pub use desk_gate::DeskGate;
 pub use gate::Gate;
-pub use in_memory::{Exchange, serve_in_memory};
+pub use in_memory::{InMemoryResult, serve_in_memory};
 pub use reason::Reason;
 pub use serving::{End, Served, serve_one};
 pub use streams::{Accept, ClientStream, Dial, Dialled, Route};

@@ -8,7 +8,7 @@ ghost use Rattle.bg_forward.specs.Reasons.{TellsWhy};
 ghost use Rattle.bg_forward.specs.Seats.{calls_made, seat_after};
 
 use crate::buffered::Buffered;
-use crate::exchange::{Outcome, exchange, refuse};
+use crate::forwarding::{ForwardOutcome, forward_and_answer, refuse};
 use crate::gate::Gate;
 use crate::reason::Reason;
 use crate::streams::{ClientStream, Dial, Route};
@@ -88,9 +88,9 @@ pub fn serve_one<N: Names, G: Gate<N>, S: ClientStream, D: Dial>(
         result.entered result.end }
 {
     match read_request(alloc, &mut client.stream) {
-        Ok(request) => pass(alloc, gate, seat, service, &request, client, dial),
+        Ok(request) => serve_request(alloc, gate, seat, service, &request, client, dial),
         Err(fault) => {
-            let outcome = turn_away(fault, client);
+            let outcome = refuse_fault(fault, client);
             Served {
                 entered: None,
                 route: None,
@@ -102,7 +102,7 @@ pub fn serve_one<N: Names, G: Gate<N>, S: ClientStream, D: Dial>(
 }
 
 /// Enters a request at the gate, answers it, and leaves.
-fn pass<N: Names, G: Gate<N>, S: ClientStream, D: Dial>(
+fn serve_request<N: Names, G: Gate<N>, S: ClientStream, D: Dial>(
     alloc: Global,
     gate: &G,
     seat: &mut Seat<N>,
@@ -135,7 +135,7 @@ fn pass<N: Names, G: Gate<N>, S: ClientStream, D: Dial>(
     };
     let dialled = dial.dial(ticket.port);
     let route = dialled.route;
-    let outcome = exchange(alloc, gate, seat, request, dialled, client);
+    let outcome = forward_and_answer(alloc, gate, seat, request, dialled, client);
     gate.leave(seat);
     Served {
         entered: Some(ticket),
@@ -146,7 +146,7 @@ fn pass<N: Names, G: Gate<N>, S: ClientStream, D: Dial>(
 }
 
 /// Ends a connection that gave no request.
-fn turn_away<S: Write>(fault: RequestFault, client: &mut Buffered<S>) -> Outcome
+fn refuse_fault<S: Write>(fault: RequestFault, client: &mut Buffered<S>) -> ForwardOutcome
     requires { held client.old ≡ [] }
     ensures may_end { EndsBy (request_status fault) fault result.end }
     ensures why { TellsWhy result.end result.reason }
@@ -154,7 +154,7 @@ fn turn_away<S: Write>(fault: RequestFault, client: &mut Buffered<S>) -> Outcome
         (S.contents (stream_of client.new)) (Err fault) result.end }
 {
     if let Some(reason) = Reason::of_request(fault) {
-        return Outcome {
+        return ForwardOutcome {
             end: refuse(reason.status(), client),
             reason: Some(reason),
         };
@@ -164,5 +164,5 @@ fn turn_away<S: Write>(fault: RequestFault, client: &mut Buffered<S>) -> Outcome
         RequestFault::ReadFailed => End::ReadFailed,
         _ => End::WriteFailed,
     };
-    Outcome { end, reason: None }
+    ForwardOutcome { end, reason: None }
 }

@@ -5,7 +5,7 @@ use Rattle.bg_history.specs.declared.entry.Outcome.TheVariants.{Ready, Resumed, 
 use Rattle.bg_history.specs.declared.entry.Analysis.TheVariants.{Pre, Post}
 use Rattle.bg_history.specs.declared.entry.AnalysisResult.TheVariants.{Successful, Failed, Error}
 use Rattle.bg_history.proofs.Examples.{plain, with_pause, with_post, opening, deploy_1, grown, ready, resumed, switched, promoted, paused, aborted}
-use Rattle.bg_history.specs.Turns.{is_turn, is_halted}
+use Rattle.bg_history.specs.AttemptBounds.{is_attempt_bound, is_halted}
 use Rattle.bg_history.specs.Attempts.{has_ready, has_promote_full, passes, pass_moment}
 use Rattle.bg_history.specs.Phases.{is_steady, is_scaling, awaits_pre, is_paused, is_sizing, awaits_post}
 use Rattle.bg_history.specs.Allowed.{is_allowed}
@@ -43,8 +43,8 @@ ready_of_the_one_before : has_ready (Retry ∷ Abort ∷ ready) ≡ false
 ready_of_the_one_before = refl
 
 -- a retry is a turn, like a deploy
-retry_is_a_turn : is_turn Retry ≡ true
-retry_is_a_turn = refl
+retry_bounds_an_attempt : is_attempt_bound Retry ≡ true
+retry_bounds_an_attempt = refl
 
 -- after an abort, the analysis can't get a verdict
 verdict_after_an_abort : is_allowed with_pause opening (Verdict Pre Successful) (Abort ∷ ready) ≡ false

@@ -1,4 +1,4 @@
--- One turn of the loop that replaces the Enters of closed requests.
+-- One step of the loop that replaces the Enters of closed requests.
 use Rattle.std.proofs.Common.{◌≡◌, ◌+◌, ◌<◌, ◌≤◌, ℕ, zero, suc, Bool, true, false, not, cond, ◌==◌, ◌&&◌, ◌||◌, nat_lt, List, [], ◌∷◌, ◌++◌, length, reverse, take, drop, sum, map, set, get_or, slice_get, Option, Some, None, refl, arith, ap, sym, subst, ◌∙◌}
 use Rattle.std.specs.List.{list_any, position, position_or_len}
 use Rattle.std.specs.Option.{unwrap_or}
@@ -231,7 +231,7 @@ closes-here closed xs i d q number k j lt sound is there seat service n r port a
     subst (λ m. Closes closed xs i j seat m r) (sym same)
     (closes closed xs i d q number k j seat service r port lt sound (sym (entry-here (length closed) xs i d lt sound) ∙ is) (at ∙ ap (λ m. Some (Enter seat service m r port)) same))
 
--- before the first turn nothing is replaced
+-- before the first step nothing is replaced
 pub none-replaced : (xs : List Entry) → map (as_left (is_among [])) xs ≡ xs
 none-replaced [] = refl
 none-replaced (Enter seat service number r port ∷ xs) = ap (λ t. Enter seat service number r port ∷ t) (none-replaced xs)

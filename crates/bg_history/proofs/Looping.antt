@@ -1,4 +1,4 @@
--- One turn of the loop that drops Leaves.
+-- One step of the loop that drops Leaves.
 use Rattle.std.proofs.Common.{◌≡◌, ◌<◌, ◌+◌, ℕ, Bool, true, false, not, cond, ◌==◌, ◌||◌, List, [], ◌∷◌, ◌++◌, length, reverse, take, drop, map, filter, get_or, slice_get, Some, refl, arith, ap, sym, ◌∙◌}
 use Rattle.std.proofs.lemmas.List.{get_or-drop, drop-drop, reverse-reverse}
 use Rattle.bg_history.specs.declared.entry.Entry.{Entry}
@@ -31,18 +31,18 @@ goes (Leave seat number r) before h = refl
 goes e before h = absurd (cc)
 
 -- a turn in which the entry stays
-pub turn-stays : (xs : List Entry) (i : ℕ) (d : Entry) (kept : List Entry) → i < length xs → is_leave (get_or xs i d) ≡ false → kept ≡ reverse (thin (stay (reverse (take i xs))))
+pub step-stays : (xs : List Entry) (i : ℕ) (d : Entry) (kept : List Entry) → i < length xs → is_leave (get_or xs i d) ≡ false → kept ≡ reverse (thin (stay (reverse (take i xs))))
     → reverse (laid (get_or xs i d) (reverse kept)) ≡ reverse (thin (stay (reverse (take (i + 1) xs))))
-turn-stays xs i d kept lt is h =
+step-stays xs i d kept lt is h =
     ap (λ k. reverse (laid (get_or xs i d) (reverse k))) h
     ∙ ap (λ k. reverse (laid (get_or xs i d) k)) (reverse-reverse (thin (stay (reverse (take i xs)))))
     ∙ ap reverse (sym (stays (get_or xs i d) (reverse (take i xs)) is))
     ∙ ap (λ p. reverse (thin (stay p))) (sym (reverse-more xs i d lt))
 
 -- a turn in which the entry is dropped
-pub turn-goes : (xs : List Entry) (i : ℕ) (d : Entry) → i < length xs → is_leave (get_or xs i d) ≡ true
+pub step-goes : (xs : List Entry) (i : ℕ) (d : Entry) → i < length xs → is_leave (get_or xs i d) ≡ true
     → reverse (thin (stay (reverse (take i xs)))) ≡ reverse (thin (stay (reverse (take (i + 1) xs))))
-turn-goes xs i d lt is =
+step-goes xs i d lt is =
     ap reverse (sym (goes (get_or xs i d) (reverse (take i xs)) is)) ∙ ap (λ p. reverse (thin (stay p))) (sym (reverse-more xs i d lt))
 
 -- what stays is what belongs to no closed request

@@ -5,7 +5,7 @@ use Rattle.bg_history.specs.declared.entry.Entry.TheVariants.{Verdict, Abort}
 use Rattle.bg_history.specs.declared.entry.Analysis.TheVariants.{Post}
 use Rattle.bg_history.specs.declared.entry.AnalysisResult.TheVariants.{Error}
 use Rattle.bg_history.proofs.Examples.{deploy_3, switched, promoted}
-use Rattle.bg_history.specs.Turns.{stable_of}
+use Rattle.bg_history.specs.AttemptBounds.{stable_of}
 use Rattle.bg_history.specs.Selections.{active_of, preview_of, is_selected}
 
 -- after the switch the new revision is active

@@ -1,4 +1,4 @@
--- The existing revisions, and their wanted and reported sizes.
+-- The existing revisions, and their desired and reported sizes.
 use Rattle.std.proofs.Common.{◌≡◌, true, false, List, [], ◌∷◌, refl}
 use Rattle.bg_history.specs.declared.entry.Entry.{Entry}
 use Rattle.bg_history.specs.declared.entry.Entry.TheVariants.{Tick, Available, Retry, Outcome}

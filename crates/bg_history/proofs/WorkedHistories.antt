@@ -7,7 +7,7 @@ use Rattle.bg_history.specs.declared.entry.Analysis.TheVariants.{Post}
 use Rattle.bg_history.specs.declared.entry.AnalysisResult.TheVariants.{Failed}
 use Rattle.bg_revisions.specs.declared.revision.Service.TheVariants as service
 use Rattle.bg_history.proofs.Examples.{plain, with_pause, with_post, with_limit, without_history, opening, deploy_1, deploy_2, ready, switched, promoted, paused, aborted, promoted_twice, superseded}
-use Rattle.bg_history.specs.Turns.{newest_of, is_halted}
+use Rattle.bg_history.specs.AttemptBounds.{newest_of, is_halted}
 use Rattle.bg_history.specs.Selections.{active_of, preview_of}
 use Rattle.bg_history.specs.Sizes.{existing, desired}
 use Rattle.bg_history.specs.Phases.{is_steady, awaits_pre, is_paused}

@@ -9,7 +9,7 @@ use Rattle.bg_revisions.specs.declared.revision.Service.TheVariants as service
 use Rattle.bg_history.specs.declared.entry.Analysis.{Analysis}
 use Rattle.bg_history.specs.declared.entry.Analysis.TheVariants.{Pre, Post}
 use Rattle.bg_strategy.specs.declared.strategy.Strategy.{Strategy}
-use Rattle.bg_history.specs.Turns.{moment, newest_of, is_running, is_halted}
+use Rattle.bg_history.specs.AttemptBounds.{moment, newest_of, is_running, is_halted}
 use Rattle.bg_history.specs.Attempts.{has_promote_full}
 use Rattle.bg_history.specs.Selections.{active_of, preview_of}
 use Rattle.bg_history.specs.Sizes.{existing, last_number, desired, available}
@@ -18,15 +18,15 @@ use Rattle.bg_history.specs.Promotion.{may_be_ready, may_resume, may_switch, may
 use Rattle.bg_history.specs.Requests.{Request, held_by, request_numbers}
 use Rattle.bg_history.specs.Deadlines.{exists_in, may_scale_down, may_remove}
 use Rattle.bg_history.specs.Kept.{Template, Opening}
-use Rattle.bg_history.specs.Templates.{template, is_named, has_ports, owner}
+use Rattle.bg_history.specs.Templates.{template, is_named, has_ports, namesake}
 use Rattle.bg_strategy.specs.Label.{is_label}
 use Rattle.bg_revisions.specs.PortLists.{are_ports}
 
 -- the existing revision of the name is r and has these ports; or there is none, r is the next number, and fewer than
 -- 64 revisions exist
-abbrev pub fits_owner : Opening → Option ℕ → ℕ → List ℕ → List Entry → Bool
-fits_owner o (Some q) r ports before = (q == r) && has_ports ports (template o q before)
-fits_owner o None r ports before =
+abbrev pub fits_namesake : Opening → Option ℕ → ℕ → List ℕ → List Entry → Bool
+fits_namesake o (Some q) r ports before = (q == r) && has_ports ports (template o q before)
+fits_namesake o None r ports before =
     (r == last_number before + 1) && nat_lt (length (existing before)) 64
 
 abbrev pub is_template : List ℕ → List ℕ → Option Template → Bool
@@ -36,7 +36,7 @@ abbrev pub may_deploy : Strategy → Opening → ℕ → List ℕ → List ℕ �
 may_deploy s o r name ports before =
     is_label name && are_ports s.replicas ports
     && not (is_template name ports (template o (newest_of before) before))
-    && fits_owner o (owner o name before) r ports before
+    && fits_namesake o (namesake o name before) r ports before
 
 -- the rollout waits for the verdict of this analysis
 abbrev pub awaits : Analysis → Strategy → List Entry → Bool

@@ -6,13 +6,13 @@ use Rattle.bg_history.specs.declared.entry.Outcome.TheVariants.{Ready, Resumed, 
 use Rattle.bg_history.specs.declared.entry.AnalysisResult.TheVariants.{Successful}
 use Rattle.bg_history.specs.declared.entry.Analysis.TheVariants.{Pre, Post}
 use Rattle.bg_strategy.specs.declared.strategy.Strategy.{Strategy}
-use Rattle.bg_history.specs.Turns.{moment, is_turn, is_running}
+use Rattle.bg_history.specs.AttemptBounds.{moment, is_attempt_bound, is_running}
 
 -- the running attempt has an entry that passes the test
 abbrev pub in_attempt : (Entry → Bool) → List Entry → Bool
 in_attempt test [] = false
 in_attempt test (e ∷ before) =
-    not (is_turn e) && ((test e && is_running before) || in_attempt test before)
+    not (is_attempt_bound e) && ((test e && is_running before) || in_attempt test before)
 
 abbrev pub is_ready : Entry → Bool
 is_ready (Outcome (Ready r)) = true
@@ -73,7 +73,7 @@ first_at true at (Some kept) = Some kept
 abbrev pub pass_moment : Strategy → List Entry → Option ℕ
 pass_moment s [] = None
 pass_moment s (e ∷ before) =
-    if is_turn e then None
+    if is_attempt_bound e then None
     else first_at (passes s e before) (moment before) (pass_moment s before)
 
 abbrev pub is_passed : Strategy → List Entry → Bool

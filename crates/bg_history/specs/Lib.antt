@@ -1,5 +1,5 @@
 pub mod Kept
-pub mod Turns
+pub mod AttemptBounds
 pub mod Attempts
 pub mod Selections
 pub mod Sizes

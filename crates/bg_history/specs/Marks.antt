@@ -4,7 +4,7 @@ use Rattle.std.specs.Option.{option_or, option_map}
 use Rattle.bg_history.specs.declared.entry.Entry.{Entry}
 use Rattle.bg_history.specs.declared.entry.Entry.TheVariants.{Deploy, Outcome}
 use Rattle.bg_history.specs.declared.entry.Outcome.TheVariants.{ScaledDown}
-use Rattle.bg_history.specs.Turns.{moment, stable_of, newest_of, is_halt}
+use Rattle.bg_history.specs.AttemptBounds.{moment, stable_of, newest_of, is_halt}
 use Rattle.bg_history.specs.Selections.{active_of}
 use Rattle.bg_history.specs.Sizes.{begins, is_scaled}
 use Rattle.bg_strategy.specs.declared.strategy.Strategy.{Strategy}

@@ -3,7 +3,7 @@
 use Rattle.std.specs.Prelude.{Bool, not, ◌&&◌, ◌||◌, nat_lt, List}
 use Rattle.bg_history.specs.declared.entry.Entry.{Entry}
 use Rattle.bg_strategy.specs.declared.strategy.Strategy.{Strategy}
-use Rattle.bg_history.specs.Turns.{is_running, is_halted}
+use Rattle.bg_history.specs.AttemptBounds.{is_running, is_halted}
 use Rattle.bg_history.specs.Attempts.{has_ready, has_resumed, has_switched, is_passed}
 
 -- the strategy has a pause: a promotion needs an operator, or it comes only after some seconds

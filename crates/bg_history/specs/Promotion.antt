@@ -4,7 +4,7 @@ use Rattle.bg_history.specs.declared.entry.Entry.{Entry}
 use Rattle.bg_history.specs.declared.entry.Outcome.{Outcome}
 use Rattle.bg_history.specs.declared.entry.Outcome.TheVariants.{Ready, Resumed, Switched, Promoted}
 use Rattle.bg_strategy.specs.declared.strategy.Strategy.{Strategy}
-use Rattle.bg_history.specs.Turns.{moment, newest_of, is_running}
+use Rattle.bg_history.specs.AttemptBounds.{moment, newest_of, is_running}
 use Rattle.bg_history.specs.Attempts.{has_ready, has_resumed, has_switched, has_promote, has_promote_full, has_post_success, pass_moment, is_passed}
 use Rattle.bg_history.specs.Sizes.{available}
 use Rattle.bg_history.specs.Phases.{needs_pause}

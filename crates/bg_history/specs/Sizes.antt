@@ -4,7 +4,7 @@ use Rattle.bg_history.specs.declared.entry.Entry.{Entry}
 use Rattle.bg_history.specs.declared.entry.Entry.TheVariants.{Deploy, Available, Retry, Outcome}
 use Rattle.bg_history.specs.declared.entry.Outcome.TheVariants.{Resumed, ScaledDown, Removed}
 use Rattle.bg_strategy.specs.declared.strategy.Strategy.{Strategy}
-use Rattle.bg_history.specs.Turns.{stable_of, newest_of}
+use Rattle.bg_history.specs.AttemptBounds.{stable_of, newest_of}
 
 -- the ascending list with the number, which occurs in it once
 abbrev pub put : ℕ → List ℕ → List ℕ

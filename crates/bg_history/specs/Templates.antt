@@ -24,5 +24,5 @@ has_ports ports None = false
 has_ports ports (Some t) = bytes_eq t.ports ports
 
 -- the existing revision of that name
-abbrev pub owner : Opening → List ℕ → List Entry → Option ℕ
-owner o name past = find (λ q. is_named name (template o q past)) (existing past)
+abbrev pub namesake : Opening → List ℕ → List Entry → Option ℕ
+namesake o name past = find (λ q. is_named name (template o q past)) (existing past)

@@ -4,7 +4,7 @@ use Rattle.bg_history.specs.declared.entry.Entry.{Entry}
 use Rattle.bg_history.specs.declared.entry.Entry.TheVariants.{Tick, Enter, Leave}
 use Rattle.bg_strategy.specs.declared.strategy.Strategy.{Strategy}
 use Rattle.bg_history.specs.Kept.{Opening}
-use Rattle.bg_history.specs.Turns.{stable_of, newest_of, is_running, is_halted}
+use Rattle.bg_history.specs.AttemptBounds.{stable_of, newest_of, is_running, is_halted}
 use Rattle.bg_history.specs.Attempts.{in_attempt, pass_moment, has_ready, has_resumed, has_switched, has_promote, has_promote_full, has_post_success}
 use Rattle.bg_history.specs.Selections.{active_of}
 use Rattle.bg_history.specs.Sizes.{existing, last_number, desired, available}

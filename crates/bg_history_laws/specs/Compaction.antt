@@ -5,12 +5,12 @@ use Rattle.bg_history.specs.declared.entry.Entry.TheVariants.{Enter}
 use Rattle.bg_history.specs.declared.entry.Outcome.{Outcome}
 use Rattle.bg_strategy.specs.declared.strategy.Strategy.{Strategy}
 use Rattle.bg_history.specs.Kept.{Opening}
-use Rattle.bg_history.specs.Turns.{moment}
+use Rattle.bg_history.specs.AttemptBounds.{moment}
 use Rattle.bg_revisions.specs.declared.revision.Service.{Service}
 use Rattle.bg_history.specs.Selections.{preview_of}
 use Rattle.bg_history.specs.Phases.{is_steady, is_scaling, awaits_pre, is_paused, is_sizing, awaits_post}
 use Rattle.bg_history.specs.Deadlines.{deadline, is_due}
-use Rattle.bg_history.specs.Templates.{owner}
+use Rattle.bg_history.specs.Templates.{namesake}
 use Rattle.bg_history.specs.Allowed.{selection}
 use Rattle.bg_history.specs.Requests.{open_requests, given, calls_of}
 use Rattle.bg_history.specs.Steps.{IsLegal, first_allowed, Step, with_outcomes}
@@ -35,7 +35,7 @@ pub record Answers (s : Strategy) (o : Opening) (a b : List Entry) : Type 0 wher
   pub post : awaits_post s a ≡ awaits_post s b
   pub due_at : (r : ℕ) → deadline s r a ≡ deadline s r b
   pub due : (r : ℕ) → is_due s r a ≡ is_due s r b
-  pub owner_is : (name : List ℕ) → owner o name a ≡ owner o name b
+  pub namesake_is : (name : List ℕ) → namesake o name a ≡ namesake o name b
   pub selected : (v : Service) → selection s v a ≡ selection s v b
 
 -- what compaction keeps of a legal past

@@ -6,7 +6,7 @@ use Rattle.bg_history.specs.declared.entry.Entry.{Entry}
 use Rattle.bg_history.specs.declared.entry.Entry.TheVariants.{Available, PromoteFull}
 use Rattle.bg_history.specs.declared.entry.Outcome.{Outcome}
 use Rattle.bg_history.specs.Kept.{Opening}
-use Rattle.bg_history.specs.Turns.{stable_of, newest_of, is_running}
+use Rattle.bg_history.specs.AttemptBounds.{stable_of, newest_of, is_running}
 use Rattle.bg_history.specs.Attempts.{has_promote_full}
 use Rattle.bg_history.specs.Selections.{active_of, preview_of}
 use Rattle.bg_history.specs.Sizes.{desired}
@@ -21,7 +21,7 @@ pub record IsFullyPromoted (r : ℕ) (past : List Entry) : Type 0 where
   pub stable : stable_of past ≡ r
   pub ended : IsFalse (is_running past)
 
--- the next call of a full promotion: the full promotion if the attempt has none; else the report that all wanted
+-- the next call of a full promotion: the full promotion if the attempt has none; else the report that all desired
 -- endpoints of its revision are available
 abbrev pub next_promotion_call : Strategy → List Entry → Entry
 next_promotion_call s past =

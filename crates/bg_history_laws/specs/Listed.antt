@@ -9,18 +9,18 @@ use Rattle.bg_history.specs.Templates.{template}
 
 -- the revision with this number, template and sizes; every existing revision has a template
 abbrev pub sized : ℕ → ℕ → ℕ → Option Template → Revision
-sized r wanted there None = record {
+sized r desired_size there None = record {
   number = r;
   name = [];
   ports = [];
-  desired = wanted;
+  desired = desired_size;
   available = there;
 }
-sized r wanted there (Some t) = record {
+sized r desired_size there (Some t) = record {
   number = r;
   name = t.name;
   ports = t.ports;
-  desired = wanted;
+  desired = desired_size;
   available = there;
 }
 

@@ -8,7 +8,7 @@ use Rattle.bg_history.specs.declared.entry.AnalysisResult.TheVariants.{Successfu
 use Rattle.bg_history.specs.declared.entry.Entry.{Entry}
 use Rattle.bg_history.specs.declared.entry.Entry.TheVariants.{Verdict, Enter, Outcome}
 use Rattle.bg_history.specs.declared.entry.Outcome.TheVariants.{Switched}
-use Rattle.bg_history.specs.Turns.{moment, stable_of}
+use Rattle.bg_history.specs.AttemptBounds.{moment, stable_of}
 use Rattle.bg_history.specs.Attempts.{in_attempt, has_promote, has_promote_full, pass_moment}
 use Rattle.bg_history.specs.Phases.{needs_pause}
 use Rattle.bg_history.specs.Promotion.{waited}

@@ -4,7 +4,7 @@ use Rattle.std.specs.List.{list_all}
 use Rattle.bg_strategy.specs.declared.strategy.Strategy.{Strategy}
 use Rattle.bg_history.specs.declared.entry.Entry.{Entry}
 use Rattle.bg_history.specs.Kept.{Opening}
-use Rattle.bg_history.specs.Turns.{moment, stable_of, newest_of}
+use Rattle.bg_history.specs.AttemptBounds.{moment, stable_of, newest_of}
 use Rattle.bg_history.specs.Selections.{active_of, preview_of}
 use Rattle.bg_history.specs.Sizes.{existing, last_number, desired, available, is_scaled}
 use Rattle.bg_history.specs.Requests.{open_requests, open_at}

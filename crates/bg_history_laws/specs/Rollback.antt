@@ -8,7 +8,7 @@ use Rattle.bg_history.specs.declared.entry.Entry.{Entry}
 use Rattle.bg_history.specs.declared.entry.Entry.TheVariants.{Deploy, Verdict, Abort}
 use Rattle.bg_history.specs.declared.entry.Outcome.{Outcome}
 use Rattle.bg_history.specs.Kept.{Opening, Template}
-use Rattle.bg_history.specs.Turns.{stable_of, newest_of, is_running}
+use Rattle.bg_history.specs.AttemptBounds.{stable_of, newest_of, is_running}
 use Rattle.bg_history.specs.Selections.{active_of, preview_of}
 use Rattle.bg_history.specs.Sizes.{available}
 use Rattle.bg_history.specs.Templates.{template}

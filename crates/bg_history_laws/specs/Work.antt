@@ -2,7 +2,7 @@
 use Rattle.std.specs.Prelude.{ℕ, Bool, if◌then◌else◌, ◌+◌, ◌*◌, List, length, count_by}
 use Rattle.bg_history.specs.declared.entry.Entry.{Entry}
 use Rattle.bg_strategy.specs.declared.strategy.Strategy.{Strategy}
-use Rattle.bg_history.specs.Turns.{is_running}
+use Rattle.bg_history.specs.AttemptBounds.{is_running}
 use Rattle.bg_history.specs.Attempts.{has_ready, has_resumed, has_switched}
 use Rattle.bg_history.specs.Sizes.{existing, is_scaled}
 

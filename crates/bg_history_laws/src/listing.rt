@@ -7,10 +7,10 @@ ghost use Rattle.bg_history.specs.declared.entry.Entry.{Entry};
 ghost use Rattle.bg_history.specs.declared.entry.Entry.TheVariants.{Deploy, Available, Retry, Outcome};
 ghost use Rattle.bg_history.specs.declared.entry.Outcome.TheVariants.{Resumed, ScaledDown, Removed};
 ghost use Rattle.bg_history.specs.Kept.{Opening};
-ghost use Rattle.bg_history.specs.Turns.{stable_of, newest_of};
+ghost use Rattle.bg_history.specs.AttemptBounds.{stable_of, newest_of};
 ghost use Rattle.bg_history.specs.Sizes.{existing, last_number, desired, available};
 ghost use Rattle.bg_history.specs.Deadlines.{exists_in};
-ghost use Rattle.bg_history.specs.Templates.{owner};
+ghost use Rattle.bg_history.specs.Templates.{namesake};
 ghost use Rattle.bg_history_laws.specs.Listed.{revision_of, revisions_of};
 ghost use Rattle.bg_history_laws.specs.Changes.{resizes_none};
 ghost use Rattle.bg_history_laws.specs.Answers.{template_answer};
@@ -53,7 +53,7 @@ pub fn resizes()
 }
 
 /// A deploy of a number above the greatest one given appends a revision of the preview's size, with this name, these
-/// ports and no available endpoint. The law requires that the number had no wanted and no available endpoints.
+/// ports and no available endpoint. The law requires that the number had no desired and no available endpoints.
 pub fn appends()
     ensures { (s : Strategy) (o : Opening) (past : List Entry) (r : ℕ) (name ports : List ℕ)
         → last_number past < r → IsFalse (r == stable_of past)
@@ -90,13 +90,13 @@ pub fn finds()
         → length (revisions_of s o past) ≡ length (existing past) }
 {}
 
-/// The revision of a name is the revision of its owner's number. If the newest revision exists, the answer to a
+/// The revision of a name is the revision of its namesake's number. If the newest revision exists, the answer to a
 /// template is `SameTemplate` if that revision has it; else `PortsDiffer` if a revision of this name has other ports;
 /// else the number of the revision that has the template, or none.
 pub fn names()
-    ensures owner { (s : Strategy) (o : Opening) (past : List Entry) (name : List ℕ)
+    ensures namesake { (s : Strategy) (o : Opening) (past : List Entry) (name : List ℕ)
         → named name (revisions_of s o past)
-        ≡ option_map (revision_of s o past) (owner o name past) }
+        ≡ option_map (revision_of s o past) (namesake o name past) }
     ensures template { (s : Strategy) (o : Opening) (past : List Entry) (newest : ℕ)
         (name ports : List ℕ) → IsTrue (exists_in newest past)
         → template_of newest name ports (revisions_of s o past)

@@ -6,7 +6,7 @@ ghost use Rattle.bg_history.specs.declared.entry.Entry.TheVariants.{Leave};
 ghost use Rattle.bg_history.specs.declared.entry.Outcome.{Outcome};
 ghost use Rattle.bg_history.specs.Compacted.{compacted};
 ghost use Rattle.bg_history.specs.Kept.{Opening, Template};
-ghost use Rattle.bg_history.specs.Turns.{newest_of, is_running};
+ghost use Rattle.bg_history.specs.AttemptBounds.{newest_of, is_running};
 ghost use Rattle.bg_history.specs.Attempts.{has_promote, has_promote_full};
 ghost use Rattle.bg_history.specs.Requests.{Request};
 ghost use Rattle.bg_history.specs.Templates.{template};
@@ -32,7 +32,7 @@ pub fn can_roll_back()
 }
 
 /// A running attempt can always be promoted. In a legal past in which an attempt runs, at most three calls fully
-/// promote its revision: a full promotion, unless the attempt has one, and then up to two reports that all wanted
+/// promote its revision: a full promotion, unless the attempt has one, and then up to two reports that all desired
 /// endpoints of the revision are available. Each call is allowed in its turn.
 pub fn can_promote()
     ensures { (s : Strategy) (o : Opening) (closed : List ℕ) (past : List Entry)

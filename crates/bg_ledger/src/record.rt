@@ -9,7 +9,7 @@ use crate::blanks::Blanks;
 use crate::holding::Holding;
 use crate::names::Names;
 use crate::seat::Seat;
-use crate::tokens::{RecordToken, exchange};
+use crate::tokens::{RecordToken, swap};
 use std::marker::{Model, PhantomData};
 
 /// A book's record of the seat of the same index: the calls that the book answered to it.
@@ -69,7 +69,7 @@ impl<N: Names> SeatRecord<N> {
         ensures seat { seat.new ≡ next }
         ensures own { self.new ≡ next }
     {
-        exchange(
+        swap(
             &mut self.token,
             &mut seat.token,
             next.calls,

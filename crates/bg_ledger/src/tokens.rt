@@ -66,7 +66,7 @@ impl NewTokens {
 }
 
 /// Changes what the two tokens of a name say. It proves that they said the same.
-pub(crate) fn exchange(
+pub(crate) fn swap(
     own: &mut RecordToken,
     seat: &mut SeatToken,
     _calls: u64,

@@ -15,8 +15,8 @@ abbrev pub first_of : List ℕ → ℕ → ℕ
 first_of [] b = b
 first_of (k ∷ ks) b = k
 
-turn : {x y : ℕ} → (x ≢ y) → y ≢ x
-turn n e = n (sym e)
+reversed : {x y : ℕ} → (x ≢ y) → y ≢ x
+reversed n e = n (sym e)
 
 -- links of other nodes don't matter
 pub frame : (nx pv : List ℕ) (p x q y a : ℕ) (ks : List ℕ) (b : ℕ) → Path nx pv a ks b → (a ≢ p) → Fresh p ks → Fresh q ks → (b ≢ q) → Path (set nx p x) (set pv q y) a ks b
@@ -61,7 +61,7 @@ distinct_cut (p ∷ ps) k qs d = (fresh_cut p ps k qs d.0, distinct_cut ps k qs 
 -- the node occurs in no other place
 pub distinct_at : (ps : List ℕ) (k : ℕ) (qs : List ℕ) → Distinct (ps ++ k ∷ qs) → Fresh k (ps ++ qs)
 distinct_at [] k qs d = d.0
-distinct_at (p ∷ ps) k qs d = (turn (fresh_at p ps k qs d.0), distinct_at ps k qs d.1)
+distinct_at (p ∷ ps) k qs d = (reversed (fresh_at p ps k qs d.0), distinct_at ps k qs d.1)
 
 pub fresh_front : (x : ℕ) (ps qs : List ℕ) → Fresh x (ps ++ qs) → Fresh x ps
 fresh_front x [] qs f = tt
@@ -77,7 +77,7 @@ fresh_push x (y ∷ ys) k f n = (f.0, fresh_push x ys k f.1 n)
 
 pub distinct_push : (ks : List ℕ) (k : ℕ) → Distinct ks → Fresh k ks → Distinct (ks ++ k ∷ [])
 distinct_push [] k d f = (tt, tt)
-distinct_push (y ∷ ys) k d f = (fresh_push y ys k d.0 (turn f.0), distinct_push ys k d.1 f.1)
+distinct_push (y ∷ ys) k d f = (fresh_push y ys k d.0 (reversed f.0), distinct_push ys k d.1 f.1)
 
 -- a node is removed
 pub cut : (nx pv : List ℕ) (a : ℕ) (ps : List ℕ) (k : ℕ) (qs : List ℕ) (b : ℕ) → Path nx pv a (ps ++ k ∷ qs) b → Fresh a (ps ++ k ∷ qs) → Distinct (ps ++ k ∷ qs) → Fresh b (ps ++ k ∷ qs)
@@ -85,10 +85,10 @@ pub cut : (nx pv : List ℕ) (a : ℕ) (ps : List ℕ) (k : ℕ) (qs : List ℕ)
     → Path (set nx (last_from a ps) (first_of qs b)) (set pv (first_of qs b) (last_from a ps)) a (ps ++ qs) b
 cut nx pv a [] k [] b h fa d fb lp lq = (get_or-set_same nx a b 0 lp, get_or-set_same pv b a 0 lq)
 cut nx pv a [] k (c ∷ rs) b h fa d fb lp lq =
-    (get_or-set_same nx a c 0 lp, get_or-set_same pv c a 0 lq, frame nx pv a c c a c rs b h.2.2 fa.1.0 fa.1.1 d.1.0 (turn fb.1.0))
+    (get_or-set_same nx a c 0 lp, get_or-set_same pv c a 0 lq, frame nx pv a c c a c rs b h.2.2 fa.1.0 fa.1.1 d.1.0 (reversed fb.1.0))
 cut nx pv a (p ∷ ps) k qs b h fa d fb lp lq = (
-  get_or-set_other nx (last_from p ps) a (first_of qs b) 0 (turn (fresh_last a p ps (fresh_front a (p ∷ ps) (k ∷ qs) fa))) ∙ h.0,
-  get_or-set_other pv (first_of qs b) p (last_from p ps) 0 (turn (fresh_first p ps k qs b d.0 (turn fb.0))) ∙ h.1,
+  get_or-set_other nx (last_from p ps) a (first_of qs b) 0 (reversed (fresh_last a p ps (fresh_front a (p ∷ ps) (k ∷ qs) fa))) ∙ h.0,
+  get_or-set_other pv (first_of qs b) p (last_from p ps) 0 (reversed (fresh_first p ps k qs b d.0 (reversed fb.0))) ∙ h.1,
   cut nx pv p ps k qs b h.2 d.0 d.1 fb.1 lp lq,
 )
 
@@ -97,9 +97,9 @@ pub push : (nx pv : List ℕ) (a : ℕ) (ks : List ℕ) (k b : ℕ) → Path nx 
     → last_from a ks < length nx → b < length pv
     → Path (set nx (last_from a ks) k) (set pv b k) a (ks ++ k ∷ []) b
 push nx pv a [] k b h ek el fa d fb fk na nb lp lq =
-    (get_or-set_same nx a k 0 lp, get_or-set_other pv b k k 0 (turn nb) ∙ el, (get_or-set_other nx a k k 0 (turn na) ∙ ek, get_or-set_same pv b k 0 lq))
+    (get_or-set_same nx a k 0 lp, get_or-set_other pv b k k 0 (reversed nb) ∙ el, (get_or-set_other nx a k k 0 (reversed na) ∙ ek, get_or-set_same pv b k 0 lq))
 push nx pv a (c ∷ ks) k b h ek el fa d fb fk na nb lp lq = (
-  get_or-set_other nx (last_from c ks) a k 0 (turn (fresh_last a c ks fa)) ∙ h.0,
+  get_or-set_other nx (last_from c ks) a k 0 (reversed (fresh_last a c ks fa)) ∙ h.0,
   get_or-set_other pv b c k 0 fb.0 ∙ h.1,
   push nx pv c ks k b h.2 ek el d.0 d.1 fb.1 fk.1 fk.0 nb lp lq,
 )

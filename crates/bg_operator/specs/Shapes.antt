@@ -7,27 +7,27 @@ use Rattle.bg_operator.specs.declared.line_fault.LineFault.{LineFault}
 use Rattle.bg_operator.specs.declared.line_fault.LineFault.TheVariants.{WrongCount, BadWord, BadNumber}
 
 -- the required form of a word: anything, a number below 2 ^ bits, or one of these words
-pub data Form : Type 0 where
-  AnyWord : Form
-  Number : (bits : ℕ) → Form
-  OneOf : (words : List (List ℕ)) → Form
+pub data WordKind : Type 0 where
+  AnyWord : WordKind
+  Number : (bits : ℕ) → WordKind
+  OneOf : (words : List (List ℕ)) → WordKind
 
 -- the words that follow: one of each form, in order; the same, where the last ones may be missing;
 -- one of each form and then one or more of a further form; or any number of one form
 pub data Shape : Type 0 where
-  Exactly : (forms : List Form) → Shape
-  AtMost : (forms : List Form) → Shape
-  AndMore : (forms : List Form) (further : Form) → Shape
-  AnyNumber : (form : Form) → Shape
+  Exactly : (forms : List WordKind) → Shape
+  AtMost : (forms : List WordKind) → Shape
+  AndMore : (forms : List WordKind) (further : WordKind) → Shape
+  AnyNumber : (form : WordKind) → Shape
 
 -- the fault of a word that must be of this form
-abbrev pub word_fault : Form → List ℕ → Option LineFault
+abbrev pub word_fault : WordKind → List ℕ → Option LineFault
 word_fault AnyWord word = None
 word_fault (Number bits) word = if is_number bits word then None else Some BadNumber
 word_fault (OneOf words) word = if list_any (bytes_eq word) words then None else Some BadWord
 
 -- the fault of the first word from the left that does not have its form
-abbrev pub first_wrong : List Form → List (List ℕ) → Option LineFault
+abbrev pub first_wrong : List WordKind → List (List ℕ) → Option LineFault
 first_wrong (form ∷ forms) (word ∷ words) =
     option_or (word_fault form word) (first_wrong forms words)
 first_wrong _ _ = None

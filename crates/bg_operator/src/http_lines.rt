@@ -69,8 +69,8 @@ fn has_token_characters_only(bytes: &[u8]) -> bool
 }
 
 /// The first position of a byte.
-fn first_place(line: &[u8], wanted: u8) -> Option<usize>
-    ensures { result ≡ position (λ byte. byte == wanted) line.now }
+fn first_place(line: &[u8], sought: u8) -> Option<usize>
+    ensures { result ≡ position (λ byte. byte == sought) line.now }
 {
-    line.iter().position(|byte| *byte == wanted)
+    line.iter().position(|byte| *byte == sought)
 }

@@ -7,34 +7,34 @@ use Rattle.bg_history.specs.declared.entry.Outcome.TheVariants.{Ready, Resumed, 
 use Rattle.bg_history.specs.declared.entry.AnalysisResult.TheVariants.{Successful, Failed, Error}
 use Rattle.bg_history.specs.declared.entry.Analysis.TheVariants.{Pre}
 use Rattle.bg_strategy.specs.declared.strategy.Strategy.{Strategy}
-use Rattle.bg_history.specs.Turns.{moment, is_turn, is_running}
+use Rattle.bg_history.specs.AttemptBounds.{moment, is_attempt_bound, is_running}
 use Rattle.bg_history.specs.Attempts.{in_attempt, has_ready, is_ready, first_at, is_passed, pass_moment, passes}
 
 -- only a turn begins or ends an attempt
-is_running-turnless : (e : Entry) (before : List Entry) → is_turn e ≡ false → is_running (e ∷ before) ≡ is_running before
-is_running-turnless (Tick m) before h = refl
-is_running-turnless (Deploy r name ports) before h = grind arith
-is_running-turnless (Available r n) before h = refl
-is_running-turnless (Verdict analysis Successful) before h = refl
-is_running-turnless (Verdict analysis Failed) before h = grind arith
-is_running-turnless (Verdict analysis Error) before h = grind arith
-is_running-turnless Promote before h = refl
-is_running-turnless PromoteFull before h = refl
-is_running-turnless Abort before h = grind arith
-is_running-turnless Retry before h = grind arith
-is_running-turnless (Enter seat service number r port) before h = refl
-is_running-turnless (Leave seat number r) before h = refl
-is_running-turnless (Outcome (Ready r)) before h = refl
-is_running-turnless (Outcome (Resumed r)) before h = refl
-is_running-turnless (Outcome (Switched r)) before h = refl
-is_running-turnless (Outcome (Promoted r)) before h = grind arith
-is_running-turnless (Outcome (ScaledDown r)) before h = refl
-is_running-turnless (Outcome (Removed r)) before h = refl
+is_running-unbounded : (e : Entry) (before : List Entry) → is_attempt_bound e ≡ false → is_running (e ∷ before) ≡ is_running before
+is_running-unbounded (Tick m) before h = refl
+is_running-unbounded (Deploy r name ports) before h = grind arith
+is_running-unbounded (Available r n) before h = refl
+is_running-unbounded (Verdict analysis Successful) before h = refl
+is_running-unbounded (Verdict analysis Failed) before h = grind arith
+is_running-unbounded (Verdict analysis Error) before h = grind arith
+is_running-unbounded Promote before h = refl
+is_running-unbounded PromoteFull before h = refl
+is_running-unbounded Abort before h = grind arith
+is_running-unbounded Retry before h = grind arith
+is_running-unbounded (Enter seat service number r port) before h = refl
+is_running-unbounded (Leave seat number r) before h = refl
+is_running-unbounded (Outcome (Ready r)) before h = refl
+is_running-unbounded (Outcome (Resumed r)) before h = refl
+is_running-unbounded (Outcome (Switched r)) before h = refl
+is_running-unbounded (Outcome (Promoted r)) before h = grind arith
+is_running-unbounded (Outcome (ScaledDown r)) before h = refl
+is_running-unbounded (Outcome (Removed r)) before h = refl
 
 -- if an entry is in the running attempt, an attempt runs
 pub in_attempt_runs : (test : Entry → Bool) (past : List Entry) → in_attempt test past ≡ true → is_running past ≡ true
 in_attempt_runs test [] h = grind arith
-in_attempt_runs test (e ∷ before) h = grind (arith, common_steps, is_running-turnless e before, in_attempt_runs test before)
+in_attempt_runs test (e ∷ before) h = grind (arith, common_steps, is_running-unbounded e before, in_attempt_runs test before)
 
 -- the entry with which the attempt passes is its Ready, or comes after it
 passes-ready : (s : Strategy) (e : Entry) (before : List Entry) → passes s e before ≡ true → ((is_ready e && is_running before) || has_ready before) ≡ true

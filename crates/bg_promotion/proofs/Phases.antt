@@ -6,7 +6,7 @@ use Rattle.bg_history.specs.declared.entry.Entry.{Entry}
 use Rattle.bg_history.specs.declared.entry.Entry.TheVariants.{Outcome}
 use Rattle.bg_history.specs.declared.entry.Outcome.TheVariants.{Ready, Resumed, Switched, Promoted}
 use Rattle.bg_strategy.specs.declared.strategy.Strategy.{Strategy}
-use Rattle.bg_history.specs.Turns.{moment, newest_of, is_running, is_halted}
+use Rattle.bg_history.specs.AttemptBounds.{moment, newest_of, is_running, is_halted}
 use Rattle.bg_history.specs.Attempts.{is_ready, has_ready, has_resumed, has_switched, has_promote, has_promote_full, has_post_success, passes, first_at, pass_moment, is_passed}
 use Rattle.bg_history.specs.Phases.{needs_pause, is_sizing, awaits_pre, is_paused, awaits_post}
 use Rattle.bg_history.specs.Promotion.{attempts, waited, may_be_ready, may_resume, may_switch, may_promote, first_promotion}

@@ -2,7 +2,7 @@
 use Rattle.std.specs.Prelude.{if◌then◌else◌, List, Option, Some, None}
 use Rattle.bg_history.specs.declared.entry.Entry.{Entry}
 use Rattle.bg_strategy.specs.declared.strategy.Strategy.{Strategy}
-use Rattle.bg_history.specs.Turns.{is_halted}
+use Rattle.bg_history.specs.AttemptBounds.{is_halted}
 use Rattle.bg_history.specs.Phases.{is_steady, is_scaling, awaits_pre, is_paused, is_sizing, awaits_post}
 use Rattle.bg_promotion.specs.declared.phase.Phase.{Phase}
 use Rattle.bg_promotion.specs.declared.phase.Phase.TheVariants.{Steady, Scaling, PreAnalysis, Paused, Sizing, PostAnalysis, Aborted}

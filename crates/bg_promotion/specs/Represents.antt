@@ -4,7 +4,7 @@ use Rattle.bg_history.specs.declared.entry.Entry.{Entry}
 use Rattle.bg_history.specs.declared.entry.Entry.TheVariants.{Tick, Available, Enter, Leave, Outcome}
 use Rattle.bg_history.specs.declared.entry.Outcome.TheVariants.{ScaledDown, Removed}
 use Rattle.bg_strategy.specs.declared.strategy.Strategy.{Strategy}
-use Rattle.bg_history.specs.Turns.{stable_of, newest_of, is_running, is_halted}
+use Rattle.bg_history.specs.AttemptBounds.{stable_of, newest_of, is_running, is_halted}
 use Rattle.bg_history.specs.Attempts.{has_ready, has_resumed, has_switched, has_promote, has_promote_full, has_post_success, pass_moment}
 use Rattle.bg_history.specs.Selections.{active_of}
 use Rattle.bg_promotion.specs.Core.{Core}

@@ -5,7 +5,7 @@ use Rattle.std.proofs.lemmas.Bool.Decides.{nat_tests}
 use Rattle.std.proofs.lemmas.Slice.Eq.{bytes_eq-Decides}
 use Rattle.std.proofs.lemmas.List.{length-map, take_all, drop_all, append-nil}
 use Rattle.bg_revisions.specs.declared.revision.Revision.{Revision}
-use Rattle.bg_revisions.specs.Rosters.{Listing, named, has_form, resized, reported, AscendsWithin, HasOwnNames, HasForms, IsRoster}
+use Rattle.bg_revisions.specs.Rosters.{Listing, named, is_well_formed, resized, reported, AscendsWithin, HasOwnNames, AreWellFormed, IsRoster}
 
 -- a change that keeps number, name and ports
 record Keeps (f : Revision → Revision) : Type 0 where
@@ -25,16 +25,16 @@ HasOwnNames-map : (f : Revision → Revision) (vs : List Revision) → Keeps f �
 HasOwnNames-map f [] keeps h = tt
 HasOwnNames-map f (v ∷ vs) keeps h = rw (keeps.name v) (named-map f v.name vs keeps h.0, HasOwnNames-map f vs keeps h.1)
 
-HasForms-map : (f : Revision → Revision) (replicas : ℕ) (vs : List Revision) → Keeps f → HasForms replicas vs → HasForms replicas (map f vs)
-HasForms-map f replicas [] keeps h = tt
-HasForms-map f replicas (v ∷ vs) keeps h = rw (keeps.name v, keeps.ports v) (h.0, HasForms-map f replicas vs keeps h.1)
+AreWellFormed-map : (f : Revision → Revision) (replicas : ℕ) (vs : List Revision) → Keeps f → AreWellFormed replicas vs → AreWellFormed replicas (map f vs)
+AreWellFormed-map f replicas [] keeps h = tt
+AreWellFormed-map f replicas (v ∷ vs) keeps h = rw (keeps.name v, keeps.ports v) (h.0, AreWellFormed-map f replicas vs keeps h.1)
 
 IsRoster-map : (f : Revision → Revision) (r : Listing) → Keeps f → IsRoster r → IsRoster (record r { revisions = map f r.revisions })
 IsRoster-map f r keeps h = record {
   few = rw (length-map r.revisions f) h.few;
   ascends = Ascends-map f 0 r.last r.revisions keeps h.ascends;
   own_names = HasOwnNames-map f r.revisions keeps h.own_names;
-  forms = HasForms-map f r.replicas r.revisions keeps h.forms;
+  well_formed = AreWellFormed-map f r.replicas r.revisions keeps h.forms;
 }
 
 keep-when : (b : Bool) (v w : Revision) → w.number ≡ v.number → w.name ≡ v.name → w.ports ≡ v.ports
@@ -42,7 +42,7 @@ keep-when : (b : Bool) (v w : Revision) → w.number ≡ v.number → w.name ≡
 keep-when true v w number name ports = (number, name, ports)
 keep-when false v w number name ports = (refl, refl, refl)
 
--- a roster is still one after a revision's wanted number of endpoints is set
+-- a roster is still one after a revision's desired number of endpoints is set
 pub IsRoster-resized : (number n : ℕ) (r : Listing) → IsRoster r → IsRoster (record r { revisions = map (resized number n) r.revisions })
 IsRoster-resized number n r h = IsRoster-map (resized number n) r (record {
   number = λ v. (keep-when (v.number == number) v (record v { desired = n; available = cond (n == 0) 0 v.available }) refl refl refl).0;
@@ -80,10 +80,10 @@ HasOwnNames-filter p (v ∷ vs) h = kept (p v) v (filter p vs) (named-filter p v
   kept true v vs here h = (here, h)
   kept false v vs here h = h
 
-HasForms-filter : (p : Revision → Bool) (replicas : ℕ) (vs : List Revision) → HasForms replicas vs → HasForms replicas (filter p vs)
-HasForms-filter p replicas [] h = tt
-HasForms-filter p replicas (v ∷ vs) h = kept (p v) replicas v (filter p vs) h.0 (HasForms-filter p replicas vs h.1) where
-  kept : (b : Bool) (replicas : ℕ) (v : Revision) (vs : List Revision) → has_form replicas v.name v.ports ≡ true → HasForms replicas vs → HasForms replicas (cond b (v ∷ vs) vs)
+AreWellFormed-filter : (p : Revision → Bool) (replicas : ℕ) (vs : List Revision) → AreWellFormed replicas vs → AreWellFormed replicas (filter p vs)
+AreWellFormed-filter p replicas [] h = tt
+AreWellFormed-filter p replicas (v ∷ vs) h = kept (p v) replicas v (filter p vs) h.0 (AreWellFormed-filter p replicas vs h.1) where
+  kept : (b : Bool) (replicas : ℕ) (v : Revision) (vs : List Revision) → is_well_formed replicas v.name v.ports ≡ true → AreWellFormed replicas vs → AreWellFormed replicas (cond b (v ∷ vs) vs)
   kept true replicas v vs here h = (here, h)
   kept false replicas v vs here h = h
 
@@ -97,7 +97,7 @@ IsRoster-filter p r h = record {
   few = omega (arith, few-filter p r.revisions, h.few);
   ascends = Ascends-filter p 0 r.last r.revisions h.ascends;
   own_names = HasOwnNames-filter p r.revisions h.own_names;
-  forms = HasForms-filter p r.replicas r.revisions h.forms;
+  well_formed = AreWellFormed-filter p r.replicas r.revisions h.forms;
 }
 
 Ascends-push : (low last : ℕ) (vs : List Revision) (v : Revision) → v.number ≡ last + 1 → AscendsWithin low last vs → AscendsWithin low v.number (vs ++ v ∷ [])
@@ -122,18 +122,18 @@ HasOwnNames-push (w ∷ vs) v absent h =
     let rest : named v.name vs ≡ None = grind (arith, nat_tests) in
     (named-push w.name vs v h.0 (differ w.name v.name (bytes_eq v.name w.name) refl other), HasOwnNames-push vs v rest h.1)
 
-HasForms-push : (replicas : ℕ) (vs : List Revision) (v : Revision) → has_form replicas v.name v.ports ≡ true → HasForms replicas vs → HasForms replicas (vs ++ v ∷ [])
-HasForms-push replicas [] v here h = (here, tt)
-HasForms-push replicas (w ∷ vs) v here h = (h.0, HasForms-push replicas vs v here h.1)
+AreWellFormed-push : (replicas : ℕ) (vs : List Revision) (v : Revision) → is_well_formed replicas v.name v.ports ≡ true → AreWellFormed replicas vs → AreWellFormed replicas (vs ++ v ∷ [])
+AreWellFormed-push replicas [] v here h = (here, tt)
+AreWellFormed-push replicas (w ∷ vs) v here h = (h.0, AreWellFormed-push replicas vs v here h.1)
 
 -- a roster is still one after a revision with a new name is added
-pub IsRoster-push : (r : Listing) (v : Revision) → v.number ≡ r.last + 1 → named v.name r.revisions ≡ None → has_form r.replicas v.name v.ports ≡ true
+pub IsRoster-push : (r : Listing) (v : Revision) → v.number ≡ r.last + 1 → named v.name r.revisions ≡ None → is_well_formed r.replicas v.name v.ports ≡ true
     → length r.revisions < 64 → IsRoster r → IsRoster (record r { revisions = r.revisions ++ v ∷ []; last = v.number })
 IsRoster-push r v next is_new form room h = record {
   few = omega (arith, length-append r.revisions (v ∷ []));
   ascends = Ascends-push 0 r.last r.revisions v next h.ascends;
   own_names = HasOwnNames-push r.revisions v is_new h.own_names;
-  forms = HasForms-push r.replicas r.revisions v form h.forms;
+  well_formed = AreWellFormed-push r.replicas r.revisions v form h.forms;
 }
 
 -- after a loop over a whole list, each element has been changed

@@ -22,12 +22,12 @@ abbrev pub named : List ℕ → List Revision → Option Revision
 named name revisions = find (λ v. bytes_eq v.name name) revisions
 
 -- the name is a label, and the ports are distinct, one for each replica
-abbrev pub has_form : ℕ → List ℕ → List ℕ → Bool
-has_form replicas name ports = is_label name && are_ports replicas ports
+abbrev pub is_well_formed : ℕ → List ℕ → List ℕ → Bool
+is_well_formed replicas name ports = is_label name && are_ports replicas ports
 
 -- the answer to a name and ports: `BadName` if the name is not a label; else `BadPorts` if the ports are wrong
-abbrev pub form_of : ℕ → List ℕ → List ℕ → Result (Unit {0}) RevisionFault
-form_of replicas name ports =
+abbrev pub well_formed : ℕ → List ℕ → List ℕ → Result (Unit {0}) RevisionFault
+well_formed replicas name ports =
     if is_label name
     then (if are_ports replicas ports then Ok tt else Err BadPorts)
     else Err BadName
@@ -82,13 +82,13 @@ HasOwnNames [] = Unit {0}
 HasOwnNames (v ∷ more) = (named v.name more ≡ None) × HasOwnNames more
 
 -- each revision's name and ports are well formed
-abbrev pub HasForms : ℕ → List Revision → Type 0
-HasForms replicas [] = Unit {0}
-HasForms replicas (v ∷ more) = (has_form replicas v.name v.ports ≡ true) × HasForms replicas more
+abbrev pub AreWellFormed : ℕ → List Revision → Type 0
+AreWellFormed replicas [] = Unit {0}
+AreWellFormed replicas (v ∷ more) = (is_well_formed replicas v.name v.ports ≡ true) × AreWellFormed replicas more
 
 -- the invariant of a roster
 pub record IsRoster (r : Listing) : Type 0 where
   pub few : length r.revisions ≤ 64
   pub ascends : AscendsWithin 0 r.last r.revisions
   pub own_names : HasOwnNames r.revisions
-  pub forms : HasForms r.replicas r.revisions
+  pub forms : AreWellFormed r.replicas r.revisions

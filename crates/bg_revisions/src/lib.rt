@@ -1,14 +1,14 @@
 //! The revisions of a rollout, and the revisions that the services select.
 #![tactic(auto)]
 
-mod form;
+mod replica_ports;
 mod name;
 mod ports;
 mod revision;
 mod revision_fault;
 mod roster;
 
-pub use form::has_ports_form;
+pub use replica_ports::are_replica_ports;
 pub use name::Name;
 pub use ports::Ports;
 pub use revision::{Revision, Selectors, Service};

@@ -14,7 +14,7 @@ pub struct Revision {
     /// The number of endpoints that the revision wants; 0 if it is scaled down.
     pub desired: u32,
     /// The number of available endpoints by the last report since the revision was scaled down, else 0. A report has
-    /// at most the number wanted at that time.
+    /// at most the number desired at that time.
     pub available: u32,
 }
 

@@ -1,9 +1,9 @@
 //! The revisions that exist.
 ghost use Rattle.std.specs.Prelude.{◌≡◌, ◌<◌, ◌≤◌, ◌+◌, ◌^◌, true, [], ◌∷◌, ◌++◌, ◌==◌, not, length, map, filter, slice_get, IsNone, IsSome, IsErr, IfSome, IfOk, IfErr, OnOk, OnErr};
 ghost use Rattle.std.specs.Option.{option_copied, IsSomeAnd};
-ghost use Rattle.bg_revisions.specs.Rosters.{numbered, named, has_form, form_of, template_of, refused_by, resized, reported, report_of, IsRoster};
+ghost use Rattle.bg_revisions.specs.Rosters.{numbered, named, is_well_formed, well_formed, template_of, refused_by, resized, reported, report_of, IsRoster};
 
-use crate::form::has_ports_form;
+use crate::replica_ports::are_replica_ports;
 use crate::name::Name;
 use crate::ports::Ports;
 use crate::revision::Revision;
@@ -59,12 +59,12 @@ impl Roster {
     /// Checks the form of a revision's name and ports. The error is `BadName` if the name is not a DNS label;
     /// else `BadPorts` if the ports are not distinct numbers from 1, one for each replica.
     pub fn fits(&self, name: &str, ports: &[u16]) -> Result<(), RevisionFault>
-        ensures { result ≡ form_of self.now.replicas name.now ports.now }
+        ensures { result ≡ well_formed self.now.replicas name.now ports.now }
     {
         if !is_dns_label(name) {
             return Err(RevisionFault::BadName);
         }
-        if !has_ports_form(self.replicas, ports) {
+        if !are_replica_ports(self.replicas, ports) {
             return Err(RevisionFault::BadPorts);
         }
         Ok(())
@@ -97,7 +97,7 @@ impl Roster {
     /// the greatest number ever given. The error is `TooManyRevisions` if 64 revisions exist; else `OutOfMemory` if an
     /// allocation fails. An error changes nothing.
     pub fn add(&mut self, name: &str, ports: &[u16], desired: u32) -> Result<u64, RevisionFault>
-        requires fits { has_form self.old.replicas name.now ports.now ≡ true }
+        requires fits { is_well_formed self.old.replicas name.now ports.now ≡ true }
         requires is_new { IsNone (named name.now self.old.revisions) }
         requires numbers { self.old.last < 2 ^ 53 }
         ensures number { IfOk result (λ n. n ≡ self.old.last + 1) }

@@ -4,7 +4,7 @@ use Rattle.std.specs.List.{list_all}
 use Rattle.bg_history.specs.declared.entry.Entry.{Entry}
 use Rattle.bg_history.specs.Requests.{Request, open_requests, given}
 use Rattle.bg_history.specs.Sizes.{last_number}
-use Rattle.bg_history.specs.Turns.{moment}
+use Rattle.bg_history.specs.AttemptBounds.{moment}
 use Rattle.bg_history.specs.Steps.{IsLegal}
 use Rattle.bg_ledger.specs.declared.holding.Holding.{Holding}
 use Rattle.bg_requestlists.specs.RequestLists.{OpenAt, requests_of}

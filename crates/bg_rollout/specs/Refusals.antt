@@ -4,15 +4,15 @@ use Rattle.std.specs.Option.{option_or}
 use Rattle.bg_strategy.specs.declared.strategy.Strategy.{Strategy}
 use Rattle.bg_strategy.specs.Label.{is_label}
 use Rattle.bg_revisions.specs.PortLists.{are_ports}
-use Rattle.bg_revisions.specs.Rosters.{form_of}
+use Rattle.bg_revisions.specs.Rosters.{well_formed}
 use Rattle.bg_revisions.specs.declared.revision.Service.{Service}
 use Rattle.bg_history.specs.declared.entry.Entry.{Entry}
 use Rattle.bg_history.specs.declared.entry.Entry.TheVariants as event
-use Rattle.bg_history.specs.Turns.{moment, newest_of}
+use Rattle.bg_history.specs.AttemptBounds.{moment, newest_of}
 use Rattle.bg_history.specs.Sizes.{existing, last_number, desired, available}
 use Rattle.bg_history.specs.Deadlines.{exists_in}
 use Rattle.bg_history.specs.Requests.{open_requests, given}
-use Rattle.bg_history.specs.Templates.{owner}
+use Rattle.bg_history.specs.Templates.{namesake}
 use Rattle.bg_history.specs.Allowed.{selection, port_of}
 use Rattle.bg_promotion.specs.Answers.{abort_answer, retry_answer, promote_answer, promote_full_answer, verdict_answer}
 use Rattle.bg_history_laws.specs.Answers.{template_answer}
@@ -89,7 +89,7 @@ enter_refusal b service = enter_refusal_at b (selection b.strategy service b.pas
 -- the number that a deploy of this name gets: that of the revision of this name, else one above the greatest number
 -- given
 abbrev pub deployed_number : Routing → List ℕ → ℕ
-deployed_number b name = unwrap_or (owner b.opening name b.past) (last_number b.past + 1)
+deployed_number b name = unwrap_or (namesake b.opening name b.past) (last_number b.past + 1)
 
 -- the entry of a control
 abbrev pub event_of : Routing → Control → Entry
@@ -111,12 +111,12 @@ fault_in told (Err e) = Some (told e)
 -- the name is new, and 64 revisions exist
 abbrev pub has_no_place : Routing → List ℕ → Bool
 has_no_place b name =
-    is_none (owner b.opening name b.past) && nat_le 64 (length (existing b.past))
+    is_none (namesake b.opening name b.past) && nat_le 64 (length (existing b.past))
 
 -- the fault of a deploy: of its form; else of its template; else of the number of revisions
 abbrev pub deploy_fault : Routing → List ℕ → List ℕ → Option control.ControlFault
 deploy_fault b name ports =
-    option_or (fault_in of_revision (form_of b.strategy.replicas name ports))
+    option_or (fault_in of_revision (well_formed b.strategy.replicas name ports))
     (option_or
     (fault_in of_revision (template_answer b.opening (newest_of b.past) name ports b.past))
     (fault_if (has_no_place b name) control_fault.TooManyRevisions None))

@@ -5,7 +5,7 @@ use Rattle.bg_revisions.specs.declared.revision.Revision.{Revision}
 use Rattle.bg_revisions.specs.declared.revision.Selectors.{Selectors}
 use Rattle.bg_history.specs.declared.entry.Entry.{Entry}
 use Rattle.bg_history.specs.Kept.{Opening}
-use Rattle.bg_history.specs.Turns.{moment as moment_of}
+use Rattle.bg_history.specs.AttemptBounds.{moment as moment_of}
 use Rattle.bg_history.specs.Selections.{selectors_of}
 use Rattle.bg_history.specs.Sizes.{existing}
 use Rattle.bg_history_laws.specs.Listed.{revision_of}

@@ -5,7 +5,7 @@
 //! no allowed outcome is left undone and that the history has room for each request to leave.
 #![tactic(auto)]
 
-mod accepted;
+mod accepted_event;
 mod control;
 mod control_fault;
 mod fault;
@@ -15,7 +15,7 @@ mod limits;
 mod rollout;
 mod ticket;
 
-pub use accepted::Accepted;
+pub use accepted_event::AcceptedEvent;
 pub use control::Control;
 pub use control_fault::ControlFault;
 pub use fault::{EnterFault, GatherFault, OpenFault};

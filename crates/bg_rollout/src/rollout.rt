@@ -2,7 +2,7 @@
 ghost use Rattle.std.specs.Prelude.{◌≡◌, ◌≤◌, ◌*◌, OnOk, OnErr, length, Some, IsTrue, ◌+◌};
 ghost use Rattle.bg_rollout.specs.Refusals.{all_open};
 ghost use Rattle.bg_rollout.specs.Invariant.{RoutingInvariant};
-ghost use Rattle.bg_history.specs.Turns.{moment as moment_of};
+ghost use Rattle.bg_history.specs.AttemptBounds.{moment as moment_of};
 ghost use Rattle.bg_history.specs.Sizes.{existing};
 ghost use Rattle.bg_history.specs.Requests.{open_at};
 ghost use Rattle.bg_history.specs.Deadlines.{deadline, is_reached};

@@ -5,7 +5,7 @@ use Rattle.bg_revisions.specs.declared.revision.Selectors.{Selectors}
 use Rattle.bg_strategy.specs.declared.strategy.Strategy.{Strategy}
 use Rattle.bg_history.specs.declared.entry.Entry.{Entry}
 use Rattle.bg_history.specs.declared.entry.Entry.TheVariants.{Deploy}
-use Rattle.bg_history.specs.Turns.{moment, newest_of}
+use Rattle.bg_history.specs.AttemptBounds.{moment, newest_of}
 use Rattle.bg_history.specs.Sizes.{is_scaled}
 use Rattle.bg_history.specs.Selections.{selectors_of}
 use Rattle.bg_history.specs.Marks.{MarkKind, Left, Superseded, Cleared, kind_of}

@@ -8,7 +8,7 @@ use Rattle.bg_history.specs.declared.entry.Entry.{Entry}
 use Rattle.bg_history.specs.declared.entry.Entry.TheVariants.{Deploy, Verdict, Abort, Outcome}
 use Rattle.bg_history.specs.declared.entry.Outcome.TheVariants.{Switched}
 use Rattle.bg_history.specs.declared.entry.AnalysisResult.TheVariants.{Successful, Failed, Error}
-use Rattle.bg_history.specs.Turns.{newest_of}
+use Rattle.bg_history.specs.AttemptBounds.{newest_of}
 use Rattle.bg_history.specs.Selections.{active_of, selectors_of}
 use Rattle.bg_history.specs.Sizes.{existing, Ascends}
 use Rattle.bg_history.specs.Deadlines.{deadline, exists_in}

@@ -3,7 +3,7 @@ use Rattle.std.proofs.Common.{◌≡◌, ◌≤◌, ℕ, Bool, true, false, ◌&
 use Rattle.std.proofs.lemmas.Bool.Decides.{nat_tests, eqb_tells}
 use Rattle.bg_history.specs.declared.entry.Entry.{Entry}
 use Rattle.bg_strategy.specs.declared.strategy.Strategy.{Strategy}
-use Rattle.bg_history.specs.Turns.{moment}
+use Rattle.bg_history.specs.AttemptBounds.{moment}
 use Rattle.bg_history.specs.Selections.{selectors_of}
 use Rattle.bg_history.specs.Sizes.{existing, AllAbove, Ascends}
 use Rattle.bg_history.specs.Marks.{mark}

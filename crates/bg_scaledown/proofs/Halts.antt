@@ -8,7 +8,7 @@ use Rattle.bg_history.specs.declared.entry.Entry.TheVariants.{Verdict, Abort}
 use Rattle.bg_history.specs.declared.entry.Analysis.{Analysis}
 use Rattle.bg_history.specs.declared.entry.AnalysisResult.{AnalysisResult}
 use Rattle.bg_history.specs.declared.entry.AnalysisResult.TheVariants.{Successful, Failed, Error}
-use Rattle.bg_history.specs.Turns.{moment}
+use Rattle.bg_history.specs.AttemptBounds.{moment}
 use Rattle.bg_history.specs.Selections.{selectors_of}
 use Rattle.bg_history.specs.Marks.{MarkKind, Left, Aborted, Cleared, has_abort_delay, kind_of}
 use Rattle.bg_scaledown.specs.declared.mark.RevisionMark.{RevisionMark}

@@ -22,19 +22,19 @@ fold-min_least x q [] within = grind (arith, nat_tests)
 fold-min_least x q (y ∷ ys) within = grind (arith, nat_tests, fold-min_first (min x y) ys, fold-min_least (min x y) q ys)
 
 -- the revision is due and passes the test
-abbrev pub is_wanted : Table → ℕ → Selectors → (ℕ → Bool) → ℕ → Bool
-is_wanted t now x p q = is_due_in t q now x && p q
+abbrev pub is_candidate : Table → ℕ → Selectors → (ℕ → Bool) → ℕ → Bool
+is_candidate t now x p q = is_due_in t q now x && p q
 
 -- the least number that is due and passes the test is the least revision that is due and passes it
-pub least-due : (t : Table) (now : ℕ) (x : Selectors) (p : ℕ → Bool) (numbers : List ℕ) → ((q : ℕ) → member q numbers ≡ is_wanted t now x p q) → IsLeastDue t now x p (reduce min numbers)
+pub least-due : (t : Table) (now : ℕ) (x : Selectors) (p : ℕ → Bool) (numbers : List ℕ) → ((q : ℕ) → member q numbers ≡ is_candidate t now x p q) → IsLeastDue t now x p (reduce min numbers)
 least-due t now x p [] same = record {
   due = tt;
   passes = tt;
   least = tt;
-  none = λ q due. is_false (p q) (λ passes. let within : false ≡ is_wanted t now x p q = same q in let wanted : is_wanted t now x p q ≡ true = rw (due, passes) refl in cc);
+  none = λ q due. is_false (p q) (λ passes. let within : false ≡ is_candidate t now x p q = same q in let candidate : is_candidate t now x p q ≡ true = rw (due, passes) refl in cc);
 }
 least-due t now x p (y ∷ ys) same =
-    let wanted : is_wanted t now x p (fold min y ys) ≡ true = sym (same (fold min y ys)) ∙ fold-min_member y ys in
+    let candidate : is_candidate t now x p (fold min y ys) ≡ true = sym (same (fold min y ys)) ∙ fold-min_member y ys in
     record {
       due = grind (arith);
       passes = grind (arith);

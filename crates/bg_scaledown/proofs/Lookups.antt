@@ -7,7 +7,7 @@ use Rattle.bg_history.specs.declared.entry.Entry.{Entry}
 use Rattle.bg_history.specs.declared.entry.Entry.TheVariants.{Deploy, Verdict, Abort, Retry, Outcome}
 use Rattle.bg_history.specs.declared.entry.Outcome.TheVariants.{Switched, ScaledDown}
 use Rattle.bg_history.specs.declared.entry.AnalysisResult.TheVariants.{Successful, Failed, Error}
-use Rattle.bg_history.specs.Turns.{moment}
+use Rattle.bg_history.specs.AttemptBounds.{moment}
 use Rattle.bg_history.specs.Marks.{MarkKind, Left, Superseded, Aborted, Cleared, Mark, kind_of, mark}
 use Rattle.bg_history.specs.Deadlines.{deadline_of}
 use Rattle.bg_strategy.specs.declared.strategy.Strategy.{Strategy}

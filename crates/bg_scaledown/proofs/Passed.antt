@@ -12,7 +12,7 @@ use Rattle.bg_scaledown.specs.Tables.{Table}
 use Rattle.bg_scaledown.specs.Due.{mark_of, has_left, exempts, one_if, rank_in, rank_among, found_is_due}
 use Rattle.bg_scaledown.specs.Sorted.{sorted, OncePerRevision}
 use Rattle.bg_scaledown.proofs.Counts.{member}
-use Rattle.bg_scaledown.proofs.Least.{is_wanted}
+use Rattle.bg_scaledown.proofs.Least.{is_candidate}
 use Rattle.bg_scaledown.proofs.Sorting.{has_passed, ordered-sorted, passed-front, any-sorted}
 
 -- the mark belongs to that revision
@@ -127,11 +127,11 @@ candidates t now x p =
     ++ numbers (drop (unwrap_or t.limit 0) (filter (leaves (λ q. not (exempts x q))) (limited t.limit t.marks))))
 
 -- the same, by its mark
-wanted-by_mark : (t : Table) (now : ℕ) (x : Selectors) (p : ℕ → Bool) (q : ℕ) (o : Option RevisionMark) → mark_of q t.marks ≡ o
+candidate-by_mark : (t : Table) (now : ℕ) (x : Selectors) (p : ℕ → Bool) (q : ℕ) (o : Option RevisionMark) → mark_of q t.marks ≡ o
     → ((not (exempts x q) && p q) && (found_passes (has_passed now) o || (found_passes (leaves (λ q. not (exempts x q))) o && reaches_limit t.limit (rank_among x q t.marks))))
     ≡ ((not (exempts x q) && found_is_due t now (rank_among x q t.marks) o) && p q)
-wanted-by_mark t now x p q None found = grind (arith)
-wanted-by_mark t now x p q (Some m) found =
+candidate-by_mark t now x p q None found = grind (arith)
+candidate-by_mark t now x p q (Some m) found =
     rw (found-of q t.marks m found)
     (tests (exempts x q) (p q) (nat_le m.deadline now) (has_left m.cause) (reaches_limit t.limit (rank_among x q t.marks))) where
       tests : (e p d l o : Bool) → ((not e && p) && (d || ((l && not e) && o))) ≡ ((not e && (d || (l && o))) && p)
@@ -147,7 +147,7 @@ wanted-by_mark t now x p q (Some m) found =
 
 -- these are the revisions that are due and pass the test
 pub member-candidates : (t : Table) (now : ℕ) (x : Selectors) (p : ℕ → Bool) (q : ℕ) → OncePerRevision t.marks
-    → member q (candidates t now x p) ≡ is_wanted t now x p q
+    → member q (candidates t now x p) ≡ is_candidate t now x p q
 member-candidates t now x p q once =
     let passed = take (prefix_len (has_passed now) (sorted t.marks)) (sorted t.marks) in
     let over = drop (unwrap_or t.limit 0) (filter (leaves (λ q. not (exempts x q))) (limited t.limit t.marks)) in
@@ -163,4 +163,4 @@ member-candidates t now x p q once =
     ∙ ap (λ b. (not (exempts x q) && p q) && b)
     (list_any-append (λ r. r == q) (numbers passed) (numbers over)
     ∙ rw (member-numbers q passed, member-numbers q over, in_passed, in_over) refl)
-    ∙ wanted-by_mark t now x p q (mark_of q t.marks) refl
+    ∙ candidate-by_mark t now x p q (mark_of q t.marks) refl

@@ -4,7 +4,7 @@ use Rattle.bg_history.specs.declared.entry.Entry.{Entry}
 use Rattle.bg_history.specs.declared.entry.Entry.TheVariants.{Deploy, Verdict, Abort, Retry, Outcome}
 use Rattle.bg_history.specs.declared.entry.Outcome.TheVariants.{Switched, ScaledDown}
 use Rattle.bg_history.specs.declared.entry.AnalysisResult.TheVariants.{Failed, Error}
-use Rattle.bg_history.specs.Turns.{moment, stable_of, newest_of}
+use Rattle.bg_history.specs.AttemptBounds.{moment, stable_of, newest_of}
 use Rattle.bg_history.specs.Selections.{active_of}
 use Rattle.bg_history.specs.Sizes.{is_scaled}
 use Rattle.bg_history.specs.Deadlines.{deadline, exists_in}

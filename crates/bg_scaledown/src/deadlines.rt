@@ -3,7 +3,7 @@ ghost use Rattle.std.specs.Prelude.{◌≡◌, ◌≤◌, ◌<◌, ◌+◌, ◌^
 ghost use Rattle.std.specs.Prelude.{◌&&◌, find, IfSome, IfNone};
 ghost use Rattle.bg_strategy.specs.declared.strategy.Strategy.{Strategy};
 ghost use Rattle.bg_history.specs.declared.entry.Entry.{Entry};
-ghost use Rattle.bg_history.specs.Turns.{moment};
+ghost use Rattle.bg_history.specs.AttemptBounds.{moment};
 ghost use Rattle.bg_history.specs.Selections.{selectors_of};
 ghost use Rattle.bg_history.specs.Sizes.{existing};
 ghost use Rattle.bg_history.specs.Deadlines.{deadline as deadline_of_past};

@@ -2,7 +2,7 @@
 ghost use Rattle.std.specs.Prelude.{◌≡◌, ◌≤◌, ℕ, true, List, length, is_some, IsTrue, IsFalse};
 ghost use Rattle.bg_strategy.specs.declared.strategy.Strategy.{Strategy};
 ghost use Rattle.bg_history.specs.declared.entry.Entry.{Entry};
-ghost use Rattle.bg_history.specs.Turns.{moment, newest_of};
+ghost use Rattle.bg_history.specs.AttemptBounds.{moment, newest_of};
 ghost use Rattle.bg_history.specs.Selections.{active_of, selectors_of};
 ghost use Rattle.bg_history.specs.Sizes.{existing};
 ghost use Rattle.bg_history.specs.Deadlines.{deadline, exists_in, is_due};

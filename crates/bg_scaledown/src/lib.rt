@@ -5,7 +5,7 @@ mod deadlines;
 pub mod laws;
 mod mark;
 mod marks;
-mod row;
+mod mark_list;
 
 pub use deadlines::Deadlines;
 pub use mark::{Cause, RevisionMark};

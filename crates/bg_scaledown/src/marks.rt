@@ -4,15 +4,15 @@ ghost use Rattle.bg_scaledown.specs.Due.{marks_without};
 ghost use Rattle.bg_scaledown.specs.Sorted.{comes_before, inserted, sorted, OncePerRevision};
 
 use crate::mark::RevisionMark;
-use crate::row::Row;
+use crate::mark_list::MarkList;
 use std::marker::Model;
 
 /// At most 64 marks, at most one of each revision. Contracts see them newest first. They are also kept in the order
 /// of their deadlines, so a reader of either order starts at its front. No call allocates.
 #[derive(Drop)]
 pub struct Marks {
-    newest_first: Row,
-    by_deadline: Row,
+    newest_first: MarkList,
+    by_deadline: MarkList,
 }
 
 impl Model for Marks {
@@ -33,8 +33,8 @@ impl Marks {
         ensures { result ≡ [] }
     {
         Marks {
-            newest_first: Row::new(),
-            by_deadline: Row::new(),
+            newest_first: MarkList::new(),
+            by_deadline: MarkList::new(),
         }
     }
 
@@ -75,11 +75,11 @@ impl Marks {
 }
 
 /// The marks of other revisions.
-fn others(marks: &[RevisionMark], revision: u64) -> Row
+fn others(marks: &[RevisionMark], revision: u64) -> MarkList
     requires { length marks.now ≤ 64 }
     ensures { result ≡ marks_without revision marks.now }
 {
-    let mut kept = Row::new();
+    let mut kept = MarkList::new();
     for mark in marks {
         if mark.revision != revision {
             kept.push(*mark);
@@ -89,12 +89,12 @@ fn others(marks: &[RevisionMark], revision: u64) -> Row
 }
 
 /// The mark, followed by the marks of other revisions.
-fn marked(marks: &[RevisionMark], newest: RevisionMark) -> Row
+fn marked(marks: &[RevisionMark], newest: RevisionMark) -> MarkList
     requires few { length marks.now ≤ 64 }
     requires room { length (marks_without newest.revision marks.now) < 64 }
     ensures { result ≡ newest ∷ marks_without newest.revision marks.now }
 {
-    let mut kept = Row::new();
+    let mut kept = MarkList::new();
     kept.push(newest);
     for mark in marks {
         if mark.revision != newest.revision {
@@ -105,11 +105,11 @@ fn marked(marks: &[RevisionMark], newest: RevisionMark) -> Row
 }
 
 /// The mark in its place among marks that are sorted.
-fn placed(marks: &[RevisionMark], mark: RevisionMark) -> Row
+fn placed(marks: &[RevisionMark], mark: RevisionMark) -> MarkList
     requires { length marks.now < 64 }
     ensures { result ≡ inserted mark marks.now }
 {
-    let mut kept = Row::new();
+    let mut kept = MarkList::new();
     let mut is_placed = false;
     for other in marks {
         if !is_placed && comes_before(mark, *other) {

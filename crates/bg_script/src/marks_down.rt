@@ -3,7 +3,7 @@ ghost use Rattle.std.specs.Prelude.{◌≡◌, true};
 ghost use Rattle.bg_script.specs.Connections.{IsDownAnswer, may_be_down};
 
 use crate::answer::Answer;
-use bg_revisions::has_ports_form;
+use bg_revisions::are_replica_ports;
 use std::alloc::AllocError;
 
 /// The maximum number of ports that are down: those of 64 revisions with 64 replicas each.
@@ -39,5 +39,5 @@ pub fn mark_down<M: MarksDown>(ports: &[u16], receiver: &M) -> Answer
 fn are_well_formed(ports: &[u16]) -> bool
     ensures { result ≡ may_be_down ports.now }
 {
-    ports.len() <= MOST_PORTS && has_ports_form(ports.len() as u32, ports)
+    ports.len() <= MOST_PORTS && are_replica_ports(ports.len() as u32, ports)
 }

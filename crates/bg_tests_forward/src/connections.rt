@@ -75,7 +75,7 @@ impl<'a> Setting<'a> {
             alloc,
             port: self.port,
             answer: self.response,
-            wanted: self.forwarded,
+            desired: self.forwarded,
             pace: self.endpoint,
             seen,
         }

@@ -75,7 +75,7 @@ struct Passed {
 
 /// Lets requests pass the gate of a book of one seat and few entries. Gives the number that entered, and the
 /// history.
-fn pass<N: Names, R: Wait>(
+fn enter_and_leave<N: Names, R: Wait>(
     rt: &R,
     alloc: Global,
     strategy: &Strategy,
@@ -99,7 +99,7 @@ fn pass<N: Names, R: Wait>(
 
 fn with_new_names<R: Wait>(rt: &R, alloc: Global) -> Result<Passed, Fail> {
     let strategy = strategy(alloc)?;
-    let (entered, history) = pass::<Brand, R>(rt, alloc, &strategy, Blanks::new())?;
+    let (entered, history) = enter_and_leave::<Brand, R>(rt, alloc, &strategy, Blanks::new())?;
     Ok(Passed {
         entered,
         closed: history.closed(0),

@@ -231,7 +231,7 @@ pub struct Endpoint<'a> {
     pub alloc: Global,
     pub port: u16,
     pub answer: &'a [u8],
-    pub wanted: &'a [u8],
+    pub desired: &'a [u8],
     pub pace: Pace,
     pub seen: &'a Seen,
 }
@@ -239,7 +239,7 @@ pub struct Endpoint<'a> {
 /// A connection to it.
 pub struct Upstream<'a> {
     stream: FakeStream<'a>,
-    wanted: &'a [u8],
+    desired: &'a [u8],
     seen: &'a Seen,
 }
 
@@ -247,7 +247,7 @@ impl Drop for Upstream<'_> {
     fn drop(self) {
         let Upstream {
             stream: _,
-            wanted: _,
+            desired: _,
             seen,
         } = self;
         seen.dropped.fetch_add(1, Ordering::SeqCst);
@@ -264,7 +264,7 @@ impl<'a> Dial for Endpoint<'a> {
         }
         let upstream = Upstream {
             stream: FakeStream::new(self.alloc, self.answer, self.pace),
-            wanted: self.wanted,
+            desired: self.desired,
             seen: self.seen,
         };
         Dialled::once(port, Ok(upstream))
@@ -285,7 +285,7 @@ impl Write for Upstream<'_> {
     }
 
     fn flush(&mut self) -> io::Result<()> {
-        if self.stream.shows() == self.wanted {
+        if self.stream.shows() == self.desired {
             self.seen.forwarded.fetch_add(1, Ordering::SeqCst);
         }
         self.stream.flush()

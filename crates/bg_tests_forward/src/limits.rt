@@ -8,7 +8,7 @@ ghost use Rattle.bg_ledger.specs.Blanks.{AreAllFor};
 use crate::books::{close, open, tell_available};
 use crate::fakes::{FakeStream, Pace};
 use crate::messages::{CHUNKS, GET};
-use crate::ports::{Counts, Ports, Turn, Uses};
+use crate::ports::{Counts, Ports, NextClient, Uses};
 use crate::samples::strategy;
 use bg_book::{Desk, Limits, laws as book_laws};
 use bg_forward::{DeskGate, Dial, Dialled, run_workers};
@@ -83,7 +83,7 @@ fn open_and_work_both<N: Names + Send + Sync, R: Threads + Wait + Sync>(
 fn counts_of<R: Threads + Wait + Sync>(
     rt: &R,
     alloc: Global,
-    turns: &[Turn],
+    turns: &[NextClient],
     count: u64,
 ) -> Result<Counts, Fail> {
     let uses = Uses::new();
@@ -120,7 +120,7 @@ fn takes_so_many_and_no_more(rt: HostRuntime) -> Result<(), Fail> {
 
 #[test]
 fn an_accept_that_fails_counts(rt: HostRuntime) -> Result<(), Fail> {
-    let turns = [Turn::Fails, Turn::Client(GET), Turn::Fails];
+    let turns = [NextClient::Fails, NextClient::Client(GET), NextClient::Fails];
     let counts = counts_of(&rt, rt.alloc(), &turns, 4)?;
     assert_eq!(rt; counts, served(4, 2));
     Ok(())
@@ -129,10 +129,10 @@ fn an_accept_that_fails_counts(rt: HostRuntime) -> Result<(), Fail> {
 #[test]
 fn ends_where_no_further_connection_comes(rt: HostRuntime) -> Result<(), Fail> {
     let turns = [
-        Turn::Client(GET),
-        Turn::Fails,
-        Turn::Client(GET),
-        Turn::Ends,
+        NextClient::Client(GET),
+        NextClient::Fails,
+        NextClient::Client(GET),
+        NextClient::Ends,
     ];
     for count in [10, u64::MAX] {
         let counts = counts_of(&rt, rt.alloc(), &turns, count)?;
@@ -143,8 +143,8 @@ fn ends_where_no_further_connection_comes(rt: HostRuntime) -> Result<(), Fail> {
 
 #[test]
 fn tells_which_requests_were_not_read_whole(rt: HostRuntime) -> Result<(), Fail> {
-    let cut = Turn::Client("GET /a HTTP/1.1\r\nHost: x\r\n");
-    let malformed = Turn::Client("GET /a HTTP/1.1\r\n\r\n");
+    let cut = NextClient::Client("GET /a HTTP/1.1\r\nHost: x\r\n");
+    let malformed = NextClient::Client("GET /a HTTP/1.1\r\n\r\n");
     let counts = counts_of(&rt, rt.alloc(), &[cut, malformed], 2)?;
     let expected = Counts {
         other: 4,

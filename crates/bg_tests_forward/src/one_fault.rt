@@ -16,10 +16,10 @@ use std::test::Fail;
 const EXPECTS_REFUSED: &str =
     "HTTP/1.1 100 Continue\r\n\r\nHTTP/1.1 502 Bad Gateway\r\nContent-Length: 0\r\nConnection: close\r\n\r\n";
 
-/// An exchange, and the bytes that are written to its client if nothing fails, and if the endpoint
+/// A connection, and the bytes that are written to its client if nothing fails, and if the endpoint
 /// fails.
 #[derive(Clone, Copy, Drop)]
-struct ExpectedExchange {
+struct ExpectedConnection {
     setting: Setting<'static>,
     answered: &'static str,
     refused: &'static str,
@@ -27,14 +27,14 @@ struct ExpectedExchange {
     before: usize,
 }
 
-fn exchanges() -> [ExpectedExchange; 2] {
-    let plain = ExpectedExchange {
+fn expected_connections() -> [ExpectedConnection; 2] {
+    let plain = ExpectedConnection {
         setting: Setting::new(GET, GET_ON, CHUNKS),
         answered: CHUNKS_ON,
         refused: refusal(502),
         before: 0,
     };
-    let waiting = ExpectedExchange {
+    let waiting = ExpectedConnection {
         setting: Setting::new(EXPECTS, EXPECTS_ON, CHUNKS),
         answered: EXPECTS_ANSWERED,
         refused: EXPECTS_REFUSED,
@@ -53,9 +53,9 @@ struct SoundUses {
 fn sound_uses<R: Abort + Wait>(
     rt: &R,
     alloc: Global,
-    exchange: &ExpectedExchange,
+    expected: &ExpectedConnection,
 ) -> Result<SoundUses, Fail> {
-    let sound = ends(rt, alloc, &exchange.setting, End::Answered(200))?;
+    let sound = ends(rt, alloc, &expected.setting, End::Answered(200))?;
     Ok(SoundUses {
         client: sound.client,
         endpoint: sound.endpoint,
@@ -66,7 +66,7 @@ fn sound_uses<R: Abort + Wait>(
 fn read_of_the_client<R: Abort + Wait>(
     rt: &R,
     alloc: Global,
-    exchange: &ExpectedExchange,
+    expected: &ExpectedConnection,
     place: u64,
 ) -> Result<(), Fail> {
     let client = Pace {
@@ -75,11 +75,11 @@ fn read_of_the_client<R: Abort + Wait>(
     };
     let setting = Setting {
         client,
-        ..exchange.setting
+        ..expected.setting
     };
     let outcome = ends(rt, alloc, &setting, End::ReadFailed)?;
     assert_eq!(rt; outcome.client.reads, place.saturating_add(1));
-    assert!(rt; outcome.written.is_empty() || outcome.written.len() == exchange.before);
+    assert!(rt; outcome.written.is_empty() || outcome.written.len() == expected.before);
     assert!(rt; !outcome.entered);
     assert_eq!(rt; outcome.dialled, 0);
     Ok(())
@@ -87,11 +87,11 @@ fn read_of_the_client<R: Abort + Wait>(
 
 #[test]
 fn each_read_of_the_client(rt: HostRuntime) -> Result<(), Fail> {
-    for exchange in exchanges() {
-        let count = sound_uses(&rt, rt.alloc(), &exchange)?.client.reads;
+    for expected in expected_connections() {
+        let count = sound_uses(&rt, rt.alloc(), &expected)?.client.reads;
         assert!(rt; count > 2);
         for place in 0..count {
-            read_of_the_client(&rt, rt.alloc(), &exchange, place)?;
+            read_of_the_client(&rt, rt.alloc(), &expected, place)?;
         }
     }
     Ok(())
@@ -101,7 +101,7 @@ fn each_read_of_the_client(rt: HostRuntime) -> Result<(), Fail> {
 fn write_to_the_client<R: Abort + Wait>(
     rt: &R,
     alloc: Global,
-    exchange: &ExpectedExchange,
+    expected: &ExpectedConnection,
     place: u64,
 ) -> Result<(), Fail> {
     let client = Pace {
@@ -110,24 +110,24 @@ fn write_to_the_client<R: Abort + Wait>(
     };
     let setting = Setting {
         client,
-        ..exchange.setting
+        ..expected.setting
     };
     let outcome = ends(rt, alloc, &setting, End::WriteFailed)?;
     let written = outcome.written.as_slice();
     assert_eq!(rt; outcome.client.writes, place.saturating_add(1));
-    assert!(rt; exchange.answered.as_bytes().starts_with(written));
-    assert!(rt; written.len() < exchange.answered.len());
-    assert_eq!(rt; outcome.entered, written.len() >= exchange.before);
+    assert!(rt; expected.answered.as_bytes().starts_with(written));
+    assert!(rt; written.len() < expected.answered.len());
+    assert_eq!(rt; outcome.entered, written.len() >= expected.before);
     Ok(())
 }
 
 #[test]
 fn each_write_to_the_client(rt: HostRuntime) -> Result<(), Fail> {
-    for exchange in exchanges() {
-        let count = sound_uses(&rt, rt.alloc(), &exchange)?.client.writes;
+    for expected in expected_connections() {
+        let count = sound_uses(&rt, rt.alloc(), &expected)?.client.writes;
         assert!(rt; count > 2);
         for place in 0..count {
-            write_to_the_client(&rt, rt.alloc(), &exchange, place)?;
+            write_to_the_client(&rt, rt.alloc(), &expected, place)?;
         }
     }
     Ok(())
@@ -137,7 +137,7 @@ fn each_write_to_the_client(rt: HostRuntime) -> Result<(), Fail> {
 fn read_of_the_endpoint<R: Abort + Wait>(
     rt: &R,
     alloc: Global,
-    exchange: &ExpectedExchange,
+    expected: &ExpectedConnection,
     place: u64,
 ) -> Result<(), Fail> {
     let endpoint = Pace {
@@ -146,10 +146,10 @@ fn read_of_the_endpoint<R: Abort + Wait>(
     };
     let setting = Setting {
         endpoint,
-        ..exchange.setting
+        ..expected.setting
     };
     let end = End::Refused(502);
-    let outcome = expect(rt, alloc, &setting, end, exchange.refused, 2)?;
+    let outcome = expect(rt, alloc, &setting, end, expected.refused, 2)?;
     assert_eq!(rt; outcome.endpoint.reads, place.saturating_add(1));
     assert_eq!(rt; outcome.forwarded, 1);
     Ok(())
@@ -157,11 +157,11 @@ fn read_of_the_endpoint<R: Abort + Wait>(
 
 #[test]
 fn each_read_of_the_endpoint(rt: HostRuntime) -> Result<(), Fail> {
-    for exchange in exchanges() {
-        let count = sound_uses(&rt, rt.alloc(), &exchange)?.endpoint.reads;
+    for expected in expected_connections() {
+        let count = sound_uses(&rt, rt.alloc(), &expected)?.endpoint.reads;
         assert!(rt; count > 2);
         for place in 0..count {
-            read_of_the_endpoint(&rt, rt.alloc(), &exchange, place)?;
+            read_of_the_endpoint(&rt, rt.alloc(), &expected, place)?;
         }
     }
     Ok(())
@@ -171,7 +171,7 @@ fn each_read_of_the_endpoint(rt: HostRuntime) -> Result<(), Fail> {
 fn write_to_the_endpoint<R: Abort + Wait>(
     rt: &R,
     alloc: Global,
-    exchange: &ExpectedExchange,
+    expected: &ExpectedConnection,
     place: u64,
 ) -> Result<(), Fail> {
     let endpoint = Pace {
@@ -180,10 +180,10 @@ fn write_to_the_endpoint<R: Abort + Wait>(
     };
     let setting = Setting {
         endpoint,
-        ..exchange.setting
+        ..expected.setting
     };
     let end = End::Refused(502);
-    let outcome = expect(rt, alloc, &setting, end, exchange.refused, 2)?;
+    let outcome = expect(rt, alloc, &setting, end, expected.refused, 2)?;
     assert_eq!(rt; outcome.endpoint.writes, place.saturating_add(1));
     assert_eq!(rt; outcome.endpoint.reads, 0);
     Ok(())
@@ -191,11 +191,11 @@ fn write_to_the_endpoint<R: Abort + Wait>(
 
 #[test]
 fn each_write_to_the_endpoint(rt: HostRuntime) -> Result<(), Fail> {
-    for exchange in exchanges() {
-        let count = sound_uses(&rt, rt.alloc(), &exchange)?.endpoint.writes;
+    for expected in expected_connections() {
+        let count = sound_uses(&rt, rt.alloc(), &expected)?.endpoint.writes;
         assert!(rt; count > 2);
         for place in 0..count {
-            write_to_the_endpoint(&rt, rt.alloc(), &exchange, place)?;
+            write_to_the_endpoint(&rt, rt.alloc(), &expected, place)?;
         }
     }
     Ok(())
@@ -207,25 +207,25 @@ fn each_flush(rt: HostRuntime) -> Result<(), Fail> {
         flush_fails: true,
         ..Pace::steady()
     };
-    for exchange in exchanges() {
+    for expected in expected_connections() {
         let client = Setting {
             client: failing,
-            ..exchange.setting
+            ..expected.setting
         };
         let _outcome = expect(
             &rt,
             rt.alloc(),
             &client,
             End::WriteFailed,
-            exchange.answered,
+            expected.answered,
             2,
         )?;
         let endpoint = Setting {
             endpoint: failing,
-            ..exchange.setting
+            ..expected.setting
         };
         let end = End::Refused(502);
-        let outcome = expect(&rt, rt.alloc(), &endpoint, end, exchange.refused, 2)?;
+        let outcome = expect(&rt, rt.alloc(), &endpoint, end, expected.refused, 2)?;
         assert_eq!(rt; outcome.endpoint.reads, 0);
     }
     Ok(())
@@ -233,13 +233,13 @@ fn each_flush(rt: HostRuntime) -> Result<(), Fail> {
 
 #[test]
 fn the_dial(rt: HostRuntime) -> Result<(), Fail> {
-    for exchange in exchanges() {
+    for expected in expected_connections() {
         let setting = Setting {
             port: 9001,
-            ..exchange.setting
+            ..expected.setting
         };
         let end = End::Refused(502);
-        let outcome = expect(&rt, rt.alloc(), &setting, end, exchange.refused, 2)?;
+        let outcome = expect(&rt, rt.alloc(), &setting, end, expected.refused, 2)?;
         assert_eq!(rt; outcome.dialled, 1);
     }
     Ok(())

@@ -11,7 +11,7 @@ use std::sync::atomic::{AtomicU64, Ordering};
 
 /// The result of an accept.
 #[derive(Clone, Copy, Drop)]
-pub enum Turn {
+pub enum NextClient {
     /// A client that sends these bytes.
     Client(&'static str),
     Fails,
@@ -71,7 +71,7 @@ impl Uses {
 #[derive(Drop)]
 pub struct Ports<'a> {
     pub alloc: Global,
-    pub turns: &'a [Turn],
+    pub turns: &'a [NextClient],
     pub uses: &'a Uses,
 }
 
@@ -86,15 +86,15 @@ impl Accept for Ports<'_> {
         let before = accepts.fetch_add(1, Ordering::SeqCst);
         let turn = match self.turns.get(before as usize) {
             Some(turn) => *turn,
-            None => Turn::Client(GET),
+            None => NextClient::Client(GET),
         };
         match turn {
-            Turn::Client(request) => {
+            NextClient::Client(request) => {
                 let request = request.as_bytes();
                 Ok(Some(FakeStream::new(self.alloc, request, Pace::steady())))
             }
-            Turn::Fails => Err(io::Error::from(ErrorKind::ConnectionAborted)),
-            Turn::Ends => Ok(None),
+            NextClient::Fails => Err(io::Error::from(ErrorKind::ConnectionAborted)),
+            NextClient::Ends => Ok(None),
         }
     }
 

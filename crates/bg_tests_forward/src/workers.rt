@@ -30,7 +30,7 @@ const TICKS: u64 = 100;
 
 /// The progress of the requests.
 #[derive(Drop)]
-struct Course {
+struct WorkerCounts {
     /// The number of connections to endpoints that were opened.
     dialled: AtomicU64,
     /// The number of clients to which the whole answer was written.
@@ -45,7 +45,7 @@ struct Course {
 #[derive(Drop)]
 struct Counted<'a, G> {
     behind: &'a G,
-    course: &'a Course,
+    counts: &'a WorkerCounts,
 }
 
 impl<N: Names, G: Gate<N>> Gate<N> for Counted<'_, G> {
@@ -58,9 +58,9 @@ impl<N: Names, G: Gate<N>> Gate<N> for Counted<'_, G> {
     }
 
     fn leave(&self, seat: &mut Seat<N>) -> Left {
-        let left = self.course.left.fetch_add(1, Ordering::SeqCst);
-        if self.course.answered.load(Ordering::SeqCst) <= left {
-            self.course.left_early.fetch_add(1, Ordering::SeqCst);
+        let left = self.counts.left.fetch_add(1, Ordering::SeqCst);
+        if self.counts.answered.load(Ordering::SeqCst) <= left {
+            self.counts.left_early.fetch_add(1, Ordering::SeqCst);
         }
         self.behind.leave(seat)
     }
@@ -70,14 +70,14 @@ impl<N: Names, G: Gate<N>> Gate<N> for Counted<'_, G> {
 #[derive(Drop)]
 struct Clients<'a> {
     alloc: Global,
-    course: &'a Course,
+    counts: &'a WorkerCounts,
 }
 
 /// A client that reports when it was answered.
 #[derive(Drop)]
 struct Client<'a> {
     stream: FakeStream<'a>,
-    course: &'a Course,
+    counts: &'a WorkerCounts,
 }
 
 impl Read for Client<'_> {
@@ -93,7 +93,7 @@ impl Write for Client<'_> {
 
     fn flush(&mut self) -> io::Result<()> {
         if self.stream.shows() == CHUNKS_ON.as_bytes() {
-            self.course.answered.fetch_add(1, Ordering::SeqCst);
+            self.counts.answered.fetch_add(1, Ordering::SeqCst);
         }
         Ok(())
     }
@@ -121,7 +121,7 @@ impl<'a> Accept for Clients<'a> {
     fn accept(&self, _service: Service) -> io::Result<Option<Client<'a>>> {
         Ok(Some(Client {
             stream: FakeStream::new(self.alloc, GET.as_bytes(), Pace::steady()),
-            course: self.course,
+            counts: self.counts,
         }))
     }
 
@@ -132,7 +132,7 @@ impl<'a> Accept for Clients<'a> {
 #[derive(Drop)]
 struct Endpoint<'a> {
     alloc: Global,
-    course: &'a Course,
+    counts: &'a WorkerCounts,
 }
 
 /// A connection to it.
@@ -140,14 +140,14 @@ struct Endpoint<'a> {
 struct Upstream<'a> {
     stream: FakeStream<'a>,
     waits: bool,
-    course: &'a Course,
+    counts: &'a WorkerCounts,
 }
 
 impl Upstream<'_> {
     /// Waits until a client was answered. Returns whether one was.
     fn wait(&self) -> bool {
         for _ in 0..TURNS {
-            if self.course.answered.load(Ordering::SeqCst) > 0 {
+            if self.counts.answered.load(Ordering::SeqCst) > 0 {
                 return true;
             }
             thread::yield_now();
@@ -182,11 +182,11 @@ impl<'a> Dial for Endpoint<'a> {
     type Stream = Upstream<'a>;
 
     fn dial(&self, port: u16) -> Dialled<Upstream<'a>> {
-        let before = self.course.dialled.fetch_add(1, Ordering::SeqCst);
+        let before = self.counts.dialled.fetch_add(1, Ordering::SeqCst);
         let upstream = Upstream {
             stream: FakeStream::new(self.alloc, CHUNKS.as_bytes(), Pace::steady()),
             waits: before == 0,
-            course: self.course,
+            counts: self.counts,
         };
         Dialled::once(port, Ok(upstream))
     }
@@ -198,7 +198,7 @@ fn work<N: Names + Send + Sync, R: Threads + Wait + Sync>(
     alloc: Global,
     desk: &Desk<N>,
     seats: &mut [Seat<N>],
-    course: &Course,
+    counts: &WorkerCounts,
 )
     requires two { length seats.old ≡ 2 }
     requires out { AllOut seats.old }
@@ -206,12 +206,12 @@ fn work<N: Names + Send + Sync, R: Threads + Wait + Sync>(
 {
     book_laws::same_order();
     let desk_gate = DeskGate::new(rt, desk);
-    let clients = Clients { alloc, course };
-    let endpoint = Endpoint { alloc, course };
+    let clients = Clients { alloc, counts };
+    let endpoint = Endpoint { alloc, counts };
     let services = [Service::Active, Service::Active];
     let gate = Counted {
         behind: &desk_gate,
-        course,
+        counts,
     };
     run_workers(rt, alloc, &gate, seats, &services, &clients, &endpoint, 1);
 }
@@ -222,14 +222,14 @@ fn work_none<N: Names + Send + Sync, R: Threads + Wait + Sync>(
     alloc: Global,
     desk: &Desk<N>,
     seats: &mut [Seat<N>],
-    course: &Course,
+    counts: &WorkerCounts,
 )
     ensures { indices seats.new ≡ indices seats.old }
 {
     book_laws::same_order();
     let desk_gate = DeskGate::new(rt, desk);
-    let clients = Clients { alloc, course };
-    let endpoint = Endpoint { alloc, course };
+    let clients = Clients { alloc, counts };
+    let endpoint = Endpoint { alloc, counts };
     run_workers(
         rt,
         alloc,
@@ -255,7 +255,7 @@ fn work_and_tick<N: Names + Send + Sync, R: Threads + Wait + Sync>(
     alloc: Global,
     desk: &Desk<N>,
     seats: &mut [Seat<N>],
-    course: &Course,
+    counts: &WorkerCounts,
 )
     requires two { length seats.old ≡ 2 }
     requires out { AllOut seats.old }
@@ -266,7 +266,7 @@ fn work_and_tick<N: Names + Send + Sync, R: Threads + Wait + Sync>(
         &mut ||
             requires { (length seats.now ≡ 2) × AllOut seats.now }
             ensures { indices seats.exit.now ≡ indices seats.entry.now }
-        { work(rt, alloc, desk, seats, course) },
+        { work(rt, alloc, desk, seats, counts) },
         &mut || tick(rt, desk),
     );
 }
@@ -291,7 +291,7 @@ struct Worked {
 fn open_and_work<N: Names + Send + Sync, R: Threads + Wait + Sync>(
     rt: &R,
     alloc: Global,
-    course: &Course,
+    counts: &WorkerCounts,
     blanks: Blanks,
 ) -> Result<Worked, Fail>
     requires blanks { AreAllFor N.Names blanks }
@@ -301,9 +301,9 @@ fn open_and_work<N: Names + Send + Sync, R: Threads + Wait + Sync>(
     let strategy = strategy(alloc)?;
     let (desk, mut seats) = open::<N>(alloc, &strategy, 2, Limits::usual(), blanks)?;
     let told = tell_available(rt, &desk, 2);
-    work_and_tick(rt, alloc, &desk, seats.as_mut_slice(), course);
-    work_none(rt, alloc, &desk, seats.as_mut_slice(), course);
-    let dialled = course.dialled.load(Ordering::SeqCst);
+    work_and_tick(rt, alloc, &desk, seats.as_mut_slice(), counts);
+    work_none(rt, alloc, &desk, seats.as_mut_slice(), counts);
+    let dialled = counts.dialled.load(Ordering::SeqCst);
     let calls = calls_of_both(&seats);
     let history = close(desk, seats);
     let _outcomes = told?;
@@ -317,23 +317,23 @@ fn open_and_work<N: Names + Send + Sync, R: Threads + Wait + Sync>(
 fn with_new_names<R: Threads + Wait + Sync>(
     rt: &R,
     alloc: Global,
-    course: &Course,
+    counts: &WorkerCounts,
 ) -> Result<Worked, Fail> {
-    open_and_work::<Brand, R>(rt, alloc, course, Blanks::new())
+    open_and_work::<Brand, R>(rt, alloc, counts, Blanks::new())
 }
 
 #[test]
 fn two_at_once(rt: HostRuntime) -> Result<(), Fail> {
-    let course = Course {
+    let counts = WorkerCounts {
         dialled: AtomicU64::new(0),
         answered: AtomicU64::new(0),
         left: AtomicU64::new(0),
         left_early: AtomicU64::new(0),
     };
-    let worked = with_new_names(&rt, rt.alloc(), &course)?;
-    assert_eq!(rt; course.answered.load(Ordering::SeqCst), 2);
-    assert_eq!(rt; course.left.load(Ordering::SeqCst), 2);
-    assert_eq!(rt; course.left_early.load(Ordering::SeqCst), 0);
+    let worked = with_new_names(&rt, rt.alloc(), &counts)?;
+    assert_eq!(rt; counts.answered.load(Ordering::SeqCst), 2);
+    assert_eq!(rt; counts.left.load(Ordering::SeqCst), 2);
+    assert_eq!(rt; counts.left_early.load(Ordering::SeqCst), 0);
     assert_eq!(rt; worked.dialled, 2);
     assert_eq!(rt; worked.calls, [2, 2]);
     assert_eq!(rt; worked.entries, 105);

@@ -11,7 +11,7 @@ use crate::state::State;
 use crate::stop::Stop;
 use crate::strategies::base_strategy;
 use bg_book::{Book, Desk, EnterFault, GoOn, Left, Limits, Question, Ticket, laws as book_laws};
-use bg_forward::{DeskGate, Dial, Dialled, End, Exchange, Gate, serve_in_memory};
+use bg_forward::{DeskGate, Dial, Dialled, End, InMemoryResult, Gate, serve_in_memory};
 use bg_ledger::{Blanks, Names, Seat};
 use bg_revisions::Service;
 use bg_rollout::{MOST_ENTRIES, PLACES_OF_A_REQUEST};
@@ -161,20 +161,20 @@ fn serve_at<N: Names, R: AllocGlobal + Print + Eprint + Wait>(
 {
     fill(rt, desk, seat)?;
     let before = desk.look(rt, Whole)?;
-    let mut exchange = serve(rt, desk, seat)?;
-    if matches!(exchange.served.end, End::Refused(503) | End::WriteFailed) {
-        if exchange.served.entered.is_some() {
+    let mut outcome = serve(rt, desk, seat)?;
+    if matches!(outcome.served.end, End::Refused(503) | End::WriteFailed) {
+        if outcome.served.entered.is_some() {
             say_refused(rt, INSIDE)?;
         } else {
             say_refused(rt, BEFORE)?;
             compare(rt, BEFORE, &before, &desk.look(rt, Whole)?)?;
         }
-        exchange = serve(rt, desk, seat)?;
+        outcome = serve(rt, desk, seat)?;
     }
     for name in [BEFORE, ENTERING, INSIDE] {
         say_made(rt, name)?;
     }
-    println!(rt; "{:?} {:?}", exchange.served.end, exchange.written)?;
+    println!(rt; "{:?} {:?}", outcome.served.end, outcome.written)?;
     Ok(())
 }
 
@@ -206,7 +206,7 @@ fn serve<N: Names, R: AllocGlobal + Print + Eprint + Wait>(
     rt: &R,
     desk: &Desk<N>,
     seat: &mut Seat<N>,
-) -> Result<Exchange, Stop>
+) -> Result<InMemoryResult, Stop>
     ensures { seat.new.index ≡ seat.old.index }
 {
     if seat.is_in() {
@@ -218,8 +218,8 @@ fn serve<N: Names, R: AllocGlobal + Print + Eprint + Wait>(
         desk_gate: DeskGate::new(rt, desk),
     };
     let input = REQUEST.as_bytes();
-    let exchange = serve_in_memory(rt.alloc(), &gate, seat, Service::Active, input, &Endpoint);
-    let made = if exchange.served.entered.is_some() {
+    let outcome = serve_in_memory(rt.alloc(), &gate, seat, Service::Active, input, &Endpoint);
+    let made = if outcome.served.entered.is_some() {
         2
     } else {
         0
@@ -227,5 +227,5 @@ fn serve<N: Names, R: AllocGlobal + Print + Eprint + Wait>(
     if seat.is_in() || seat.calls() != calls.saturating_add(made) {
         println!(rt; "changed: a seat at which a client was served")?;
     }
-    Ok(exchange)
+    Ok(outcome)
 }

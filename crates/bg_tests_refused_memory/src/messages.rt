@@ -9,7 +9,7 @@ use std::alloc::Global;
 use std::fmt;
 
 /// Requests, each with its response.
-const EXCHANGES: [(&str, &str); 2] = [
+const MESSAGES: [(&str, &str); 2] = [
     (
         "POST /a HTTP/1.1\r\nHost: x\r\nA: b\r\nTransfer-Encoding: chunked\r\n\r\n3\r\none\r\n4\r\nlast\r\n0\r\nT: u\r\n\r\n",
         "HTTP/1.1 103 Early Hints\r\nA: b\r\n\r\nHTTP/1.1 200 OK\r\nB: c\r\nContent-Length: 3\r\n\r\none",
@@ -46,7 +46,7 @@ pub fn make_calls<R: AllocGlobal + Print + Eprint>(rt: &R) -> Result<(), Stop> {
     let bytes = make_bytes(rt)?;
     println!(rt; "{bytes:?}")?;
     make_fields(rt)?;
-    for (request, response) in &EXCHANGES {
+    for (request, response) in &MESSAGES {
         let request = make_request(rt, request)?;
         println!(rt; "{request:?}")?;
         let response = make_response(rt, response, &request)?;

@@ -1,6 +1,6 @@
 //! The readers of a book's state.
 ghost use Rattle.std.specs.Prelude.{◌≡◌, ◌≤◌, ◌+◌, length, nat_lt, slice_get, Some, option_copied};
-ghost use Rattle.bg_history.specs.Turns.{moment as moment_of};
+ghost use Rattle.bg_history.specs.AttemptBounds.{moment as moment_of};
 ghost use Rattle.bg_history.specs.Sizes.{existing};
 ghost use Rattle.bg_history.specs.Requests.{open_at};
 ghost use Rattle.bg_history.specs.Deadlines.{deadline};

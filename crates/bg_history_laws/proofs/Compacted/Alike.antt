@@ -4,7 +4,7 @@ use Rattle.bg_history.specs.declared.entry.Entry.{Entry}
 use Rattle.bg_history.specs.declared.entry.Entry.TheVariants.{Tick, Enter, Leave}
 use Rattle.bg_strategy.specs.declared.strategy.Strategy.{Strategy}
 use Rattle.bg_history.specs.Kept.{Opening}
-use Rattle.bg_history.specs.Turns.{moment, is_running}
+use Rattle.bg_history.specs.AttemptBounds.{moment, is_running}
 use Rattle.bg_history.specs.Attempts.{in_attempt, is_ready}
 use Rattle.bg_history_laws.specs.Alike.{is_quiet, said, Alike}
 use Rattle.bg_history_laws.proofs.Compacted.Steps.{stable-both, newest-both, running-both, halted-both, active-both, exist-both, last-both, begins-both, size-both, reported-both, templates-both, attempt-both, pass-both}

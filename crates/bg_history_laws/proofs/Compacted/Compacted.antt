@@ -16,7 +16,7 @@ use Rattle.bg_history_laws.proofs.Compacted.Legal.{without-allowed, thin-allowed
 use Rattle.bg_history_laws.proofs.Compacted.Closed.{compacted-open, none-left, all-among}
 use Rattle.bg_history_laws.proofs.Compacted.Counts.{raised-length, raised-given, raised-calls}
 use Rattle.bg_history_laws.proofs.Compacted.Same.{same_both, same_outcomes, same_follows, first-same}
-use Rattle.bg_history_laws.proofs.Compacted.Questions.{attempted, preview-same, steady-same, scaling-same, awaits_pre-same, paused-same, sizing-same, awaits_post-same, deadline-same, due-same, owner-same, selection-same}
+use Rattle.bg_history_laws.proofs.Compacted.Questions.{attempted, preview-same, steady-same, scaling-same, awaits_pre-same, paused-same, sizing-same, awaits_post-same, deadline-same, due-same, namesake-same, selection-same}
 use Rattle.bg_history_laws.proofs.Compacted.Commuting.{commuting, outcomes-front, front-apart}
 use Rattle.bg_history_laws.proofs.Compacted.Raising.{commuting-closed}
 
@@ -76,7 +76,7 @@ answers s o a b h = record {
   post = awaits_post-same h.alike;
   due_at = λ r. deadline-same r h.alike;
   due = λ r. due-same r h.alike h.now;
-  owner_is = λ name. owner-same name h.alike;
+  namesake_is = λ name. namesake-same name h.alike;
   selected = λ v. selection-same v h.alike;
 }
 

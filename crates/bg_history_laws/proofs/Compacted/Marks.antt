@@ -5,7 +5,7 @@ use Rattle.std.proofs.lemmas.Bool.Decides.{nat_tests}
 use Rattle.bg_strategy.specs.declared.strategy.Strategy.{Strategy}
 use Rattle.bg_history.specs.declared.entry.Entry.{Entry}
 use Rattle.bg_history.specs.declared.entry.Entry.TheVariants.{Tick, Deploy, Enter, Leave}
-use Rattle.bg_history.specs.Turns.{moment, stable_of, newest_of}
+use Rattle.bg_history.specs.AttemptBounds.{moment, stable_of, newest_of}
 use Rattle.bg_history.specs.Selections.{active_of}
 use Rattle.bg_history.specs.Sizes.{desired}
 use Rattle.bg_history.specs.Marks.{MarkKind, Left, Cleared, Mark, mark, kind_of, supersedes}

@@ -10,7 +10,7 @@ use Rattle.bg_history.specs.declared.entry.Analysis.TheVariants.{Pre, Post}
 use Rattle.bg_history.specs.declared.entry.Entry.{Entry}
 use Rattle.bg_history.specs.declared.entry.Entry.TheVariants.{Tick, Enter, Leave}
 use Rattle.bg_history.specs.Kept.{Opening}
-use Rattle.bg_history.specs.Turns.{moment, newest_of}
+use Rattle.bg_history.specs.AttemptBounds.{moment, newest_of}
 use Rattle.bg_history.specs.Attempts.{is_ready, is_resumed, is_switched, is_promote, is_promote_full, is_post_success}
 use Rattle.bg_history.specs.Selections.{preview_of, is_selected}
 use Rattle.bg_history.specs.Sizes.{existing, is_scaled}
@@ -18,8 +18,8 @@ use Rattle.bg_history.specs.Phases.{is_steady, is_scaling, awaits_pre, is_paused
 use Rattle.bg_history.specs.Promotion.{may_be_ready, may_resume, may_switch, may_promote, first_promotion}
 use Rattle.bg_history.specs.Marks.{Mark, mark}
 use Rattle.bg_history.specs.Deadlines.{deadline_of, deadline, exists_in, is_spare, left_later, rank_after, marks_due, is_due, is_old, old_revisions, may_remove}
-use Rattle.bg_history.specs.Templates.{template, is_named, owner}
-use Rattle.bg_history.specs.Allowed.{fits_owner, may_deploy, awaits, selection, port_of}
+use Rattle.bg_history.specs.Templates.{template, is_named, namesake}
+use Rattle.bg_history.specs.Allowed.{fits_namesake, may_deploy, awaits, selection, port_of}
 use Rattle.bg_history_laws.specs.Alike.{is_quiet, said, earlier, Attempted, Alike}
 
 -- tests that agree at each element count, keep and find the same
@@ -182,18 +182,18 @@ pub remove-same : {s : Strategy} {o : Opening} {a b : List Entry} → (r : ℕ) 
 remove-same {s} {o} {a} {b} r h = rw (old-same h) refl
 
 -- deploys
-pub owner-same : {s : Strategy} {o : Opening} {a b : List Entry} → (name : List ℕ) → Alike s o a b → owner o name a ≡ owner o name b
-owner-same {s} {o} {a} {b} name h =
+pub namesake-same : {s : Strategy} {o : Opening} {a b : List Entry} → (name : List ℕ) → Alike s o a b → namesake o name a ≡ namesake o name b
+namesake-same {s} {o} {a} {b} name h =
     find-same (λ q. is_named name (template o q a)) (λ q. is_named name (template o q b)) (λ q. rw (h.templates q) refl) (existing a)
     ∙ ap (find (λ q. is_named name (template o q b))) h.exist
 
-fits-same : {s : Strategy} {o : Opening} {a b : List Entry} → (q : Option ℕ) (r : ℕ) (ports : List ℕ) → Alike s o a b → fits_owner o q r ports a ≡ fits_owner o q r ports b
+fits-same : {s : Strategy} {o : Opening} {a b : List Entry} → (q : Option ℕ) (r : ℕ) (ports : List ℕ) → Alike s o a b → fits_namesake o q r ports a ≡ fits_namesake o q r ports b
 fits-same None r ports h = rw (h.last, h.exist) refl
 fits-same (Some q) r ports h = rw (h.templates q) refl
 
 pub deploy-same : {s : Strategy} {o : Opening} {a b : List Entry} → (r : ℕ) (name ports : List ℕ) → Alike s o a b → may_deploy s o r name ports a ≡ may_deploy s o r name ports b
 deploy-same {s} {o} {a} {b} r name ports h =
-    rw (h.newest, h.templates (newest_of b), owner-same name h, fits-same (owner o name b) r ports h) refl
+    rw (h.newest, h.templates (newest_of b), namesake-same name h, fits-same (namesake o name b) r ports h) refl
 
 -- requests that enter
 pub selection-same : {s : Strategy} {o : Opening} {a b : List Entry} → (v : Service) → Alike s o a b → selection s v a ≡ selection s v b

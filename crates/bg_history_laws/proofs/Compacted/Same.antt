@@ -8,7 +8,7 @@ use Rattle.bg_history.specs.declared.entry.Outcome.TheVariants.{ScaledDown, Remo
 use Rattle.bg_history.specs.declared.entry.Entry.TheVariants as entry
 use Rattle.bg_strategy.specs.declared.strategy.Strategy.{Strategy}
 use Rattle.bg_history.specs.Kept.{Opening}
-use Rattle.bg_history.specs.Turns.{moment}
+use Rattle.bg_history.specs.AttemptBounds.{moment}
 use Rattle.bg_history.specs.Sizes.{existing}
 use Rattle.bg_history.specs.Requests.{open_requests}
 use Rattle.bg_history.specs.Promotion.{first_promotion}

@@ -6,7 +6,7 @@ use Rattle.bg_history.specs.declared.entry.Outcome.TheVariants.{Switched, Scaled
 use Rattle.bg_history.specs.declared.entry.AnalysisResult.TheVariants.{Failed, Error}
 use Rattle.bg_strategy.specs.declared.strategy.Strategy.{Strategy}
 use Rattle.bg_history.specs.Kept.{Opening}
-use Rattle.bg_history.specs.Turns.{moment, stable_of, newest_of}
+use Rattle.bg_history.specs.AttemptBounds.{moment, stable_of, newest_of}
 use Rattle.bg_history.specs.Selections.{active_of}
 use Rattle.bg_history.specs.Marks.{MarkKind, Left, Superseded, Aborted, Cleared, kind_of}
 use Rattle.bg_scaledown.specs.Past.{Stamp, stamped, others, touched, stamp_all, stamps_of, marks_of, table_of}

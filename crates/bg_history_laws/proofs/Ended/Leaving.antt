@@ -10,7 +10,7 @@ use Rattle.bg_history.specs.declared.entry.Entry.TheVariants.{Leave, Outcome}
 use Rattle.bg_history.specs.declared.entry.Outcome as outcome
 use Rattle.bg_history.specs.declared.entry.Outcome.TheVariants.{ScaledDown, Removed}
 use Rattle.bg_strategy.specs.declared.strategy.Strategy.{Strategy}
-use Rattle.bg_history.specs.Turns.{newest_of, is_running}
+use Rattle.bg_history.specs.AttemptBounds.{newest_of, is_running}
 use Rattle.bg_history.specs.Selections.{is_selected}
 use Rattle.bg_history.specs.Sizes.{existing, Ascends}
 use Rattle.bg_history.specs.Requests.{Request, open_requests, open_at}

@@ -6,7 +6,7 @@ use Rattle.bg_history.specs.declared.entry.Entry.TheVariants.{Enter, Leave, Outc
 use Rattle.bg_history.specs.declared.entry.Outcome.TheVariants.{ScaledDown, Removed}
 use Rattle.bg_revisions.specs.declared.revision.Service.{Service}
 use Rattle.bg_strategy.specs.declared.strategy.Strategy.{Strategy}
-use Rattle.bg_history.specs.Turns.{moment, is_halt}
+use Rattle.bg_history.specs.AttemptBounds.{moment, is_halt}
 use Rattle.bg_history.specs.Selections.{active_of}
 use Rattle.bg_history.specs.Sizes.{existing, begins}
 use Rattle.bg_history.specs.Requests.{open_at}

@@ -8,7 +8,7 @@ use Rattle.bg_history.specs.declared.entry.Entry.TheVariants.{Outcome}
 use Rattle.bg_history.specs.declared.entry.Outcome as outcome
 use Rattle.bg_history.specs.declared.entry.Outcome.TheVariants.{Ready, Resumed, Switched, Promoted, ScaledDown, Removed}
 use Rattle.bg_strategy.specs.declared.strategy.Strategy.{Strategy}
-use Rattle.bg_history.specs.Turns.{newest_of, is_running}
+use Rattle.bg_history.specs.AttemptBounds.{newest_of, is_running}
 use Rattle.bg_history.specs.Attempts.{has_ready, has_resumed, has_switched}
 use Rattle.bg_history.specs.Sizes.{existing, Ascends, is_scaled}
 use Rattle.bg_history.specs.Promotion.{may_be_ready, may_resume, may_switch, may_promote, first_promotion}

@@ -9,7 +9,7 @@ use Rattle.bg_history.specs.declared.entry.Entry.{Entry}
 use Rattle.bg_history.specs.declared.entry.Entry.TheVariants.{Deploy, Available, Retry, Outcome}
 use Rattle.bg_history.specs.declared.entry.Outcome.TheVariants.{Resumed, ScaledDown, Removed}
 use Rattle.bg_history.specs.Kept.{Opening, Template}
-use Rattle.bg_history.specs.Turns.{stable_of, newest_of}
+use Rattle.bg_history.specs.AttemptBounds.{stable_of, newest_of}
 use Rattle.bg_history.specs.Sizes.{existing, last_number, at_least, desired, available, Ascends}
 use Rattle.bg_history.specs.Deadlines.{exists_in}
 use Rattle.bg_history.specs.Templates.{template}
@@ -20,24 +20,24 @@ use Rattle.bg_history_laws.proofs.Listed.Templates.{template-there, template-und
 use Rattle.bg_history_laws.proofs.Listed.Mapped.{map-map, map-same, map-upto, map-end, map-filter}
 
 -- a revision has its number, regardless of its template
-pub sized-number : (r wanted there : ℕ) (t : Option Template) → (sized r wanted there t).number ≡ r
-sized-number r wanted there None = refl
-sized-number r wanted there (Some t) = refl
+pub sized-number : (r desired_size there : ℕ) (t : Option Template) → (sized r desired_size there t).number ≡ r
+sized-number r desired_size there None = refl
+sized-number r desired_size there (Some t) = refl
 
 -- revision q with another available size, and the others unchanged
-sized-reported : (q n r wanted there : ℕ) (t : Option Template) → sized r wanted (cond (q == r) n there) t ≡ reported q n (sized r wanted there t)
-sized-reported q n r wanted there None = grind (arith, nat_tests)
-sized-reported q n r wanted there (Some t) = grind (arith, nat_tests)
+sized-reported : (q n r desired_size there : ℕ) (t : Option Template) → sized r desired_size (cond (q == r) n there) t ≡ reported q n (sized r desired_size there t)
+sized-reported q n r desired_size there None = grind (arith, nat_tests)
+sized-reported q n r desired_size there (Some t) = grind (arith, nat_tests)
 
--- the same with another wanted size, which isn't 0
-sized-resized : (q n r wanted there : ℕ) (t : Option Template) → (n == 0) ≡ false → sized r (cond (r == q) n wanted) there t ≡ resized q n (sized r wanted there t)
-sized-resized q n r wanted there None some = grind (arith, nat_tests)
-sized-resized q n r wanted there (Some t) some = grind (arith, nat_tests)
+-- the same with another desired_size size, which isn't 0
+sized-resized : (q n r desired_size there : ℕ) (t : Option Template) → (n == 0) ≡ false → sized r (cond (r == q) n desired_size) there t ≡ resized q n (sized r desired_size there t)
+sized-resized q n r desired_size there None some = grind (arith, nat_tests)
+sized-resized q n r desired_size there (Some t) some = grind (arith, nat_tests)
 
--- the same with the wanted size 0, and so no available endpoint
-sized-emptied : (q r wanted there : ℕ) (t : Option Template) → sized r (cond (q == r) 0 wanted) (cond (q == r) 0 there) t ≡ resized q 0 (sized r wanted there t)
-sized-emptied q r wanted there None = grind (arith, nat_tests)
-sized-emptied q r wanted there (Some t) = grind (arith, nat_tests)
+-- the same with the desired_size size 0, and so no available endpoint
+sized-emptied : (q r desired_size there : ℕ) (t : Option Template) → sized r (cond (q == r) 0 desired_size) (cond (q == r) 0 there) t ≡ resized q 0 (sized r desired_size there t)
+sized-emptied q r desired_size there None = grind (arith, nat_tests)
+sized-emptied q r desired_size there (Some t) = grind (arith, nat_tests)
 
 -- q wants at least a size; the test says which revision is q
 raised : (s : Strategy) (past : List Entry) (test : Bool) (q r least : ℕ) → test ≡ (r == q) → at_least test least (desired s r past) ≡ cond (r == q) (max least (desired s q past)) (desired s r past)

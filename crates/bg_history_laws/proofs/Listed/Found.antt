@@ -6,15 +6,15 @@ use Rattle.std.proofs.lemmas.Bool.Decides.{nat_tests, eqb_tells}
 use Rattle.bg_strategy.specs.declared.strategy.Strategy.{Strategy}
 use Rattle.bg_revisions.specs.declared.revision.Revision.{Revision}
 use Rattle.bg_revisions.specs.declared.revision_fault.RevisionFault.TheVariants.{SameTemplate, PortsDiffer}
-use Rattle.bg_revisions.specs.Rosters.{numbered, named, has_template, owner_of, template_of}
+use Rattle.bg_revisions.specs.Rosters.{numbered, named, has_template, namesake_of, template_of}
 use Rattle.bg_history.specs.declared.entry.Entry.{Entry}
 use Rattle.bg_history.specs.Kept.{Opening, Template}
 use Rattle.bg_history.specs.Sizes.{existing, desired, available}
 use Rattle.bg_history.specs.Deadlines.{exists_in}
-use Rattle.bg_history.specs.Templates.{template, is_named, has_ports, owner}
+use Rattle.bg_history.specs.Templates.{template, is_named, has_ports, namesake}
 use Rattle.bg_history.specs.Allowed.{is_template}
 use Rattle.bg_history_laws.specs.Listed.{sized, revision_of, revisions_of}
-use Rattle.bg_history_laws.specs.Answers.{owner_answer, template_answer}
+use Rattle.bg_history_laws.specs.Answers.{namesake_answer, template_answer}
 use Rattle.bg_history_laws.proofs.Listed.Templates.{template-there}
 use Rattle.bg_history_laws.proofs.Listed.Changed.{sized-number}
 use Rattle.bg_history_laws.proofs.Lists.{member}
@@ -54,19 +54,19 @@ listed-numbered s o past r =
     ∙ map-cond (revision_of s o past) (exists_in r past) r
 
 -- a revision with a template has the name of the template
-sized-named : (name : List ℕ) (r wanted there : ℕ) (t : Option Template) → is_some t ≡ true → bytes_eq (sized r wanted there t).name name ≡ is_named name t
-sized-named name r wanted there None some = absurd (grind arith)
-sized-named name r wanted there (Some t) some = refl
+sized-named : (name : List ℕ) (r desired_size there : ℕ) (t : Option Template) → is_some t ≡ true → bytes_eq (sized r desired_size there t).name name ≡ is_named name t
+sized-named name r desired_size there None some = absurd (grind arith)
+sized-named name r desired_size there (Some t) some = refl
 
 -- a revision with a template has the ports of the template
-sized-template : (name ports : List ℕ) (r wanted there : ℕ) (t : Option Template) → is_some t ≡ true
-    → has_template name ports (Some (sized r wanted there t)) ≡ is_template name ports t
-sized-template name ports r wanted there None some = absurd (grind arith)
-sized-template name ports r wanted there (Some t) some = refl
+sized-template : (name ports : List ℕ) (r desired_size there : ℕ) (t : Option Template) → is_some t ≡ true
+    → has_template name ports (Some (sized r desired_size there t)) ≡ is_template name ports t
+sized-template name ports r desired_size there None some = absurd (grind arith)
+sized-template name ports r desired_size there (Some t) some = refl
 
 -- the revision of a name
 pub listed-named : (s : Strategy) (o : Opening) (past : List Entry) (name : List ℕ) → named name (revisions_of s o past)
-    ≡ option_map (revision_of s o past) (owner o name past)
+    ≡ option_map (revision_of s o past) (namesake o name past)
 listed-named s o past name =
     find-map (revision_of s o past) (λ v. bytes_eq v.name name) (λ q. is_named name (template o q past)) (existing past)
     (λ q within. sized-named name q (desired s q past) (available q past) (template o q past) (template-there o q past within))
@@ -77,16 +77,16 @@ find-passes test [] q found = absurd (grind arith)
 find-passes test (x ∷ xs) q found = grind (arith, find-passes test xs q)
 
 -- a revision that has the name has a template, so its ports are those of the template
-sized-owner : (name ports : List ℕ) (r wanted there : ℕ) (t : Option Template) → is_named name t ≡ true
-    → owner_of ports (Some (sized r wanted there t)) ≡ cond (has_ports ports t) (Ok (Some r)) (Err PortsDiffer)
-sized-owner name ports r wanted there None named = absurd (grind arith)
-sized-owner name ports r wanted there (Some t) named = refl
+sized-namesake : (name ports : List ℕ) (r desired_size there : ℕ) (t : Option Template) → is_named name t ≡ true
+    → namesake_of ports (Some (sized r desired_size there t)) ≡ cond (has_ports ports t) (Ok (Some r)) (Err PortsDiffer)
+sized-namesake name ports r desired_size there None named = absurd (grind arith)
+sized-namesake name ports r desired_size there (Some t) named = refl
 
--- the answer for the owner of the name
-owner-answer : (s : Strategy) (o : Opening) (past : List Entry) (name ports : List ℕ) (q : Option ℕ) → owner o name past ≡ q
-    → owner_of ports (option_map (revision_of s o past) q) ≡ owner_answer o ports q past
-owner-answer s o past name ports None is = refl
-owner-answer s o past name ports (Some q) is = sized-owner name ports q (desired s q past) (available q past) (template o q past)
+-- the answer for the namesake of the name
+namesake-answer : (s : Strategy) (o : Opening) (past : List Entry) (name ports : List ℕ) (q : Option ℕ) → namesake o name past ≡ q
+    → namesake_of ports (option_map (revision_of s o past) q) ≡ namesake_answer o ports q past
+namesake-answer s o past name ports None is = refl
+namesake-answer s o past name ports (Some q) is = sized-namesake name ports q (desired s q past) (available q past) (template o q past)
     (find-passes (λ r. is_named name (template o r past)) (existing past) q is)
 
 -- the answer of a roster of these revisions to a template
@@ -97,7 +97,7 @@ listed-template s o past newest name ports within =
     let numbered_is : numbered newest (revisions_of s o past) ≡ Some v = rw within at (listed-numbered s o past newest) in
     let same : has_template name ports (Some v) ≡ is_template name ports (template o newest past)
     = sized-template name ports newest (desired s newest past) (available newest past) (template o newest past) (template-there o newest past within) in
-    ap (λ u. cond (has_template name ports u) (Err SameTemplate) (owner_of ports (named name (revisions_of s o past)))) numbered_is
-    ∙ ap (λ b. cond b (Err SameTemplate) (owner_of ports (named name (revisions_of s o past)))) same
+    ap (λ u. cond (has_template name ports u) (Err SameTemplate) (namesake_of ports (named name (revisions_of s o past)))) numbered_is
+    ∙ ap (λ b. cond b (Err SameTemplate) (namesake_of ports (named name (revisions_of s o past)))) same
     ∙ ap (λ a. cond (is_template name ports (template o newest past)) (Err SameTemplate) a)
-    (ap (owner_of ports) (listed-named s o past name) ∙ owner-answer s o past name ports (owner o name past) refl)
+    (ap (namesake_of ports) (listed-named s o past name) ∙ namesake-answer s o past name ports (namesake o name past) refl)

@@ -10,7 +10,7 @@ use Rattle.bg_history.specs.declared.entry.Entry.TheVariants.{Leave, Outcome}
 use Rattle.bg_history.specs.declared.entry.Outcome as outcome
 use Rattle.bg_history.specs.declared.entry.Outcome.TheVariants.{Ready, Resumed, Switched, Promoted, ScaledDown, Removed}
 use Rattle.bg_history.specs.Kept.{Opening}
-use Rattle.bg_history.specs.Turns.{moment, newest_of, is_running}
+use Rattle.bg_history.specs.AttemptBounds.{moment, newest_of, is_running}
 use Rattle.bg_history.specs.Selections.{active_of}
 use Rattle.bg_history.specs.Sizes.{existing, desired, available}
 use Rattle.bg_history.specs.Requests.{Request, open_requests, open_at}

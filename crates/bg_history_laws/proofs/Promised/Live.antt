@@ -9,7 +9,7 @@ use Rattle.bg_history.specs.declared.entry.Outcome.TheVariants.{Ready, Resumed, 
 use Rattle.bg_history.specs.declared.entry.Analysis.TheVariants.{Pre}
 use Rattle.bg_history.specs.declared.entry.AnalysisResult.TheVariants.{Successful, Failed, Error}
 use Rattle.bg_history.specs.Kept.{Opening}
-use Rattle.bg_history.specs.Turns.{moment, stable_of, is_turn, is_running}
+use Rattle.bg_history.specs.AttemptBounds.{moment, stable_of, is_attempt_bound, is_running}
 use Rattle.bg_history.specs.Attempts.{is_ready, has_ready, has_resumed, is_promote, has_promote, is_promote_full, has_promote_full, first_at, passes, pass_moment, is_passed}
 use Rattle.bg_history.specs.Selections.{active_of}
 use Rattle.bg_history.specs.Phases.{needs_pause}
@@ -37,9 +37,9 @@ passes-success s e before pre h = absurd (cc)
 -- so if an analysis is set, an attempt that has passed has its success
 passed-success : (s : Strategy) (past : List Entry) → s.pre ≡ true → is_passed s past ≡ true → has_pre_success past ≡ true
 passed-success s [] pre h = absurd (cc)
-passed-success s (e ∷ before) pre h = go (is_turn e) h (passed-success s before pre) where
-  go : (turn : Bool) → is_some (cond turn None (first_at (passes s e before) (moment before) (pass_moment s before))) ≡ true
-      → (is_passed s before ≡ true → has_pre_success before ≡ true) → not turn && ((is_pre_success e && is_running before) || has_pre_success before) ≡ true
+passed-success s (e ∷ before) pre h = go (is_attempt_bound e) h (passed-success s before pre) where
+  go : (bound : Bool) → is_some (cond bound None (first_at (passes s e before) (moment before) (pass_moment s before))) ≡ true
+      → (is_passed s before ≡ true → has_pre_success before ≡ true) → not bound && ((is_pre_success e && is_running before) || has_pre_success before) ≡ true
   go true h rest = absurd (cc)
   go false h rest = by-pass (passes s e before) refl (first_at-some (passes s e before) (moment before) (pass_moment s before) h) where
     by-pass : (b : Bool) → passes s e before ≡ b → b || is_passed s before ≡ true → (is_pre_success e && is_running before) || has_pre_success before ≡ true
@@ -76,10 +76,10 @@ waited-more auto seconds now later None b m le h = absurd (cc)
 waited-more auto seconds now later (Some at) true m le h = grind (arith, nat_tests)
 waited-more auto seconds now later (Some at) false m le h = grind (arith, nat_tests)
 
--- if an attempt may go live, it may go live after an entry that is no turn
-live-more : (s : Strategy) (e : Entry) (before : List Entry) → is_turn e ≡ false → moment before ≤ moment (e ∷ before) → may_go_live s before ≡ true → may_go_live s (e ∷ before) ≡ true
-live-more s e before turn le h =
-    rw turn (go (is_promote_full e && is_running before) (is_pre_success e && is_running before) (is_promote e && is_running before) (has_promote_full before) (has_pre_success before) (has_promote before)
+-- if an attempt may go live, it may go live after an entry that is no bound
+live-more : (s : Strategy) (e : Entry) (before : List Entry) → is_attempt_bound e ≡ false → moment before ≤ moment (e ∷ before) → may_go_live s before ≡ true → may_go_live s (e ∷ before) ≡ true
+live-more s e before bound le h =
+    rw bound (go (is_promote_full e && is_running before) (is_pre_success e && is_running before) (is_promote e && is_running before) (has_promote_full before) (has_pre_success before) (has_promote before)
     (waited s.auto_promotion s.auto_seconds (moment before) (pass_moment s before))
     (waited s.auto_promotion s.auto_seconds (moment (e ∷ before)) (first_at (passes s e before) (moment before) (pass_moment s before)))
     (waited-more s.auto_promotion s.auto_seconds (moment before) (moment (e ∷ before)) (pass_moment s before) (passes s e before) (moment before) le) h) where

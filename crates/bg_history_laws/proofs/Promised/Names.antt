@@ -13,11 +13,11 @@ use Rattle.bg_history.specs.declared.entry.Entry.{Entry}
 use Rattle.bg_history.specs.declared.entry.Entry.TheVariants.{Deploy, Outcome}
 use Rattle.bg_history.specs.declared.entry.Outcome.TheVariants.{Removed}
 use Rattle.bg_history.specs.Kept.{Opening, Template}
-use Rattle.bg_history.specs.Turns.{newest_of}
+use Rattle.bg_history.specs.AttemptBounds.{newest_of}
 use Rattle.bg_history.specs.Sizes.{existing, last_number}
 use Rattle.bg_history.specs.Deadlines.{exists_in}
-use Rattle.bg_history.specs.Templates.{template, is_named, has_ports, owner}
-use Rattle.bg_history.specs.Allowed.{is_template, fits_owner, may_deploy}
+use Rattle.bg_history.specs.Templates.{template, is_named, has_ports, namesake}
+use Rattle.bg_history.specs.Allowed.{is_template, fits_namesake, may_deploy}
 use Rattle.bg_history.specs.Steps.{all_allowed, is_opening}
 use Rattle.bg_history_laws.specs.Reachable.{Reachable}
 use Rattle.bg_history_laws.proofs.Tests.{and_parts, and_both, both_ways, equal_itself}
@@ -92,40 +92,40 @@ own-names reach s o (Outcome (Removed n) ∷ before) a = λ q r name hq hr nq nr
 own-names reach s o (e ∷ before) a = own-names reach s o before (allowed_before s o e before a)
 
 -- a deployed template has a label and the ports of a revision
-abbrev pub has_form : Strategy → Template → Bool
-has_form s t = is_label t.name && are_ports s.replicas t.ports
+abbrev pub is_well_formed : Strategy → Template → Bool
+is_well_formed s t = is_label t.name && are_ports s.replicas t.ports
 
 -- the template of each revision has a label and the ports of a revision
-pub template-form : (s : Strategy) (o : Opening) (r : ℕ) (past : List Entry) (t : Template) → is_opening s o ≡ true → all_allowed s o past ≡ true → template o r past ≡ Some t → has_form s t ≡ true
-template-form s o r [] t opens a is = go (r == 1) is where
-  good : has_form s o.template ≡ true
+pub template-well_formed : (s : Strategy) (o : Opening) (r : ℕ) (past : List Entry) (t : Template) → is_opening s o ≡ true → all_allowed s o past ≡ true → template o r past ≡ Some t → is_well_formed s t ≡ true
+template-well_formed s o r [] t opens a is = go (r == 1) is where
+  good : is_well_formed s o.template ≡ true
   good = (and_parts _ (nat_le 1 o.seats) (and_parts _ (nat_le o.seats 2048) opens).0).0
 
-  go : (b : Bool) → cond b (Some o.template) None ≡ Some t → has_form s t ≡ true
+  go : (b : Bool) → cond b (Some o.template) None ≡ Some t → is_well_formed s t ≡ true
   go true is = let e : o.template ≡ t = same_Some o.template t is in rw (← e) good
   go false is = absurd (cc)
-template-form s o r (Deploy q name ports ∷ before) t opens a is =
-    go (template o r before) (q == r) refl is (template-form s o r before t opens (allowed_before s o (Deploy q name ports) before a)) where
+template-well_formed s o r (Deploy q name ports ∷ before) t opens a is =
+    go (template o r before) (q == r) refl is (template-well_formed s o r before t opens (allowed_before s o (Deploy q name ports) before a)) where
       new : is_label name && are_ports s.replicas ports ≡ true
       new = (and_parts _ (not (is_template name ports (template o (newest_of before) before)))
-          (and_parts _ (fits_owner o (owner o name before) q ports before) (allowed_now s o (Deploy q name ports) before a)).0).0
+          (and_parts _ (fits_namesake o (namesake o name before) q ports before) (allowed_now s o (Deploy q name ports) before a)).0).0
 
-      go : (u : Option Template) (b : Bool) → template o r before ≡ u → option_or u (cond b (Some (record { name = name; ports = ports })) None) ≡ Some t → (template o r before ≡ Some t → has_form s t ≡ true) → has_form s t ≡ true
+      go : (u : Option Template) (b : Bool) → template o r before ≡ u → option_or u (cond b (Some (record { name = name; ports = ports })) None) ≡ Some t → (template o r before ≡ Some t → is_well_formed s t ≡ true) → is_well_formed s t ≡ true
       go (Some u) b was is rest = rest (was ∙ is)
       go None true was is rest = let e : record { name = name; ports = ports } ≡ t = same_Some _ t is in rw (← e) new
       go None false was is rest = absurd (cc)
-template-form s o r (e ∷ before) t opens a is = template-form s o r before t opens (allowed_before s o e before a) is
+template-well_formed s o r (e ∷ before) t opens a is = template-well_formed s o r before t opens (allowed_before s o e before a) is
 
 -- the stable revision owns its name, so its template may be deployed again where another revision is the newest
 pub may-revert : ((s : Strategy) (o : Opening) (past : List Entry) → all_allowed s o past ≡ true → Reachable s o past)
     → (s : Strategy) (o : Opening) (past : List Entry) (r : ℕ) (t : Template) → is_opening s o ≡ true → all_allowed s o past ≡ true
     → exists_in r past ≡ true → template o r past ≡ Some t → (newest_of past == r) ≡ false → may_deploy s o r t.name t.ports past ≡ true
 may-revert reach s o past r t opens a here is other =
-    let form = and_parts (is_label t.name) (are_ports s.replicas t.ports) (template-form s o r past t opens a is) in
-    and_both _ (fits_owner o (owner o t.name past) r t.ports past)
+    let form = and_parts (is_label t.name) (are_ports s.replicas t.ports) (template-well_formed s o r past t opens a is) in
+    and_both _ (fits_namesake o (namesake o t.name past) r t.ports past)
     (and_both _ (not (is_template t.name t.ports (template o (newest_of past) past))) (and_both (is_label t.name) (are_ports s.replicas t.ports) form.0 form.1)
     (not_newest (is_template t.name t.ports (template o (newest_of past) past)) refl))
-    (owned (owner o t.name past) refl) where
+    (owned (namesake o t.name past) refl) where
       own : OwnNames o past
       own = own-names reach s o past a
 
@@ -141,7 +141,7 @@ may-revert reach s o past r t opens a here is other =
           let same : newest_of past ≡ r = own (newest_of past) r t.name (reach s o past a).newest here (and_parts (is_named t.name (template o (newest_of past) past)) _ h).0 named in
           both_ways (newest_of past == r) (ap (λ k. k == r) same ∙ equal_itself r) other
 
-      owned : (k : Option ℕ) → owner o t.name past ≡ k → fits_owner o k r t.ports past ≡ true
+      owned : (k : Option ℕ) → namesake o t.name past ≡ k → fits_namesake o k r t.ports past ≡ true
       owned None h = both_ways (is_named t.name (template o r past)) named (none-passes (λ q. is_named t.name (template o q past)) r (existing past) h here)
       owned (Some k) h =
           let there = found (λ q. is_named t.name (template o q past)) k (existing past) h in

@@ -20,7 +20,7 @@ use Rattle.bg_history.specs.Allowed.{has_value, port_in, port_of, may_enter}
 use Rattle.bg_history.specs.Steps.{all_allowed, is_opening}
 use Rattle.bg_history_laws.specs.Reachable.{Reachable}
 use Rattle.bg_history_laws.proofs.Tests.{and_parts, and_both, equal_numbers}
-use Rattle.bg_history_laws.proofs.Promised.Names.{template-form}
+use Rattle.bg_history_laws.proofs.Promised.Names.{template-well_formed}
 use Rattle.bg_history_laws.proofs.Reached.Allowing.{allowed_now, allowed_before}
 use Rattle.bg_history_laws.proofs.Lists.{all_filter, all_weaker}
 
@@ -30,8 +30,8 @@ has_port port None = false
 has_port port (Some t) = is_among t.ports port
 
 -- a port that is taken in turn is in the list
-turn-among : (ports : List ℕ) (number size port : ℕ) → 1 ≤ size → size ≤ length ports → slice_index ports (number % size) ≡ port → is_among ports port ≡ true
-turn-among ports number size port some most is =
+taken-among : (ports : List ℕ) (number size port : ℕ) → 1 ≤ size → size ≤ length ports → slice_index ports (number % size) ≡ port → is_among ports port ≡ true
+taken-among ports number size port some most is =
     let less : number % size < length ports = omega arith in
     list_any_at (λ k. k == port) ports (number % size) 0 less (ap (λ k. k == port) is ∙ itself port) where
       itself : (n : ℕ) → (n == n) ≡ true
@@ -48,14 +48,14 @@ enters-port reach s o seat v number r port before opens a h =
       go : (t : Option Template) → template o r before ≡ t → has_value port (port_in t number (available r before)) ≡ true → nat_le 1 (available r before) ≡ true → has_port port t ≡ true
       go None is k some = absurd (cc)
       go (Some t) is k some =
-          let form = template-form s o r before t opens a is in
+          let form = template-well_formed s o r before t opens a is in
           let ports : are_ports s.replicas t.ports ≡ true = (and_parts (is_label t.name) (are_ports s.replicas t.ports) form).1 in
           let long : length t.ports ≡ s.replicas = grind (arith, nat_tests) in
           let there = reach s o before a in
-          let wanted : available r before ≤ desired s r before = there.available_most r in
+          let within_desired : available r before ≤ desired s r before = there.available_most r in
           let most : desired s r before ≤ s.replicas = there.desired_most r in
           let first : 1 ≤ available r before = grind (arith, nat_tests) in
-          turn-among t.ports number (available r before) port first (omega arith) (equal_numbers (slice_index t.ports (number % available r before)) port k)
+          taken-among t.ports number (available r before) port first (omega arith) (equal_numbers (slice_index t.ports (number % available r before)) port k)
 
 -- a template keeps its ports
 port-stays : (p k q : ℕ) (name ports : List ℕ) (o : Opening) (before : List Entry) → has_port p (template o k before) ≡ true → has_port p (template o k (Deploy q name ports ∷ before)) ≡ true

@@ -8,7 +8,7 @@ use Rattle.bg_history.specs.declared.entry.Entry.TheVariants.{Available, Promote
 use Rattle.bg_history.specs.declared.entry.Outcome as outcome
 use Rattle.bg_history.specs.declared.entry.Outcome.TheVariants.{Ready, Resumed, Switched, Promoted, ScaledDown, Removed}
 use Rattle.bg_history.specs.Kept.{Opening}
-use Rattle.bg_history.specs.Turns.{newest_of, is_running}
+use Rattle.bg_history.specs.AttemptBounds.{newest_of, is_running}
 use Rattle.bg_history.specs.Attempts.{has_ready, has_resumed, has_switched, has_promote_full}
 use Rattle.bg_history.specs.Sizes.{desired, available}
 use Rattle.bg_history.specs.Promotion.{may_be_ready, may_resume, may_switch, may_promote, first_promotion}
@@ -148,7 +148,7 @@ takes : (calls : ℕ) (s : Strategy) (o : Opening) (r : ℕ) (past : List Entry)
 takes calls s o r past e is may go =
     inr (subst (λ (e : Entry). (is_allowed s o e past ≡ true) × ((xs : List outcome.Outcome) (new : List Entry) → Step s e past xs new → CanPromote calls s o r new)) (sym is) (may, go))
 
--- in progress, that call is the report that all wanted endpoints are available
+-- in progress, that call is the report that all desired endpoints are available
 reports : (s : Strategy) (r : ℕ) (past : List Entry) → has_promote_full past ≡ true → newest_of past ≡ r → next_promotion_call s past ≡ Available r (desired s r past)
 reports s r past full newest = ap (λ b. cond b (Available (newest_of past) (desired s (newest_of past) past)) PromoteFull) full ∙ ap (λ k. Available k (desired s k past)) newest
 
@@ -156,9 +156,9 @@ reports s r past full newest = ap (λ b. cond b (Available (newest_of past) (des
 may-report : (s : Strategy) (o : Opening) (r : ℕ) (past : List Entry) → exists_in r past ≡ true → is_allowed s o (Available r (desired s r past)) past ≡ true
 may-report s o r past here = and_both (exists_in r past) (nat_le (desired s r past) (desired s r past)) here (grind (arith, nat_tests))
 
--- after the report, all wanted endpoints are available
-after-report : (r n wanted : ℕ) (resumed : Bool) (past : List Entry) → IsOnItsWay r n resumed past → IsOnItsWay r wanted resumed (Available r wanted ∷ past)
-after-report r n wanted resumed past h = record { runs = h.runs; newest = h.newest; full = h.full; available_is = rw (equal_itself r) refl; resumed_still = h.resumed_still }
+-- after the report, all desired endpoints are available
+after-report : (r n size : ℕ) (resumed : Bool) (past : List Entry) → IsOnItsWay r n resumed past → IsOnItsWay r desired resumed (Available r desired ∷ past)
+after-report r n size resumed past h = record { runs = h.runs; newest = h.newest; full = h.full; available_is = rw (equal_itself r) refl; resumed_still = h.resumed_still }
 
 module _ (reach : (s : Strategy) (o : Opening) (past : List Entry) → all_allowed s o past ≡ true → Reachable s o past) where
   exists-newest : (s : Strategy) (o : Opening) (r : ℕ) (past : List Entry) → all_allowed s o past ≡ true → newest_of past ≡ r → exists_in r past ≡ true

@@ -7,7 +7,7 @@ use Rattle.bg_history.specs.declared.entry.Entry.TheVariants.{Deploy, Verdict, A
 use Rattle.bg_history.specs.declared.entry.Outcome.TheVariants.{Resumed, Promoted, ScaledDown}
 use Rattle.bg_history.specs.declared.entry.AnalysisResult.TheVariants.{Failed, Error}
 use Rattle.bg_history.specs.Kept.{Opening}
-use Rattle.bg_history.specs.Turns.{stable_of, newest_of, is_running}
+use Rattle.bg_history.specs.AttemptBounds.{stable_of, newest_of, is_running}
 use Rattle.bg_history.specs.Attempts.{is_resumed, has_resumed}
 use Rattle.bg_history.specs.Sizes.{at_least, desired}
 use Rattle.bg_history.specs.Deadlines.{may_scale_down}

@@ -1,7 +1,7 @@
 -- Worked histories of full promotions.
 use Rattle.std.proofs.Common.{◌≡◌, true, false, refl}
 use Rattle.bg_history.specs.declared.entry.Entry.TheVariants.{Available, Abort, Retry}
-use Rattle.bg_history.specs.Turns.{stable_of, newest_of, is_running}
+use Rattle.bg_history.specs.AttemptBounds.{stable_of, newest_of, is_running}
 use Rattle.bg_history.specs.Selections.{active_of}
 use Rattle.bg_history.specs.Sizes.{available}
 use Rattle.bg_history.specs.Steps.{all_allowed}

@@ -4,7 +4,7 @@ use Rattle.std.proofs.lemmas.Bool.Decides.{nat_tests}
 use Rattle.bg_strategy.specs.declared.strategy.Strategy.{Strategy}
 use Rattle.bg_history.specs.declared.entry.Entry.{Entry}
 use Rattle.bg_history.specs.Kept.{Opening}
-use Rattle.bg_history.specs.Turns.{newest_of, is_running}
+use Rattle.bg_history.specs.AttemptBounds.{newest_of, is_running}
 use Rattle.bg_history.specs.Attempts.{has_ready, has_resumed, has_switched}
 use Rattle.bg_history.specs.Selections.{is_selected}
 use Rattle.bg_history.specs.Sizes.{existing, last_number, available, is_scaled}
@@ -12,8 +12,8 @@ use Rattle.bg_history.specs.Promotion.{attempts, may_resume, may_switch, may_pro
 use Rattle.bg_history.specs.Requests.{open_at}
 use Rattle.bg_history.specs.Marks.{mark}
 use Rattle.bg_history.specs.Deadlines.{exists_in, is_spare, marks_due, is_empty, may_scale_down, is_old, old_revisions, is_first, may_remove}
-use Rattle.bg_history.specs.Templates.{template, is_named, has_ports, owner}
-use Rattle.bg_history.specs.Allowed.{is_template, fits_owner, may_deploy, is_allowed}
+use Rattle.bg_history.specs.Templates.{template, is_named, has_ports, namesake}
+use Rattle.bg_history.specs.Allowed.{is_template, fits_namesake, may_deploy, is_allowed}
 use Rattle.bg_history.specs.Steps.{all_allowed}
 use Rattle.bg_history_laws.proofs.Tests.{and_parts, not_true, equal_numbers}
 use Rattle.bg_history_laws.proofs.Finding.{found, none-passes}
@@ -110,10 +110,10 @@ pub record Begins (o : Opening) (r : ℕ) (name : List ℕ) (past : List Entry) 
   pub room : length (existing past) < 64
   pub free : (q : ℕ) → exists_in q past ≡ true → is_named name (template o q past) ≡ false
 
--- the owner of the name decides which of the two holds
-deployed-owner : (o : Opening) (r : ℕ) (name ports : List ℕ) (past : List Entry) (q : Option ℕ) → owner o name past ≡ q → fits_owner o q r ports past ≡ true
+-- the namesake of the name decides which of the two holds
+deployed-namesake : (o : Opening) (r : ℕ) (name ports : List ℕ) (past : List Entry) (q : Option ℕ) → namesake o name past ≡ q → fits_namesake o q r ports past ≡ true
     → Returns o r name ports past ⊎ Begins o r name past
-deployed-owner o r name ports past None is h =
+deployed-namesake o r name ports past None is h =
     let both = and_parts (r == last_number past + 1) (nat_lt (length (existing past)) 64) h in
     let room : nat_lt (length (existing past)) 64 ≡ true = both.1 in
     inr (record {
@@ -121,7 +121,7 @@ deployed-owner o r name ports past None is h =
       room = grind (arith, nat_tests);
       free = λ q here. none-passes (λ q. is_named name (template o q past)) q (existing past) is here;
     })
-deployed-owner o r name ports past (Some q) is h =
+deployed-namesake o r name ports past (Some q) is h =
     let both = and_parts (q == r) (has_ports ports (template o q past)) h in
     let e : q ≡ r = equal_numbers q r both.0 in
     let here = found (λ q. is_named name (template o q past)) q (existing past) is in
@@ -134,11 +134,11 @@ deployed-owner o r name ports past (Some q) is h =
 pub deployed : (s : Strategy) (o : Opening) (r : ℕ) (name ports : List ℕ) (past : List Entry) → may_deploy s o r name ports past ≡ true
     → Returns o r name ports past ⊎ Begins o r name past
 deployed s o r name ports past h =
-    deployed-owner o r name ports past (owner o name past) refl (and_parts _ (fits_owner o (owner o name past) r ports past) h).1
+    deployed-namesake o r name ports past (namesake o name past) refl (and_parts _ (fits_namesake o (namesake o name past) r ports past) h).1
 
 -- no deploy has the newest revision's template
 pub deployed-other : (s : Strategy) (o : Opening) (r : ℕ) (name ports : List ℕ) (past : List Entry) → may_deploy s o r name ports past ≡ true
     → is_template name ports (template o (newest_of past) past) ≡ false
 deployed-other s o r name ports past h =
     not_true (is_template name ports (template o (newest_of past) past))
-    (and_parts _ (not (is_template name ports (template o (newest_of past) past))) (and_parts _ (fits_owner o (owner o name past) r ports past) h).0).1
+    (and_parts _ (not (is_template name ports (template o (newest_of past) past))) (and_parts _ (fits_namesake o (namesake o name past) r ports past) h).0).1

@@ -5,7 +5,7 @@ use Rattle.bg_history.specs.declared.entry.Entry.{Entry}
 use Rattle.bg_history.specs.declared.entry.Entry.TheVariants.{Deploy, Retry, Outcome}
 use Rattle.bg_history.specs.declared.entry.Outcome.TheVariants.{Resumed, ScaledDown, Removed}
 use Rattle.bg_history.specs.Kept.{Opening}
-use Rattle.bg_history.specs.Turns.{stable_of, newest_of, is_halt}
+use Rattle.bg_history.specs.AttemptBounds.{stable_of, newest_of, is_halt}
 use Rattle.bg_history.specs.Selections.{active_of}
 use Rattle.bg_history.specs.Marks.{halts, leaves_active, supersedes, has_abort_delay, aborts, clears}
 use Rattle.bg_history.specs.Sizes.{is_scaled}

@@ -7,7 +7,7 @@ use Rattle.bg_history.specs.declared.entry.Entry.{Entry}
 use Rattle.bg_history.specs.declared.entry.Entry.TheVariants.{Tick, Deploy, Retry, Outcome}
 use Rattle.bg_history.specs.declared.entry.Outcome.TheVariants.{Resumed, ScaledDown, Removed}
 use Rattle.bg_history.specs.Kept.{Template, Opening}
-use Rattle.bg_history.specs.Turns.{moment, newest_of}
+use Rattle.bg_history.specs.AttemptBounds.{moment, newest_of}
 use Rattle.bg_history.specs.Sizes.{put, existing, last_number, begins, at_least, desired, available, Ascends}
 use Rattle.bg_history.specs.Deadlines.{exists_in}
 use Rattle.bg_history.specs.Templates.{template}

@@ -8,7 +8,7 @@ use Rattle.bg_history.specs.declared.entry.Analysis.{Analysis}
 use Rattle.bg_history.specs.declared.entry.Analysis.TheVariants.{Pre, Post}
 use Rattle.bg_history.specs.declared.entry.AnalysisResult.TheVariants.{Failed, Error}
 use Rattle.bg_history.specs.Kept.{Opening}
-use Rattle.bg_history.specs.Turns.{stable_of, newest_of, is_halt, is_running, is_halted}
+use Rattle.bg_history.specs.AttemptBounds.{stable_of, newest_of, is_halt, is_running, is_halted}
 use Rattle.bg_history.specs.Attempts.{in_attempt, is_ready, has_ready, has_resumed, is_switched, has_switched, is_passed}
 use Rattle.bg_history.specs.Allowed.{awaits}
 use Rattle.bg_history.specs.Steps.{all_allowed}

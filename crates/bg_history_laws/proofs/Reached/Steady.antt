@@ -6,7 +6,7 @@ use Rattle.bg_history.specs.declared.entry.Entry.TheVariants.{Deploy, Verdict, A
 use Rattle.bg_history.specs.declared.entry.Outcome.TheVariants.{Switched, Promoted}
 use Rattle.bg_history.specs.declared.entry.AnalysisResult.TheVariants.{Failed, Error}
 use Rattle.bg_history.specs.Kept.{Opening}
-use Rattle.bg_history.specs.Turns.{stable_of, newest_of, is_running}
+use Rattle.bg_history.specs.AttemptBounds.{stable_of, newest_of, is_running}
 use Rattle.bg_history.specs.Attempts.{has_switched}
 use Rattle.bg_history.specs.Selections.{active_of, preview_of}
 use Rattle.bg_history.specs.Deadlines.{deadline}

@@ -8,7 +8,7 @@ use Rattle.bg_history.specs.declared.entry.Entry.TheVariants.{Deploy, Verdict, A
 use Rattle.bg_history.specs.declared.entry.Outcome.TheVariants.{Switched, Promoted}
 use Rattle.bg_history.specs.declared.entry.AnalysisResult.TheVariants.{Failed, Error}
 use Rattle.bg_history.specs.Kept.{Opening}
-use Rattle.bg_history.specs.Turns.{moment, stable_of, newest_of, is_halt, is_running, is_halted}
+use Rattle.bg_history.specs.AttemptBounds.{moment, stable_of, newest_of, is_halt, is_running, is_halted}
 use Rattle.bg_history.specs.Selections.{active_of}
 use Rattle.bg_history.specs.Sizes.{begins, last_number, is_scaled}
 use Rattle.bg_history.specs.Marks.{Left, Superseded, Aborted, Cleared, halts, leaves_active, supersedes, scales_down, has_abort_delay, aborts, clears, mark}

@@ -2,7 +2,7 @@
 ghost use Rattle.std.specs.Prelude.{◌≡◌, true, false, ℕ, List, ◌∷◌, None, OnOk, OnErr};
 ghost use Rattle.bg_strategy.specs.declared.strategy.Strategy.{Strategy};
 ghost use Rattle.bg_history.specs.declared.entry.Entry.{Entry};
-ghost use Rattle.bg_history.specs.Turns.{moment};
+ghost use Rattle.bg_history.specs.AttemptBounds.{moment};
 ghost use Rattle.bg_history.specs.Phases.{awaits_pre as awaits_pre_in, is_paused as is_paused_in, awaits_post as awaits_post_in, needs_pause as needs_pause_in};
 ghost use Rattle.bg_promotion.specs.Core.{begun};
 ghost use Rattle.bg_promotion.specs.Represents.{CoreRepresents};

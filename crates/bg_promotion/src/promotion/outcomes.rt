@@ -2,7 +2,7 @@
 ghost use Rattle.std.specs.Prelude.{◌≡◌, ◌&&◌, ◌||◌, false, not, List, ◌∷◌, Some};
 ghost use Rattle.bg_strategy.specs.declared.strategy.Strategy.{Strategy};
 ghost use Rattle.bg_history.specs.declared.entry.Entry.{Entry};
-ghost use Rattle.bg_history.specs.Turns.{moment, newest_of};
+ghost use Rattle.bg_history.specs.AttemptBounds.{moment, newest_of};
 ghost use Rattle.bg_history.specs.Attempts.{has_promote, has_promote_full, pass_moment, is_passed};
 ghost use Rattle.bg_history.specs.Sizes.{available as available_of};
 ghost use Rattle.bg_history.specs.Phases.{needs_pause as needs_pause_in};

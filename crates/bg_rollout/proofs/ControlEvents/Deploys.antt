@@ -9,7 +9,7 @@ use Rattle.bg_history.specs.Kept.{Opening}
 use Rattle.bg_history.specs.Sizes.{AllAbove, Ascends, put, existing, last_number, desired, is_scaled}
 use Rattle.bg_history.specs.Deadlines.{exists_in}
 use Rattle.bg_history.specs.Requests.{Request, open_requests}
-use Rattle.bg_history.specs.Templates.{template, is_named, owner}
+use Rattle.bg_history.specs.Templates.{template, is_named, namesake}
 use Rattle.bg_history_laws.specs.Reachable.{Reachable}
 use Rattle.bg_requestlists.specs.declared.request_lists.OpenRequest.{OpenRequest}
 use Rattle.bg_rollout.specs.PastState.{listed, requests_at, lists_of}
@@ -17,9 +17,9 @@ use Rattle.bg_rollout.proofs.OpenRequests.Requests.{eq_from, eq_refl}
 use Rattle.bg_rollout.proofs.Settlements.Outcomes.{found_holds}
 use Rattle.bg_rollout.proofs.OpenRequests.Lists.{at}
 
--- the owner of a name exists
-pub owner_exists : (o : Opening) (name : List ℕ) (past : List Entry) (r : ℕ) → owner o name past ≡ Some r → exists_in r past ≡ true
-owner_exists o name past r h = (found_holds (λ q. is_named name (template o q past)) r (existing past) h).1
+-- the namesake of a name exists
+pub namesake_exists : (o : Opening) (name : List ℕ) (past : List Entry) (r : ℕ) → namesake o name past ≡ Some r → exists_in r past ≡ true
+namesake_exists o name past r h = (found_holds (λ q. is_named name (template o q past)) r (existing past) h).1
 
 -- putting a number of the list into it again changes nothing
 above_all : (low : ℕ) (r : ℕ) (xs : List ℕ) → AllAbove low xs → list_any (λ q. q == r) xs ≡ true → low < r

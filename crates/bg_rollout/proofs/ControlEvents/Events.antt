@@ -40,7 +40,7 @@ reported b r n h =
     below : (m n : ℕ) → nat_le m n ≡ true → m ≤ n
     below m n h = grind (arith, nat_tests)
 
--- the wanted and the available endpoints of a revision of a past
+-- the desired and the available endpoints of a revision of a past
 pub wants : (s : Strategy) (o : Opening) (past : List Entry) (r : ℕ) → (revision_of s o past r).desired ≡ desired s r past
 wants s o past r = go (template o r past) where
   go : (t : Option Template) → (sized r (desired s r past) (available r past) t).desired ≡ desired s r past

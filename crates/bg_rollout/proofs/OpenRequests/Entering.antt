@@ -23,12 +23,12 @@ use Rattle.bg_rollout.proofs.SeatRecords.Seating.{seated_of, out_holds_none}
 use Rattle.bg_rollout.proofs.SeatRecords.Seats.{seats_one_changed, seat-Enter_same, seat-Enter_other}
 
 -- what holds of an accepted request
-pub record Accepted (b : Routing) (r : ℕ) : Type 0 where
+pub record AcceptedEvent (b : Routing) (r : ℕ) : Type 0 where
   pub endpoint : 1 ≤ available r b.past
   pub unspent : given b.closed b.past < b.limits.numbers
   pub room : length b.past + 1 + 3 * (all_open b.past + 1) ≤ b.limits.entries
 
-pub accepted_by : (b : Routing) (service : Service) (r : ℕ) → enter_refusal b service ≡ None → selection b.strategy service b.past ≡ Some r → Accepted b r
+pub accepted_by : (b : Routing) (service : Service) (r : ℕ) → enter_refusal b service ≡ None → selection b.strategy service b.past ≡ Some r → AcceptedEvent b r
 accepted_by b service r refusal selected =
     let at_r : enter_refusal_at b (Some r) ≡ None = ap (enter_refusal_at b) (sym selected) ∙ refusal in
     let one = passed (available r b.past == 0) fault.NoEndpoints _ at_r in

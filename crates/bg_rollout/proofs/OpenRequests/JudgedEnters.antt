@@ -8,7 +8,7 @@ use Rattle.bg_revisions.specs.PortLists.{are_ports, are_distinct}
 use Rattle.bg_revisions.specs.declared.revision.Revision.{Revision}
 use Rattle.bg_revisions.specs.declared.revision.Service.{Service}
 use Rattle.bg_revisions.specs.declared.revision.Service.TheVariants.{Active, Preview}
-use Rattle.bg_revisions.specs.Rosters.{has_form, numbered, HasForms}
+use Rattle.bg_revisions.specs.Rosters.{is_well_formed, numbered, AreWellFormed}
 use Rattle.bg_history.specs.declared.entry.Entry.{Entry}
 use Rattle.bg_history.specs.Kept.{Opening, Template}
 use Rattle.bg_history.specs.Sizes.{desired, available}
@@ -41,16 +41,16 @@ selected_scaled s o past Preview r reach h = go (is_some s.preview_service) h wh
   go false h = absurd (cc)
 
 -- a revision of a roster has one port for each endpoint at full size
-form_found : (replicas r : ℕ) (revisions : List Revision) (v : Revision) → HasForms replicas revisions → numbered r revisions ≡ Some v → has_form replicas v.name v.ports ≡ true
-form_found replicas r [] v forms h = absurd (cc)
-form_found replicas r (x ∷ rest) v forms h = go (x.number == r) h (form_found replicas r rest v forms.1) where
-  go : (b : Bool) → cond b (Some x) (numbered r rest) ≡ Some v → (numbered r rest ≡ Some v → has_form replicas v.name v.ports ≡ true) → has_form replicas v.name v.ports ≡ true
-  go true h rest = ap (λ (w : Revision). has_form replicas w.name w.ports) (sym (same_Some x v h)) ∙ forms.0
+well_formed_found : (replicas r : ℕ) (revisions : List Revision) (v : Revision) → AreWellFormed replicas revisions → numbered r revisions ≡ Some v → is_well_formed replicas v.name v.ports ≡ true
+well_formed_found replicas r [] v forms h = absurd (cc)
+well_formed_found replicas r (x ∷ rest) v forms h = go (x.number == r) h (well_formed_found replicas r rest v forms.1) where
+  go : (b : Bool) → cond b (Some x) (numbered r rest) ≡ Some v → (numbered r rest ≡ Some v → is_well_formed replicas v.name v.ports ≡ true) → is_well_formed replicas v.name v.ports ≡ true
+  go true h rest = ap (λ (w : Revision). is_well_formed replicas w.name w.ports) (sym (same_Some x v h)) ∙ forms.0
   go false h rest = rest h
 
-pub ports_count : (replicas r : ℕ) (revisions : List Revision) (v : Revision) → HasForms replicas revisions → numbered r revisions ≡ Some v → length v.ports ≡ replicas
+pub ports_count : (replicas r : ℕ) (revisions : List Revision) (v : Revision) → AreWellFormed replicas revisions → numbered r revisions ≡ Some v → length v.ports ≡ replicas
 ports_count replicas r revisions v forms h =
-    let form = (and_parts (is_label v.name) (are_ports replicas v.ports) (form_found replicas r revisions v forms h)).1 in
+    let form = (and_parts (is_label v.name) (are_ports replicas v.ports) (well_formed_found replicas r revisions v forms h)).1 in
     eq_from (length v.ports) replicas (and_parts (length v.ports == replicas) _ (and_parts _ (are_distinct v.ports) form).0).0
 
 -- the roster and the past give the same port for a number

@@ -128,8 +128,8 @@ any_in : (t : Option Template) (replicas number size port : ℕ) → is_full rep
     → list_any (λ p. p == port) (ports_in t) ≡ true
 any_in None replicas number size port count some most h = absurd (cc)
 any_in (Some t) replicas number size port count some most h =
-    let turn : number % size < size = mod-lt number (positive size some) in
-    let within : number % size < length t.ports = omega (arith, turn, most, eq_from (length t.ports) replicas count) in
+    let port_place : number % size < size = mod-lt number (positive size some) in
+    let within : number % size < length t.ports = omega (arith, port_place, most, eq_from (length t.ports) replicas count) in
     ap (λ (n : ℕ). list_any (λ p. p == n) t.ports) (sym (same_Some _ port h)) ∙ any_at t.ports (number % size) within
 
 -- each open request has a port of its revision

@@ -3,7 +3,7 @@ use Rattle.std.proofs.Common.{◌≡◌, ◌≤◌, Bool, true, false, List, len
 use Rattle.bg_strategy.specs.declared.strategy.Strategy.{Strategy}
 use Rattle.bg_revisions.specs.declared.revision.Selectors.{Selectors}
 use Rattle.bg_history.specs.declared.entry.Entry.{Entry}
-use Rattle.bg_history.specs.Turns.{newest_of}
+use Rattle.bg_history.specs.AttemptBounds.{newest_of}
 use Rattle.bg_history.specs.Selections.{active_of, selectors_of}
 use Rattle.bg_history.specs.Sizes.{existing, is_scaled}
 use Rattle.bg_history.specs.Deadlines.{deadline, exists_in}

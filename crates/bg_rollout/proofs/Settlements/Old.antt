@@ -8,7 +8,7 @@ use Rattle.bg_revisions.specs.declared.revision.Revision.{Revision}
 use Rattle.bg_revisions.specs.declared.revision.Selectors.{Selectors}
 use Rattle.bg_history.specs.declared.entry.Entry.{Entry}
 use Rattle.bg_history.specs.Kept.{Opening}
-use Rattle.bg_history.specs.Turns.{stable_of, newest_of}
+use Rattle.bg_history.specs.AttemptBounds.{stable_of, newest_of}
 use Rattle.bg_history.specs.Selections.{active_of, preview_of, selectors_of}
 use Rattle.bg_history.specs.Sizes.{existing, desired, is_scaled}
 use Rattle.bg_history.specs.Deadlines.{is_old, old_revisions}

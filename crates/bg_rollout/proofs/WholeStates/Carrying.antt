@@ -3,7 +3,7 @@ use Rattle.std.proofs.Common.{◌≡◌, ◌==◌, ◌+◌, ◌*◌, ℕ, true, 
 use Rattle.std.specs.List.{list_all}
 use Rattle.bg_history.specs.declared.entry.Entry.{Entry}
 use Rattle.bg_history.specs.Kept.{Kept}
-use Rattle.bg_history.specs.Turns.{moment}
+use Rattle.bg_history.specs.AttemptBounds.{moment}
 use Rattle.bg_history.specs.Sizes.{last_number}
 use Rattle.bg_history.specs.Requests.{Request, open_requests, held_by, request_numbers, entered, given, calls_in, calls_of}
 use Rattle.bg_history.specs.Allowed.{is_allowed}

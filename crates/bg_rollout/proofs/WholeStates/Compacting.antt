@@ -6,7 +6,7 @@ use Rattle.bg_history.specs.declared.entry.Entry.{Entry}
 use Rattle.bg_history.specs.Kept.{Opening}
 use Rattle.bg_history.specs.Selections.{selectors_of}
 use Rattle.bg_history.specs.Sizes.{existing}
-use Rattle.bg_history.specs.Turns.{moment}
+use Rattle.bg_history.specs.AttemptBounds.{moment}
 use Rattle.bg_history.specs.Requests.{open_requests, held_by, given, calls_of}
 use Rattle.bg_history_laws.specs.Listed.{revision_of, revisions_of}
 use Rattle.bg_ledger.specs.declared.holding.Holding.{Holding}

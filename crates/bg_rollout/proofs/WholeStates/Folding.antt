@@ -5,7 +5,7 @@ use Rattle.std.proofs.lemmas.Option.{same_Some}
 use Rattle.bg_strategy.specs.declared.strategy.Strategy.{Strategy}
 use Rattle.bg_revisions.specs.declared.revision.Revision.{Revision}
 use Rattle.bg_history.specs.declared.entry.Entry.{Entry}
-use Rattle.bg_history.specs.Turns.{moment as moment_of}
+use Rattle.bg_history.specs.AttemptBounds.{moment as moment_of}
 use Rattle.bg_history.specs.Sizes.{existing}
 use Rattle.bg_history.specs.Deadlines.{exists_in}
 use Rattle.bg_history.specs.Selections.{selectors_of}

@@ -1,8 +1,8 @@
 //! Checking an event, and recording one that has no fault.
 ghost use Rattle.std.specs.Prelude.{◌≡◌, ◌≤◌, ◌+◌, ◌*◌, length, MatchResult, IfOk, OnOk, nat_le, Some, None, ◌∷◌, true, map, max, unwrap_or, IsSome, IfSome, OnErr};
 ghost use Rattle.bg_history.specs.Sizes.{existing, last_number, is_scaled};
-ghost use Rattle.bg_history.specs.Templates.{owner as owner_of};
-ghost use Rattle.bg_history.specs.Turns.{newest_of};
+ghost use Rattle.bg_history.specs.Templates.{namesake as namesake_of};
+ghost use Rattle.bg_history.specs.AttemptBounds.{newest_of};
 ghost use Rattle.bg_history_laws.specs.Answers.{template_answer};
 ghost use Rattle.bg_rollout.specs.Refusals.{all_open, control_refusal, deploy_fault, event_fault, event_of, refuse};
 ghost use Rattle.bg_rollout.specs.Judging.{entry_of, IsAccepted};
@@ -13,7 +13,7 @@ ghost use Rattle.bg_rollout.specs.Recording.{is_command, Recorded};
 ghost use Rattle.bg_rollout.specs.declared.control.Control.TheVariants as control;
 ghost use Rattle.bg_history.specs.declared.entry.Entry.TheVariants as entry;
 
-use crate::accepted::Accepted;
+use crate::accepted_event::AcceptedEvent;
 use crate::control::Control;
 use crate::control_fault::ControlFault;
 use crate::limits::MOST_ENTRIES;
@@ -28,7 +28,7 @@ use std::alloc::{AllocError, Global};
 
 impl<N: Names> Rollout<N> {
     /// Finds the first fault of an event other than an allocation failure, or how to record the event if it has none.
-    pub fn judge<'a>(&self, control: &'a Control) -> Result<Accepted<'a>, ControlFault>
+    pub fn judge<'a>(&self, control: &'a Control) -> Result<AcceptedEvent<'a>, ControlFault>
         requires { length self.now.routing.past + 3 * all_open self.now.routing.past ≤ 1000000 }
         ensures judged { MatchResult result
             (λ _. control_refusal self.now.routing control.now ≡ None)
@@ -47,7 +47,7 @@ impl<N: Names> Rollout<N> {
     }
 
     /// Finds the first fault of the event itself, or how to record it.
-    fn judge_event<'a>(&self, control: &'a Control) -> Result<Accepted<'a>, ControlFault>
+    fn judge_event<'a>(&self, control: &'a Control) -> Result<AcceptedEvent<'a>, ControlFault>
         ensures judged { MatchResult result
             (λ _. event_fault self.now.routing control.now ≡ None)
             (λ e. event_fault self.now.routing control.now ≡ Some e) }
@@ -60,37 +60,37 @@ impl<N: Names> Rollout<N> {
         match control {
             Control::Tick(moment) => {
                 self.check_tick(*moment)?;
-                Ok(Accepted::Tick(*moment))
+                Ok(AcceptedEvent::Tick(*moment))
             }
             Control::Deploy { name, ports } => {
-                let owner = self.check_deploy(name.get(), ports.get())?;
-                Ok(Accepted::Deploy { owner, name, ports })
+                let namesake = self.check_deploy(name.get(), ports.get())?;
+                Ok(AcceptedEvent::Deploy { namesake, name, ports })
             }
             Control::Available { revision, size } => {
                 let (revision, size) = (*revision, *size);
                 self.check_report(revision, size)?;
-                Ok(Accepted::Available { revision, size })
+                Ok(AcceptedEvent::Available { revision, size })
             }
             Control::Verdict { analysis, result } => {
                 let (analysis, result) = (*analysis, *result);
                 core.verdict(analysis, result, self.moment)?;
-                Ok(Accepted::Command(Entry::Verdict { analysis, result }, core))
+                Ok(AcceptedEvent::Command(Entry::Verdict { analysis, result }, core))
             }
             Control::Promote => {
                 core.promote()?;
-                Ok(Accepted::Command(Entry::Promote, core))
+                Ok(AcceptedEvent::Command(Entry::Promote, core))
             }
             Control::PromoteFull => {
                 core.promote_full()?;
-                Ok(Accepted::Command(Entry::PromoteFull, core))
+                Ok(AcceptedEvent::Command(Entry::PromoteFull, core))
             }
             Control::Abort => {
                 core.abort()?;
-                Ok(Accepted::Command(Entry::Abort, core))
+                Ok(AcceptedEvent::Command(Entry::Abort, core))
             }
             Control::Retry => {
                 core.retry()?;
-                Ok(Accepted::Retry(core))
+                Ok(AcceptedEvent::Retry(core))
             }
         }
     }
@@ -113,11 +113,11 @@ impl<N: Names> Rollout<N> {
         ensures judged { MatchResult result
             (λ _. deploy_fault self.now.routing name.now ports.now ≡ None)
             (λ e. deploy_fault self.now.routing name.now ports.now ≡ Some e) }
-        ensures owner { let b = self.now.routing in
-            IfOk result (λ r. r ≡ owner_of b.opening name.now b.past) }
+        ensures namesake { let b = self.now.routing in
+            IfOk result (λ r. r ≡ namesake_of b.opening name.now b.past) }
     {
         self.roster.fits(name, ports)?;
-        let found = self.find_owner(name, ports)?;
+        let found = self.find_namesake(name, ports)?;
         if found.is_none() && self.has_all_revisions() {
             return Err(ControlFault::TooManyRevisions);
         }
@@ -125,11 +125,11 @@ impl<N: Names> Rollout<N> {
     }
 
     /// Finds the fault of a template among the existing revisions, or the revision that has its name.
-    fn find_owner(&self, name: &str, ports: &[u16]) -> Result<Option<u64>, RevisionFault>
+    fn find_namesake(&self, name: &str, ports: &[u16]) -> Result<Option<u64>, RevisionFault>
         ensures answer { let b = self.now.routing in
             result ≡ template_answer b.opening (newest_of b.past) name.now ports.now b.past }
-        ensures owner { let b = self.now.routing in
-            IfOk result (λ r. r ≡ owner_of b.opening name.now b.past) }
+        ensures namesake { let b = self.now.routing in
+            IfOk result (λ r. r ≡ namesake_of b.opening name.now b.past) }
     {
         laws::names();
         laws::reachable();
@@ -158,7 +158,7 @@ impl<N: Names> Rollout<N> {
     }
 
     /// Records an event that has no fault. The only error is an allocation failure, and it changes nothing.
-    pub fn take_in(&mut self, alloc: Global, accepted: Accepted) -> Result<(), AllocError>
+    pub fn take_in(&mut self, alloc: Global, accepted: AcceptedEvent) -> Result<(), AllocError>
         requires accepted { IsAccepted self.old.routing accepted }
         requires short { length self.old.routing.past ≤ 1000000 }
         requires spare { 1 ≤ self.old.spare }
@@ -167,13 +167,13 @@ impl<N: Names> Rollout<N> {
         ensures err { OnErr result (self.new ≡ self.old) }
     {
         match accepted {
-            Accepted::Tick(moment) => self.take_tick(moment),
-            Accepted::Deploy { owner, name, ports } => {
-                self.take_deploy(alloc, owner, name.get(), ports.get())?;
+            AcceptedEvent::Tick(moment) => self.take_tick(moment),
+            AcceptedEvent::Deploy { namesake, name, ports } => {
+                self.take_deploy(alloc, namesake, name.get(), ports.get())?;
             }
-            Accepted::Available { revision, size } => self.take_report(revision, size),
-            Accepted::Command(entry, core) => self.take_command(entry, core),
-            Accepted::Retry(core) => self.take_retry(core),
+            AcceptedEvent::Available { revision, size } => self.take_report(revision, size),
+            AcceptedEvent::Command(entry, core) => self.take_command(entry, core),
+            AcceptedEvent::Retry(core) => self.take_retry(core),
         }
         Ok(())
     }
@@ -255,24 +255,24 @@ impl<N: Names> Rollout<N> {
     fn take_deploy(
         &mut self,
         alloc: Global,
-        owner: Option<u64>,
+        namesake: Option<u64>,
         name: &str,
         ports: &[u16],
     ) -> Result<(), AllocError>
-        requires found { let b = self.old.routing in owner ≡ owner_of b.opening name.now b.past }
+        requires found { let b = self.old.routing in namesake ≡ namesake_of b.opening name.now b.past }
         requires allowed { let b = self.old.routing in is_allowed b.strategy b.opening
-            (entry.Deploy (unwrap_or owner (last_number b.past + 1)) name.now ports.now) b.past
+            (entry.Deploy (unwrap_or namesake (last_number b.past + 1)) name.now ports.now) b.past
             ≡ true }
         requires short { length self.old.routing.past ≤ 1000000 }
         requires spare { 1 ≤ self.old.spare }
         ensures ok { OnOk result (Recorded
-            (entry.Deploy (unwrap_or owner (last_number self.old.routing.past + 1))
+            (entry.Deploy (unwrap_or namesake (last_number self.old.routing.past + 1))
             name.now ports.now) self.old self.new) }
         ensures err { OnErr result (self.new ≡ self.old) }
     {
         let kept_name = Name::new(alloc, name)?;
         let kept_ports = Ports::new(alloc, ports)?;
-        match owner {
+        match namesake {
             Some(revision) => {
                 self.take_known(revision, kept_name, kept_ports);
                 Ok(())
@@ -285,7 +285,7 @@ impl<N: Names> Rollout<N> {
     /// wants at least the size of a preview.
     fn take_known(&mut self, revision: u64, name: Name, ports: Ports)
         requires known { let b = self.old.routing in
-            owner_of b.opening name b.past ≡ Some revision }
+            namesake_of b.opening name b.past ≡ Some revision }
         requires allowed { let b = self.old.routing in
             is_allowed b.strategy b.opening (entry.Deploy revision name ports) b.past ≡ true }
         requires spare { 1 ≤ self.old.spare }
@@ -315,7 +315,7 @@ impl<N: Names> Rollout<N> {
     /// Records the deploy of a new revision, which wants the size of a preview. The only error is an allocation
     /// failure, and it changes nothing.
     fn take_new(&mut self, name: Name, ports: Ports) -> Result<(), AllocError>
-        requires unknown { let b = self.old.routing in owner_of b.opening name b.past ≡ None }
+        requires unknown { let b = self.old.routing in namesake_of b.opening name b.past ≡ None }
         requires allowed { let b = self.old.routing in is_allowed b.strategy b.opening
             (entry.Deploy (last_number b.past + 1) name ports) b.past ≡ true }
         requires short { length self.old.routing.past ≤ 1000000 }
@@ -371,6 +371,6 @@ fn grow(roster: &mut Roster, number: u64, least: u32)
       revisions = map (resized number (max least v.desired)) roster.old.revisions;
     }) }
 {
-    let wanted = roster.find_number(number).unwrap().desired;
-    roster.set_desired(number, wanted.max(least));
+    let desired = roster.find_number(number).unwrap().desired;
+    roster.set_desired(number, desired.max(least));
 }

@@ -1,7 +1,7 @@
 //! Opening a rollout, and ending it with its seats.
 ghost use Rattle.std.specs.Prelude.{◌≡◌, ◌≤◌, true, [], ◌∷◌, IfOk, IfErr, None, replicate, vec_capacity, ℕ, List, length, Some, slice_get};
 ghost use Rattle.bg_ledger.specs.Blanks.{AreAllFor};
-ghost use Rattle.bg_revisions.specs.Rosters.{has_form};
+ghost use Rattle.bg_revisions.specs.Rosters.{is_well_formed};
 ghost use Rattle.bg_rollout.specs.Refusals.{open_refusal, open_refusal_up_to, many_seats_refusal, AnswersBy};
 ghost use Rattle.bg_rollout.specs.Changes.{first_listing, opened, NewSeats};
 ghost use Rattle.bg_rollout.specs.Gathering.{are_all as are_all_of, gather_fault as fault_in, still_in};
@@ -16,7 +16,7 @@ use bg_history::History;
 use bg_ledger::{Blanks, Names, Seat, SeatRecord, pair};
 use bg_promotion::Core;
 use bg_requestlists::{MOST_SEATS, RequestLists};
-use bg_revisions::{Roster, has_ports_form};
+use bg_revisions::{Roster, are_replica_ports};
 use bg_scaledown::Deadlines;
 use bg_strategy::{Strategy, is_dns_label};
 use std::alloc::Global;
@@ -228,7 +228,7 @@ fn opening_fault(
     if !is_dns_label(name) {
         return Some(OpenFault::BadName);
     }
-    if !has_ports_form(strategy.replicas, ports) {
+    if !are_replica_ports(strategy.replicas, ports) {
         return Some(OpenFault::BadPorts);
     }
     if seats < 1 || most < seats {
@@ -250,7 +250,7 @@ fn first_parts(
     name: &str,
     ports: &[u16],
 ) -> Result<(History, Roster, RequestLists), OpenFault>
-    requires { has_form replicas name.now ports.now ≡ true }
+    requires { is_well_formed replicas name.now ports.now ≡ true }
     ensures history { IfOk result (λ r. r.0 ≡ record {
       opening = record {
         seats = seats;
@@ -277,7 +277,7 @@ fn first_roster(
     name: &str,
     ports: &[u16],
 ) -> Result<Roster, OpenFault>
-    requires { has_form replicas name.now ports.now ≡ true }
+    requires { is_well_formed replicas name.now ports.now ≡ true }
     ensures ok { IfOk result (λ r. r ≡ first_listing replicas name.now ports.now) }
     ensures err { IfErr result (λ e. e ≡ OutOfMemory) }
 {

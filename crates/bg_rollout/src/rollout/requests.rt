@@ -105,11 +105,11 @@ impl<N: Names> Rollout<N> {
             return Err(EnterFault::HistoryFull);
         }
         let number = self.given + 1;
-        let turn = number % u64::from(revision.available);
+        let port_place = number % u64::from(revision.available);
         Ok(Ticket {
             number,
             revision: selected,
-            port: revision.ports.get()[turn as usize],
+            port: revision.ports.get()[port_place as usize],
         })
     }
 

@@ -3,7 +3,7 @@ ghost use Rattle.std.specs.Prelude.{◌≡◌, ◌≤◌, ◌^◌, true, List, [
 ghost use Rattle.bg_strategy.specs.declared.strategy.Strategy.{Strategy};
 ghost use Rattle.bg_history.specs.declared.entry.Entry.{Entry};
 ghost use Rattle.bg_history.specs.Selections.{selectors_of};
-ghost use Rattle.bg_history.specs.Turns.{moment, newest_of};
+ghost use Rattle.bg_history.specs.AttemptBounds.{moment, newest_of};
 ghost use Rattle.bg_history.specs.Sizes.{is_scaled};
 ghost use Rattle.bg_scaledown.specs.Due.{has_room_for};
 ghost use Rattle.bg_scaledown.specs.Events.{deployed, halted, switched};

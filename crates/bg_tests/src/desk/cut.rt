@@ -73,7 +73,7 @@ fn is_told<N: Names, R: Wait>(
     desk: &Desk<N>,
     seats: &mut [Seat<N>],
     place: usize,
-    wanted: GoOn,
+    expected: GoOn,
 ) -> bool
     ensures { indices seats.new ≡ indices seats.old }
 {
@@ -81,7 +81,7 @@ fn is_told<N: Names, R: Wait>(
     if place >= seats.len() {
         return false;
     }
-    desk.may_go_on(rt, &mut seats[place]) == wanted
+    desk.may_go_on(rt, &mut seats[place]) == expected
 }
 
 /// The call that a line makes.
@@ -105,10 +105,10 @@ fn tell<N: Names, R: Wait>(
     ensures { indices seats.new ≡ indices seats.old }
 {
     let mut told: usize = 0;
-    for (line, wanted) in &story.1 {
+    for (line, expected) in &story.1 {
         let call = call_of(alloc, line)?;
         let _reply = make(rt, desk, seats, &call);
-        let first = is_told(rt, desk, seats, 0, *wanted);
+        let first = is_told(rt, desk, seats, 0, *expected);
         let out = is_told(rt, desk, seats, 1, GoOn::Keep);
         let newer = is_told(rt, desk, seats, 2, GoOn::Keep);
         if first && out && newer {

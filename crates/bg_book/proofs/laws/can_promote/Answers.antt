@@ -1,5 +1,5 @@
 use Rattle.std.proofs.Common.{subst, ◌≡◌, true}
-use Rattle.bg_history.specs.Turns.{newest_of, is_running}
+use Rattle.bg_history.specs.AttemptBounds.{newest_of, is_running}
 use Rattle.bg_history_laws.specs.FullPromotion.{CanPromote}
 use Rattle.bg_rollout.specs.Routing.{Routing}
 use Rattle.bg_book.specs.Promises.{CallsPromote}

@@ -4,7 +4,7 @@ use Rattle.bg_history.specs.declared.entry.Entry.TheVariants.{Tick}
 use Rattle.bg_history.specs.Compacting.{is_leave}
 use Rattle.std.proofs.lemmas.Option.{same_Some}
 use Rattle.bg_history.proofs.Laying.{get-at}
-use Rattle.bg_history.proofs.Looping.{at-now, rest-now, turn-stays, turn-goes}
+use Rattle.bg_history.proofs.Looping.{at-now, rest-now, step-stays, step-goes}
 use Rattle.bg_history.proofs.compacting.drop_leaves.Goals as goal
 use Rattle.bg_history.proofs.compacting.drop_leaves.Goals.{then-not-is_leave, else-not-is_leave}
 
@@ -28,7 +28,7 @@ loop-place-preserved c =
             len = ap vec_len w.entries-is ∙ w.move_to-kept.ensures.len ∙ v.len;
             capacity = ap vec_capacity w.entries-is ∙ w.move_to-kept.ensures.capacity ∙ v.capacity;
             taken = ap (λ k. take k c.if-not-is_leave.entries.items) w.kept-is ∙ ap (λ b. take w.move_to-kept.result b.items) w.entries-is ∙ w.move_to-kept.ensures.laid (get_or xs i d) at
-                ∙ turn-stays xs i d (take c.loop-place.kept ys) lt (here ∙ w.if-not-is_leave.true) v.taken;
+                ∙ step-stays xs i d (take c.loop-place.kept ys) lt (here ∙ w.if-not-is_leave.true) v.taken;
             rest = ap (λ b. drop (i + 1) b.items) w.entries-is ∙ w.move_to-kept.ensures.rest ∙ rest-now xs ys i v.rest;
           }
       | else-not-is_leave w ↦
@@ -37,7 +37,7 @@ loop-place-preserved c =
             len = ap vec_len w.entries-is ∙ v.len;
             capacity = ap vec_capacity w.entries-is ∙ v.capacity;
             taken = ap (λ k. take k c.if-not-is_leave.entries.items) w.kept-is ∙ ap (λ b. take c.loop-place.kept b.items) w.entries-is ∙ v.taken
-                ∙ turn-goes xs i d lt (here ∙ w.if-not-is_leave.false);
+                ∙ step-goes xs i d lt (here ∙ w.if-not-is_leave.false);
             rest = ap (λ b. drop (i + 1) b.items) w.entries-is ∙ rest-now xs ys i v.rest;
           }
     ]

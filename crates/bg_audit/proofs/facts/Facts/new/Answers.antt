@@ -6,7 +6,7 @@ use Rattle.bg_audit.proofs.facts.Facts.new.Goals as goal
 
 pub returns : goal.returns
 returns c = λ seats. record {
-  course = c.new.ensures c.args.strategy.now;
+  state = c.new.ensures c.args.strategy.now;
   revisions = grind arith;
   marks =
       let kept : c.add-2.new.marks.items ≡ record { revision = 1; mark = None } ∷ [] = grind arith in

@@ -3,13 +3,13 @@ use Rattle.bg_audit.proofs.facts.Facts.take.Goals as goal
 
 pub returns : goal.returns
 returns c = λ o past known reach allowed place. record {
-  course = c.take.ensures past known.course;
-  revisions = c.in_ok-take.ensures o past known.course reach allowed known.revisions;
+  state = c.take.ensures past known.state;
+  revisions = c.in_ok-take.ensures o past known.state reach allowed known.revisions;
   marks =
       c.in_ok-take-2.ensures c.args.strategy.now o past
       (record {
-        before_is = known.course;
-        after_is = c.take.ensures past known.course;
+        before_is = known.state;
+        after_is = c.take.ensures past known.state;
         scaled_is = c.newest_is_scaled-newest_is_scaled.ensures c.args.strategy.now o past known reach;
         delay_is = refl;
         position_is = place;

@@ -3,7 +3,7 @@ use Rattle.std.specs.Result.{IsErrAnd}
 use Rattle.bg_history.specs.Steps.{is_settled}
 use Rattle.bg_history_laws.specs.Reachable.{Reachable}
 use Rattle.bg_history.specs.declared.entry.Entry.{Entry}
-use Rattle.bg_rollout.specs.declared.accepted.Accepted.{Accepted}
+use Rattle.bg_rollout.specs.declared.accepted_event.AcceptedEvent.{AcceptedEvent}
 use Rattle.bg_rollout.specs.declared.control.Control.{Control}
 use Rattle.bg_rollout.specs.declared.control_fault.ControlFault.{ControlFault}
 use Rattle.bg_rollout.specs.declared.control_fault.ControlFault.TheVariants as control_fault
@@ -76,7 +76,7 @@ at_rest rollout reserved event settled control n rest same recorded reached few 
     }
 
 -- the recorded entry is the entry of the event
-event_recorded : (found : Routing) (reserved event : RolloutModel) (accepted : Accepted) (control : Control) → reserved.routing ≡ found → entry_of found accepted ≡ event_of found control
+event_recorded : (found : Routing) (reserved event : RolloutModel) (accepted : AcceptedEvent) (control : Control) → reserved.routing ≡ found → entry_of found accepted ≡ event_of found control
     → Recorded (entry_of reserved.routing accepted) reserved event → Recorded (event_of reserved.routing control) reserved event
 event_recorded found reserved event accepted control same is made =
     subst (λ (e : Entry). Recorded e reserved event) (subst (λ (v : Routing). entry_of v accepted ≡ event_of v control) (sym same) is) made

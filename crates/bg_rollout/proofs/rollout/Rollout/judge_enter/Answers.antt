@@ -88,8 +88,8 @@ returns-then-len-places_kept-clause-judged g c =
     refused_now _ _ c.args.service _ c.self.view_is
     (refused_full b c.args.service r selected (λ e. c.if-revision-eq0.false (size ∙ e)) (omega (arith, represents.given, c.if-self.false)) (omega (arith, kept, c.len.ensures, c.if-len-places_kept.true)))
 
-pub bounds-get-turn : goal.bounds-get-turn
-bounds-get-turn g c =
+pub bounds-get-port_place : goal.bounds-get-port_place
+bounds-get-port_place g c =
     let b = (model_of c.self.inside).routing in
     let represents : PartsRepresent b (parts_of c.self.inside) = c.self.invariant in
     let reach : Reachable b.strategy b.opening b.past = c.reachable.ensures b.strategy b.opening b.past represents.routing.legal.allowed in

@@ -7,10 +7,10 @@ use Rattle.bg_revisions.specs.Rosters.{Listing, resized}
 use Rattle.bg_history.specs.declared.entry.Entry.TheVariants as event
 use Rattle.bg_history.specs.declared.entry.Entry.{Entry}
 use Rattle.bg_history.specs.Kept.{Kept}
-use Rattle.bg_history.specs.Turns.{stable_of}
+use Rattle.bg_history.specs.AttemptBounds.{stable_of}
 use Rattle.bg_history.specs.Sizes.{desired, last_number}
 use Rattle.bg_history.specs.Deadlines.{exists_in}
-use Rattle.bg_history.specs.Templates.{owner}
+use Rattle.bg_history.specs.Templates.{namesake}
 use Rattle.bg_history_laws.specs.Reachable.{Reachable}
 use Rattle.bg_promotion.specs.Core.{Core}
 use Rattle.bg_promotion.specs.Represents.{CoreRepresents}
@@ -22,7 +22,7 @@ use Rattle.bg_rollout.specs.Invariant.{RolloutModel, PartsRepresent, model_of, p
 use Rattle.bg_rollout.proofs.OpenRequests.Requests.{eq_from}
 use Rattle.bg_rollout.proofs.WholeStates.Carrying.{Carries, represents_recorded, recorded_by, recorded_left, allowed_inside}
 use Rattle.bg_rollout.proofs.ControlEvents.Events.{found_there, grown}
-use Rattle.bg_rollout.proofs.ControlEvents.Deploys.{owner_exists, lists_known}
+use Rattle.bg_rollout.proofs.ControlEvents.Deploys.{namesake_exists, lists_known}
 use Rattle.bg_rollout.proofs.Settlements.Marking.{room_for_next, scaled_inside}
 use Rattle.bg_rollout.proofs.rollout.Rollout.take_known.Given.{Over}
 use Rattle.bg_rollout.proofs.rollout.Rollout.take_known.Goals as goal
@@ -36,9 +36,9 @@ record-requires-clause-room g c =
     (c.reachable.ensures b.strategy b.opening b.past represents.routing.legal.allowed) (c.selectors-selectors.ensures b.strategy b.past represents.core)
 
 -- the revision exists, in the fields of the rollout
-exists_inside : (inside now : RolloutModel) (name : List ℕ) (r : ℕ) → inside ≡ now → owner now.routing.opening name now.routing.past ≡ Some r → exists_in r inside.routing.past ≡ true
+exists_inside : (inside now : RolloutModel) (name : List ℕ) (r : ℕ) → inside ≡ now → namesake now.routing.opening name now.routing.past ≡ Some r → exists_in r inside.routing.past ≡ true
 exists_inside inside now name r is known =
-    owner_exists inside.routing.opening name inside.routing.past r (subst (λ (m : RolloutModel). owner m.routing.opening name m.routing.past ≡ Some r) (sym is) known)
+    namesake_exists inside.routing.opening name inside.routing.past r (subst (λ (m : RolloutModel). namesake m.routing.opening name m.routing.past ≡ Some r) (sym is) known)
 
 some_is : (x : Option Revision) (v : Revision) → x ≡ Some v → IsSome x
 some_is x v h = rw h refl

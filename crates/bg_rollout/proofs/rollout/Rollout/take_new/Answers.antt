@@ -3,7 +3,7 @@ use Rattle.std.proofs.lemmas.Bool.Decides.{nat_tests}
 use Rattle.bg_revisions.specs.declared.revision.Revision.{Revision}
 use Rattle.bg_revisions.specs.Rosters.{Listing}
 use Rattle.bg_history.specs.declared.entry.Entry.TheVariants as event
-use Rattle.bg_history.specs.Turns.{stable_of}
+use Rattle.bg_history.specs.AttemptBounds.{stable_of}
 use Rattle.bg_history.specs.Sizes.{last_number}
 use Rattle.bg_history.specs.Allowed.{is_allowed}
 use Rattle.bg_history_laws.specs.Reachable.{Reachable}

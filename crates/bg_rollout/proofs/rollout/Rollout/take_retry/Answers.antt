@@ -3,7 +3,7 @@ use Rattle.std.specs.Prelude.{IfSome}
 use Rattle.bg_revisions.specs.declared.revision.Selectors.{Selectors}
 use Rattle.bg_revisions.specs.Rosters.{Listing, numbered, resized}
 use Rattle.bg_history.specs.declared.entry.Entry.TheVariants as event
-use Rattle.bg_history.specs.Turns.{newest_of}
+use Rattle.bg_history.specs.AttemptBounds.{newest_of}
 use Rattle.bg_history.specs.Sizes.{desired}
 use Rattle.bg_history_laws.specs.Reachable.{Reachable}
 use Rattle.bg_rollout.specs.Invariant.{PartsRepresent, model_of, parts_of}

@@ -1,4 +1,0 @@
-use Rattle.bg_audit.proofs.course.Course.take.Goals as goal
-
-pub returns-in-Deploy : goal.returns-in-Deploy
-returns-in-Deploy c = λ past h. rw c.in-Deploy.is (c.deploy.ensures c.args.strategy.now past c.in-Deploy.name c.in-Deploy.ports h)

@@ -1,0 +1,7 @@
+use Rattle.bg_forward.proofs.Flushed.{flushed}
+use Rattle.bg_forward.proofs.forwarding.send_response.Goals as goal
+
+pub returns : goal.returns
+returns g c =
+    flushed c.flush.result _ _ _ _ _ _ c.requires
+    c.in_ok-write_response.ensures c.flush.ensures.bytes c.flush.ensures.empty

@@ -1,5 +1,0 @@
-use Rattle.std.proofs.Common.{Ok}
-use Rattle.bg_forward.proofs.serving.pass.Goals as goal
-
-pub returns-in-Err-clause-wrote : goal.returns-in-Err-clause-wrote
-returns-in-Err-clause-wrote g c = c.refuse.ensures.wrote (Ok c.args.request.now)

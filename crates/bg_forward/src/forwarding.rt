@@ -1,0 +1,220 @@
+//! Handles a request that entered, and answers its client.
+ghost use Rattle.std.specs.Prelude.{◌≡◌, ◌<◌, ◌⊎◌, [], IfErr, IfOk, IfSome, IsTrue, OnOk, Ok};
+ghost use Rattle.std.specs.Io.KnownBytes.{Appends, Keeps};
+ghost use Rattle.bg_http.specs.Statuses.{is_refusal};
+ghost use Rattle.bg_http.specs.Texts.{refusal_text, request_text, response_text};
+ghost use Rattle.bg_http_read.specs.Responses.{ReadsResponse};
+ghost use Rattle.bg_forward.specs.Buffers.{held, stream_of};
+ghost use Rattle.bg_forward.specs.Connections.{IsGatewayStatus, MayBeRefused, MayEndInside, ReadOutcome};
+ghost use Rattle.bg_forward.specs.Connections.{WroteLast};
+ghost use Rattle.bg_forward.specs.Reasons.{TellsWhy, reason_status};
+ghost use Rattle.bg_forward.specs.declared.serving.End.TheVariants as end;
+
+use crate::buffered::Buffered;
+use crate::gate::Gate;
+use crate::reason::Reason;
+use crate::serving::End;
+use crate::streams::{ClientStream, Dialled};
+use bg_book::GoOn;
+use bg_http::{MOST_TURNS, Request, Response, write_refusal, write_request, write_response};
+use bg_http_read::ResponseParser;
+use bg_ledger::{Names, Seat};
+use std::alloc::Global;
+use std::io;
+use std::io::{ErrorKind, Read, Write};
+
+/// The number of bytes of a response that one read asks for.
+const PIECE: usize = 8192;
+
+/// The outcome of a request that entered.
+#[derive(Clone, Copy, PartialEq, Eq, Debug, Drop)]
+pub(crate) struct ForwardOutcome {
+    pub(crate) end: End,
+    /// Why the client was refused.
+    pub(crate) reason: Option<Reason>,
+}
+
+/// Forwards a request over the connection that a dial gave, and answers its client with the response or a
+/// refusal. If the dial gave no connection, the answer is 502.
+pub(crate) fn forward_and_answer<N: Names, G: Gate<N>, S: ClientStream, U: Read + Write + Drop>(
+    alloc: Global,
+    gate: &G,
+    seat: &mut Seat<N>,
+    request: &Request,
+    dialled: Dialled<U>,
+    client: &mut Buffered<S>,
+) -> ForwardOutcome
+    requires within { 0 < seat.old.number }
+    requires empty { held client.old ≡ [] }
+    ensures seat { seat.new ≡ seat.old }
+    ensures may_end { MayEndInside result.end }
+    ensures why { TellsWhy result.end result.reason }
+    ensures wrote { WroteLast (S.contents (stream_of client.old))
+        (S.contents (stream_of client.new)) (Ok request.now) result.end }
+{
+    match forward(alloc, gate, seat, request, dialled, &mut client.stream) {
+        Ok(response) => ForwardOutcome {
+            end: answer(request, &response, client),
+            reason: None,
+        },
+        Err(reason) => ForwardOutcome {
+            end: refuse(reason.status(), client),
+            reason: Some(reason),
+        },
+    }
+}
+
+/// Forwards a request over the connection that a dial gave, and reads the response. An error is the reason
+/// why the client is refused: with 503 if the request is given up or an allocation fails while the response
+/// is read, and with 502 otherwise (RFC 9110 sections 15.6.3 and 15.6.4). Writes nothing to the client.
+fn forward<N: Names, G: Gate<N>, S: ClientStream, U: Read + Write + Drop>(
+    alloc: Global,
+    gate: &G,
+    seat: &mut Seat<N>,
+    request: &Request,
+    dialled: Dialled<U>,
+    client: &mut S,
+) -> Result<Response, Reason>
+    requires { 0 < seat.old.number }
+    ensures status { IfErr result (λ reason. IsGatewayStatus (reason_status reason)) }
+    ensures seat { seat.new ≡ seat.old }
+    ensures client { Keeps (S.contents client.old) (S.contents client.new) }
+{
+    let Dialled { route, stream } = dialled;
+    let stream = match stream {
+        Ok(stream) => stream,
+        Err(error) => return Err(Reason::of_dial(&error)),
+    };
+    if gate.may_go_on(seat) == GoOn::Cut {
+        return Err(Reason::GivenUp);
+    }
+    let mut upstream = Buffered::new(alloc, stream);
+    if let Err(error) = send_request(request, route.port, &mut upstream) {
+        return Err(Reason::of_stream(&error));
+    }
+    receive(alloc, gate, seat, request, client, &mut upstream.stream)
+}
+
+/// Writes a request and flushes it.
+fn send_request<S: Write>(
+    request: &Request,
+    port: u16,
+    upstream: &mut Buffered<S>,
+) -> io::Result<()>
+    requires { held upstream.old ≡ [] }
+    ensures { OnOk result (Appends (S.contents (stream_of upstream.old))
+        (S.contents (stream_of upstream.new)) (request_text request.now port)) }
+{
+    write_request(request, port, upstream)?;
+    upstream.flush()
+}
+
+/// Whether a request is given up, because its gate says so or its client has gone.
+fn is_given_up<N: Names, G: Gate<N>, S: ClientStream>(
+    gate: &G,
+    seat: &mut Seat<N>,
+    client: &mut S,
+) -> bool
+    requires { 0 < seat.old.number }
+    ensures seat { seat.new ≡ seat.old }
+    ensures client { Keeps (S.contents client.old) (S.contents client.new) }
+{
+    gate.may_go_on(seat) == GoOn::Cut || client.has_gone()
+}
+
+/// Reads the response to a request, and asks before each read whether the request is given up. An
+/// interrupted read is repeated. The errors are those of `forward`.
+fn receive<N: Names, G: Gate<N>, S: ClientStream, R: Read>(
+    alloc: Global,
+    gate: &G,
+    seat: &mut Seat<N>,
+    request: &Request,
+    client: &mut S,
+    reader: &mut R,
+) -> Result<Response, Reason>
+    requires { 0 < seat.old.number }
+    ensures response { IfOk result (λ response. IfSome (R.remaining reader.old)
+        (λ input. ReadsResponse request.now response input)) }
+    ensures status { IfErr result (λ reason. IsGatewayStatus (reason_status reason)) }
+    ensures seat { seat.new ≡ seat.old }
+    ensures client { Keeps (S.contents client.old) (S.contents client.new) }
+{
+    let mut parser = ResponseParser::new(alloc, request);
+    let mut piece = [0; PIECE];
+    for _ in 0..MOST_TURNS {
+        if is_given_up(gate, seat, client) {
+            return Err(Reason::GivenUp);
+        }
+        match reader.read(&mut piece) {
+            Ok(0) => {
+                return match parser.end() {
+                    Ok(response) => Ok(response),
+                    Err(fault) => Err(Reason::of_response(fault)),
+                };
+            }
+            Ok(count) => match parser.feed(&piece[..count.min(PIECE)]) {
+                Ok(Some(response)) => return Ok(response),
+                Ok(None) => {}
+                Err(fault) => return Err(Reason::of_response(fault)),
+            },
+            Err(error) => {
+                if error.kind() != ErrorKind::Interrupted {
+                    return Err(Reason::of_stream(&error));
+                }
+            }
+        }
+    }
+    Err(Reason::ResponseTimeout)
+}
+
+/// Answers a client with a response.
+fn answer<S: Write>(request: &Request, response: &Response, client: &mut Buffered<S>) -> End
+    requires { held client.old ≡ [] }
+    ensures end { (result ≡ end.Answered response.now.code) ⊎ (result ≡ end.WriteFailed) }
+    ensures wrote { WroteLast (S.contents (stream_of client.old))
+        (S.contents (stream_of client.new)) (Ok request.now) result }
+{
+    match send_response(request, response, client) {
+        Ok(()) => End::Answered(response.code),
+        Err(_) => End::WriteFailed,
+    }
+}
+
+/// Writes a response and flushes it.
+fn send_response<S: Write>(
+    request: &Request,
+    response: &Response,
+    client: &mut Buffered<S>,
+) -> io::Result<()>
+    requires { held client.old ≡ [] }
+    ensures { OnOk result (Appends (S.contents (stream_of client.old))
+        (S.contents (stream_of client.new)) (response_text request.now response.now)) }
+{
+    write_response(request, response, client)?;
+    client.flush()
+}
+
+/// Answers a client with a refusal.
+pub(crate) fn refuse<S: Write>(status: u16, client: &mut Buffered<S>) -> End
+    requires status { IsTrue (is_refusal status) }
+    requires empty { held client.old ≡ [] }
+    ensures end { MayBeRefused status result }
+    ensures wrote { (outcome : ReadOutcome) → WroteLast (S.contents (stream_of client.old))
+        (S.contents (stream_of client.new)) outcome result }
+{
+    match send_refusal(status, client) {
+        Ok(()) => End::Refused(status),
+        Err(_) => End::WriteFailed,
+    }
+}
+
+/// Writes a refusal and flushes it.
+fn send_refusal<S: Write>(status: u16, client: &mut Buffered<S>) -> io::Result<()>
+    requires status { IsTrue (is_refusal status) }
+    requires empty { held client.old ≡ [] }
+    ensures { OnOk result (Appends (S.contents (stream_of client.old))
+        (S.contents (stream_of client.new)) (refusal_text status)) }
+{
+    write_refusal(status, client)?;
+    client.flush()
+}
