@@ -6,8 +6,8 @@ use Rattle.bg_history.specs.Requests.{open_at}
 use Rattle.bg_history.specs.Deadlines.{deadline}
 use Rattle.bg_history.specs.Steps.{is_settled}
 use Rattle.bg_history_laws.specs.Reachable.{Reachable}
-use Rattle.bg_requestlists.specs.declared.request_lists.OpenRequest.{OpenRequest}
-use Rattle.bg_requestlists.specs.RequestLists.{requests_of}
+use Rattle.bg_rollout.specs.declared.request_lists.OpenRequest.{OpenRequest}
+use Rattle.bg_rollout.specs.RequestLists.{requests_of}
 use Rattle.bg_rollout.specs.Invariant.{RoutingInvariant}
 use Rattle.bg_rollout.specs.PastState.{requests_at, share}
 use Rattle.bg_rollout.specs.Routing.{Routing}

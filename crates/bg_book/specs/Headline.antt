@@ -12,7 +12,7 @@ use Rattle.bg_history.specs.Promotion.{may_switch}
 use Rattle.bg_history.specs.Requests.{open_at}
 use Rattle.bg_history.specs.Steps.{IsLegal, is_settled}
 use Rattle.bg_history_laws.specs.Reachable.{exists_scaled}
-use Rattle.bg_requestlists.specs.RequestLists.{requests_of}
+use Rattle.bg_rollout.specs.RequestLists.{requests_of}
 use Rattle.bg_rollout.specs.PastState.{lists_of, requests_at, share, SeatsInvariant}
 use Rattle.bg_rollout.specs.Routing.{Routing}
 use Rattle.bg_rollout.specs.State.{deadline_at, state_of}

@@ -5,9 +5,6 @@
 //! [`OperatorLines`] reads one line after the other, and [`parse_line`] gives the command of a line. A
 //! line of more than 4,096 bytes and a strategy of more than 1,048,576 bytes are reported as too large,
 //! and are not stored.
-//!
-//! [`tell_reasons`] and [`tell_reasons_before_script`] write hints about a strategy's text in addition
-//! to its finding; a reader [`Keeping`] keeps the text for this.
 #![tactic(auto)]
 
 mod command;
@@ -18,8 +15,6 @@ mod lines;
 mod operator_lines;
 mod parsing;
 mod read_fault;
-mod reasons;
-mod spelling;
 mod strategy_part;
 mod taking;
 mod vocabulary;
@@ -32,6 +27,5 @@ pub use lines::{Found, next_line};
 pub use operator_lines::{OperatorLines, is_quit};
 pub use parsing::parse_line;
 pub use read_fault::ReadFault;
-pub use reasons::{tell_reasons, tell_reasons_before_script};
 pub use strategy_part::{StrategyPart, part_before_script, whole_input};
 pub use taking::MOST_TURNS;

@@ -1,3 +1,4 @@
+pub mod Linked
 pub mod OpenRequests
 pub mod SeatRecords
 pub mod ControlEvents

@@ -7,7 +7,7 @@ use Rattle.bg_history.specs.Sizes.{last_number}
 use Rattle.bg_history.specs.AttemptBounds.{moment}
 use Rattle.bg_history.specs.Steps.{IsLegal}
 use Rattle.bg_ledger.specs.declared.holding.Holding.{Holding}
-use Rattle.bg_requestlists.specs.RequestLists.{OpenAt, requests_of}
+use Rattle.bg_rollout.specs.RequestLists.{OpenAt, requests_of}
 use Rattle.bg_revisions.specs.declared.revision.Revision.{Revision}
 use Rattle.bg_revisions.specs.declared.revision.Selectors.{Selectors}
 use Rattle.bg_revisions.specs.Rosters.{Listing}

@@ -1,3 +1,4 @@
+pub mod RequestLists
 pub mod Routing
 pub mod PastState
 pub mod State

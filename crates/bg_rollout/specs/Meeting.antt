@@ -4,7 +4,7 @@ use Rattle.bg_ledger.specs.declared.holding.Holding.{Holding}
 use Rattle.bg_history.specs.Kept.{Template}
 use Rattle.bg_history.specs.Sizes.{is_scaled}
 use Rattle.bg_history.specs.Templates.{template}
-use Rattle.bg_requestlists.specs.RequestLists.{requests_of}
+use Rattle.bg_rollout.specs.RequestLists.{requests_of}
 use Rattle.bg_rollout.specs.PastState.{seat_of}
 use Rattle.bg_rollout.specs.Routing.{Routing}
 

@@ -8,8 +8,8 @@ use Rattle.bg_history.specs.Sizes.{existing}
 use Rattle.bg_history.specs.AttemptBounds.{moment}
 use Rattle.bg_history.specs.Deadlines.{deadline, is_due, is_empty, is_reached}
 use Rattle.bg_ledger.specs.declared.holding.Holding.{Holding}
-use Rattle.bg_requestlists.specs.declared.request_lists.OpenRequest.{OpenRequest}
-use Rattle.bg_requestlists.specs.RequestLists.{OpenAt}
+use Rattle.bg_rollout.specs.declared.request_lists.OpenRequest.{OpenRequest}
+use Rattle.bg_rollout.specs.RequestLists.{OpenAt}
 use Rattle.bg_rollout.specs.declared.go_on.GoOn.{GoOn}
 use Rattle.bg_rollout.specs.declared.go_on.GoOn.TheVariants.{Cut, Keep}
 use Rattle.bg_ledger.specs.Holdings.{fresh}

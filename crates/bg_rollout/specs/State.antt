@@ -14,7 +14,7 @@ use Rattle.bg_promotion.specs.Phases.{phase_of}
 use Rattle.bg_scaledown.specs.Due.{deadline_in}
 use Rattle.bg_scaledown.specs.Past.{table_of}
 use Rattle.bg_ledger.specs.declared.holding.Holding.{Holding}
-use Rattle.bg_requestlists.specs.declared.request_lists.OpenRequest.{OpenRequest}
+use Rattle.bg_rollout.specs.declared.request_lists.OpenRequest.{OpenRequest}
 use Rattle.bg_rollout.specs.PastState.{requests_at, seat_of}
 
 -- an existing revision: its number, template and sizes, its deadline, and its open requests

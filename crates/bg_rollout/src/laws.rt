@@ -14,7 +14,7 @@ ghost use Rattle.bg_history_laws.specs.Compaction.{Answers, Same};
 ghost use Rattle.bg_history_laws.specs.Listed.{revisions_of};
 ghost use Rattle.bg_history_laws.specs.Work.{work};
 ghost use Rattle.bg_ledger.specs.declared.holding.Holding.{Holding};
-ghost use Rattle.bg_requestlists.specs.RequestLists.{requests_of};
+ghost use Rattle.bg_rollout.specs.RequestLists.{requests_of};
 ghost use Rattle.bg_rollout.specs.Compaction.{with_compacted};
 ghost use Rattle.bg_rollout.specs.Gathering.{are_all, gather_fault};
 ghost use Rattle.bg_rollout.specs.Invariant.{RoutingInvariant};

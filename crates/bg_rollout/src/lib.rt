@@ -12,6 +12,7 @@ mod fault;
 mod go_on;
 pub mod laws;
 mod limits;
+mod request_lists;
 mod rollout;
 mod ticket;
 
@@ -21,5 +22,6 @@ pub use control_fault::ControlFault;
 pub use fault::{EnterFault, GatherFault, OpenFault};
 pub use go_on::GoOn;
 pub use limits::{Limits, MOST_ENTRIES, PLACES_OF_A_REQUEST};
+pub use request_lists::{MOST_SEATS, OpenRequest, RequestLists};
 pub use rollout::Rollout;
 pub use ticket::{Left, Ticket};

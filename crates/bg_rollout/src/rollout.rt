@@ -23,7 +23,7 @@ use bg_history::History;
 use bg_history_laws as laws;
 use bg_ledger::{Names, SeatRecord};
 use bg_promotion::{Core, Phase};
-use bg_requestlists::RequestLists;
+use crate::request_lists::RequestLists;
 use bg_revisions::{Revision, Roster, Selectors};
 use bg_scaledown::Deadlines;
 use bg_strategy::Strategy;

@@ -8,25 +8,48 @@ ghost use Rattle.bg_strategy.specs.Reading.{IsStrategyIn, IsFaultIn};
 
 use crate::fault::StrategyFault;
 use crate::first_fault::strategy_fault_of;
+use crate::hints::{hint_misspelt, hint_not_json};
 use crate::lookup::{boolean_of, is_set, number_of, number_or, text_of};
 use crate::service_name::ServiceName;
 use crate::strategy::Strategy;
 use crate::table::Field;
 use serde_json::Value;
 use std::alloc::{AllocError, Global};
+use std::io;
+use std::io::Write;
 
 /// Reads the strategy of a Rollout from its JSON text, in the form that `kubectl get -o json` writes
 /// (Argo Rollouts, "Rollout Specification" and "BlueGreen Deployment Strategy").
 ///
 /// A field that is null counts as absent, and so does a service name with no bytes. A document that is
-/// null has the wrong type. Unknown fields are ignored. The error is the first fault in this order: `NotJson`, `Missing`, `WrongType`, `OutOfRange`,
-/// `SameService`. Of several fields with the same kind of fault, it names the first in the order of
+/// null has the wrong type. Unknown fields are ignored. The error is the first fault in this order: `NotJson`,
+/// `Missing`, `WrongType`, `OutOfRange`, `SameService`. Of several fields with the same kind of fault, it names the first in the order of
 /// `Field`. The error is `OutOfMemory` if an allocation fails, even if the document has another fault.
 pub fn read(alloc: Global, bytes: &[u8]) -> Result<Strategy, StrategyFault>
     ensures ok { IfOk result (IsStrategyIn bytes.now) }
     ensures fault { IfErr result (λ e. (e ≡ StrategyFault.OutOfMemory) ⊎ IsFaultIn bytes.now e) }
 {
-    let document = Value::from_slice(alloc, bytes)?;
+    read_with_hints(alloc, bytes, &mut io::sink())
+}
+
+/// Reads a strategy as [`read`] does, and writes hints about its text to `errors`: where it is not valid JSON, and which
+/// keys of `blueGreen` look misspelt. An error of `errors` changes nothing.
+pub fn read_with_hints<W: Write>(
+    alloc: Global,
+    bytes: &[u8],
+    errors: &mut W,
+) -> Result<Strategy, StrategyFault>
+    ensures ok { IfOk result (IsStrategyIn bytes.now) }
+    ensures fault { IfErr result (λ e. (e ≡ StrategyFault.OutOfMemory) ⊎ IsFaultIn bytes.now e) }
+{
+    let document = match Value::from_slice(alloc, bytes) {
+        Ok(document) => document,
+        Err(error) => {
+            let _ = hint_not_json(&error, bytes, errors);
+            return Err(StrategyFault::from(error));
+        }
+    };
+    let _ = hint_misspelt(&document, errors);
     if let Some(fault) = strategy_fault_of(&document) {
         return Err(fault);
     }

@@ -47,7 +47,7 @@ pub enum Field {
 }
 
 /// The fields in the order in which they are checked.
-pub const FIELDS: [Field; 17] = [
+pub(crate) const FIELDS: [Field; 17] = [
     Field::Document,
     Field::Spec,
     Field::Replicas,
@@ -215,7 +215,7 @@ impl Field {
     }
 
     /// Whether the field is a key of `blueGreen`.
-    pub fn is_in_blue_green(self) -> bool
+    pub(crate) fn is_in_blue_green(self) -> bool
         ensures { result ≡ is_blue_green (field_rule self).place }
     {
         matches!(self.place(), Place::BlueGreen)

@@ -11,7 +11,7 @@ use Rattle.bg_history.specs.Deadlines.{exists_in}
 use Rattle.bg_history.specs.Requests.{Request, open_requests}
 use Rattle.bg_history.specs.Templates.{template, is_named, namesake}
 use Rattle.bg_history_laws.specs.Reachable.{Reachable}
-use Rattle.bg_requestlists.specs.declared.request_lists.OpenRequest.{OpenRequest}
+use Rattle.bg_rollout.specs.declared.request_lists.OpenRequest.{OpenRequest}
 use Rattle.bg_rollout.specs.PastState.{listed, requests_at, lists_of}
 use Rattle.bg_rollout.proofs.OpenRequests.Requests.{eq_from, eq_refl}
 use Rattle.bg_rollout.proofs.Settlements.Outcomes.{found_holds}

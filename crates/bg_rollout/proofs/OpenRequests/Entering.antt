@@ -9,7 +9,7 @@ use Rattle.bg_promotion.specs.Represents.{CoreRepresents}
 use Rattle.bg_rollout.specs.declared.ticket.Ticket.{Ticket}
 use Rattle.bg_ledger.specs.declared.holding.Holding.{Holding}
 use Rattle.bg_rollout.specs.declared.fault.EnterFault.TheVariants as fault
-use Rattle.bg_requestlists.specs.RequestLists.{OpenAt, changed}
+use Rattle.bg_rollout.specs.RequestLists.{OpenAt, changed}
 use Rattle.bg_rollout.specs.PastState.{lists_of, seated}
 use Rattle.bg_rollout.specs.Refusals.{all_open, is_full_for_enter, enter_refusal, enter_refusal_at, IsTicket}
 use Rattle.bg_rollout.specs.Changes.{enter_entry, seat_in, with_past}

@@ -9,7 +9,7 @@ use Rattle.bg_promotion.specs.Represents.{CoreRepresents}
 use Rattle.bg_history_laws.specs.Reachable.{exists_scaled}
 use Rattle.bg_ledger.specs.declared.holding.Holding.{Holding}
 use Rattle.bg_ledger.specs.Holdings.{after_leave}
-use Rattle.bg_requestlists.specs.RequestLists.{OpenAt, has_request, without_seat}
+use Rattle.bg_rollout.specs.RequestLists.{OpenAt, has_request, without_seat}
 use Rattle.bg_rollout.specs.PastState.{lists_of, seated, seat_of}
 use Rattle.bg_rollout.specs.Changes.{with_past}
 use Rattle.bg_rollout.specs.Refusals.{all_open}

@@ -13,8 +13,8 @@ use Rattle.bg_history.specs.Sizes.{existing, AllAbove, Ascends}
 use Rattle.bg_history.specs.Deadlines.{exists_in}
 use Rattle.bg_history.specs.Requests.{Request, open_requests, open_at, held_by}
 use Rattle.bg_history_laws.specs.Reachable.{exists_scaled}
-use Rattle.bg_requestlists.specs.declared.request_lists.OpenRequest.{OpenRequest}
-use Rattle.bg_requestlists.specs.RequestLists.{OpenAt, requests_in, requests_of, changed, without_seat, has_request, is_empty_at}
+use Rattle.bg_rollout.specs.declared.request_lists.OpenRequest.{OpenRequest}
+use Rattle.bg_rollout.specs.RequestLists.{OpenAt, requests_in, requests_of, changed, without_seat, has_request, is_empty_at}
 use Rattle.bg_rollout.specs.PastState.{listed, requests_at, lists_of}
 use Rattle.bg_rollout.specs.Invariant.{Differ}
 use Rattle.bg_rollout.proofs.OpenRequests.Requests.{and_both, and_parts, eq_from, eq_refl, by_seat}

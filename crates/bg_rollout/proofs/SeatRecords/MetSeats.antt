@@ -13,8 +13,8 @@ use Rattle.bg_history.specs.Steps.{all_allowed}
 use Rattle.bg_history.specs.Templates.{template}
 use Rattle.bg_history_laws.specs.Reachable.{Reachable, exists_scaled}
 use Rattle.bg_ledger.specs.declared.holding.Holding.{Holding}
-use Rattle.bg_requestlists.specs.declared.request_lists.OpenRequest.{OpenRequest}
-use Rattle.bg_requestlists.specs.RequestLists.{OpenAt, requests_of}
+use Rattle.bg_rollout.specs.declared.request_lists.OpenRequest.{OpenRequest}
+use Rattle.bg_rollout.specs.RequestLists.{OpenAt, requests_of}
 use Rattle.bg_rollout.specs.PastState.{listed}
 use Rattle.bg_rollout.specs.Invariant.{RoutingInvariant}
 use Rattle.bg_rollout.specs.Meeting.{Meets, ports_in}

@@ -3,7 +3,7 @@ use Rattle.std.proofs.Common.{◌≡◌, ◌∷◌, List, slice_get, Some, sym, 
 use Rattle.bg_history.specs.declared.entry.Entry.{Entry}
 use Rattle.bg_history.specs.Kept.{Kept}
 use Rattle.bg_ledger.specs.declared.holding.Holding.{Holding}
-use Rattle.bg_requestlists.specs.RequestLists.{OpenAt}
+use Rattle.bg_rollout.specs.RequestLists.{OpenAt}
 use Rattle.bg_rollout.specs.PastState.{lists_of}
 use Rattle.bg_rollout.specs.Changes.{with_past}
 use Rattle.bg_rollout.specs.Routing.{Routing}

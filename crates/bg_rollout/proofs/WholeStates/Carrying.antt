@@ -12,7 +12,7 @@ use Rattle.bg_promotion.specs.Core.{Core}
 use Rattle.bg_promotion.specs.Represents.{CoreRepresents}
 use Rattle.bg_scaledown.specs.Past.{table_of}
 use Rattle.bg_history_laws.specs.Listed.{revisions_of}
-use Rattle.bg_requestlists.specs.RequestLists.{OpenAt}
+use Rattle.bg_rollout.specs.RequestLists.{OpenAt}
 use Rattle.bg_rollout.specs.PastState.{lists_of, seated, seat_of}
 use Rattle.bg_rollout.specs.Changes.{with_past}
 use Rattle.bg_rollout.specs.Routing.{Routing}

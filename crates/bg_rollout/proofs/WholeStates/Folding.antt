@@ -17,7 +17,7 @@ use Rattle.bg_scaledown.specs.Due.{deadline_in}
 use Rattle.bg_scaledown.specs.Past.{table_of}
 use Rattle.bg_scaledown.specs.Tables.{Table}
 use Rattle.bg_ledger.specs.declared.holding.Holding.{Holding}
-use Rattle.bg_requestlists.specs.RequestLists.{OpenAt, requests_of, requests_in}
+use Rattle.bg_rollout.specs.RequestLists.{OpenAt, requests_of, requests_in}
 use Rattle.bg_rollout.specs.Invariant.{RunningParts, PartsRepresent, phase_in, selectors_in, revision_shown, state_shown}
 use Rattle.bg_rollout.specs.PastState.{lists_of, requests_at, seat_of}
 use Rattle.bg_rollout.specs.Routing.{Routing}

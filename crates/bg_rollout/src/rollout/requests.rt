@@ -18,7 +18,7 @@ use bg_history::Entry;
 use bg_history_laws as laws;
 use bg_ledger::{Names, Seat};
 use bg_promotion::laws as promotion_laws;
-use bg_requestlists::OpenRequest;
+use crate::request_lists::OpenRequest;
 use bg_revisions::Service;
 
 impl<N: Names> Rollout<N> {

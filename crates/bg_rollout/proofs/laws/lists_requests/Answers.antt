@@ -1,5 +1,5 @@
 use Rattle.std.proofs.Common.{List, map, ap, ◌∙◌}
-use Rattle.bg_requestlists.specs.RequestLists.{OpenAt, requests_of}
+use Rattle.bg_rollout.specs.RequestLists.{OpenAt, requests_of}
 use Rattle.bg_rollout.proofs.OpenRequests.Lists.{list_is, list_of_past}
 use Rattle.bg_rollout.proofs.OpenRequests.Shares.{shares_of}
 use Rattle.bg_rollout.proofs.laws.lists_requests.Goals as goal

@@ -3,7 +3,7 @@ use Rattle.std.proofs.lemmas.Bool.Decides.{nat_tests}
 use Rattle.bg_history.specs.Deadlines.{is_empty}
 use Rattle.bg_history.specs.Requests.{open_at}
 use Rattle.bg_history_laws.specs.Reachable.{Reachable}
-use Rattle.bg_requestlists.specs.RequestLists.{OpenAt, requests_of}
+use Rattle.bg_rollout.specs.RequestLists.{OpenAt, requests_of}
 use Rattle.bg_rollout.specs.Invariant.{RolloutModel, PartsRepresent, model_of, parts_of}
 use Rattle.bg_rollout.proofs.OpenRequests.Lists.{list_counts}
 use Rattle.bg_rollout.proofs.rollout.Rollout.is_empty_at.Goals as goal

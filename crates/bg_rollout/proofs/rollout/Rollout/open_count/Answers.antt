@@ -1,7 +1,7 @@
 use Rattle.std.proofs.Common.{◌≡◌, List, length, ap, ◌∙◌, subst}
 use Rattle.bg_history.specs.Requests.{open_at}
 use Rattle.bg_history_laws.specs.Reachable.{Reachable}
-use Rattle.bg_requestlists.specs.RequestLists.{OpenAt, requests_of}
+use Rattle.bg_rollout.specs.RequestLists.{OpenAt, requests_of}
 use Rattle.bg_rollout.specs.Invariant.{RolloutModel, PartsRepresent, model_of, parts_of}
 use Rattle.bg_rollout.proofs.OpenRequests.Lists.{list_counts}
 use Rattle.bg_rollout.proofs.rollout.Rollout.open_count.Goals as goal

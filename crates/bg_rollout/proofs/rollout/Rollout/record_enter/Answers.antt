@@ -3,7 +3,7 @@ use Rattle.bg_revisions.specs.declared.revision.Service.{Service}
 use Rattle.bg_history_laws.specs.Reachable.{Reachable}
 use Rattle.bg_rollout.specs.declared.ticket.Ticket.{Ticket}
 use Rattle.bg_ledger.specs.declared.holding.Holding.{Holding}
-use Rattle.bg_requestlists.specs.RequestLists.{changed, has_request}
+use Rattle.bg_rollout.specs.RequestLists.{changed, has_request}
 use Rattle.bg_rollout.specs.Changes.{enter_entry, seat_in, with_past}
 use Rattle.bg_rollout.specs.Refusals.{enter_refusal, IsTicket}
 use Rattle.bg_rollout.specs.Routing.{Routing}

@@ -4,7 +4,7 @@ use Rattle.bg_history.specs.declared.entry.Entry.TheVariants.{Leave}
 use Rattle.bg_history_laws.specs.Reachable.{Reachable}
 use Rattle.bg_ledger.specs.declared.holding.Holding.{Holding}
 use Rattle.bg_ledger.specs.Holdings.{after_leave}
-use Rattle.bg_requestlists.specs.RequestLists.{has_request, without_seat}
+use Rattle.bg_rollout.specs.RequestLists.{has_request, without_seat}
 use Rattle.bg_rollout.specs.Changes.{with_past}
 use Rattle.bg_rollout.specs.Routing.{Routing}
 use Rattle.bg_rollout.specs.Invariant.{RolloutModel, PartsRepresent, model_of, parts_of, state_shown}

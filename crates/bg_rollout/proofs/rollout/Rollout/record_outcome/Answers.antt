@@ -18,7 +18,7 @@ use Rattle.bg_promotion.specs.Answers.{is_step}
 use Rattle.bg_scaledown.specs.Tables.{Table}
 use Rattle.bg_history_laws.specs.Listed.{revision_of, revisions_of}
 use Rattle.bg_history_laws.specs.Reachable.{Reachable}
-use Rattle.bg_requestlists.specs.RequestLists.{OpenAt, is_empty_at}
+use Rattle.bg_rollout.specs.RequestLists.{OpenAt, is_empty_at}
 use Rattle.bg_rollout.specs.PastState.{lists_of}
 use Rattle.bg_rollout.specs.declared.rollout.Rollout.TheInside.{Inside}
 use Rattle.bg_rollout.specs.Invariant.{RolloutModel, PartsRepresent, model_of, parts_of}

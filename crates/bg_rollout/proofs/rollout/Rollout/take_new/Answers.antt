@@ -9,7 +9,7 @@ use Rattle.bg_history.specs.Allowed.{is_allowed}
 use Rattle.bg_history_laws.specs.Reachable.{Reachable}
 use Rattle.bg_promotion.specs.Represents.{CoreRepresents}
 use Rattle.bg_scaledown.specs.Past.{table_of}
-use Rattle.bg_requestlists.specs.RequestLists.{OpenAt}
+use Rattle.bg_rollout.specs.RequestLists.{OpenAt}
 use Rattle.bg_rollout.specs.PastState.{lists_of}
 use Rattle.bg_rollout.specs.Recording.{Recorded}
 use Rattle.bg_rollout.specs.Invariant.{RolloutModel, PartsRepresent, model_of, parts_of}

@@ -1,6 +1,6 @@
 use Rattle.std.proofs.Common.{arith}
-use Rattle.bg_requestlists.proofs.Linked.{all_owned}
-use Rattle.bg_requestlists.proofs.request_lists.unowned.Goals as goal
+use Rattle.bg_rollout.proofs.Linked.{all_owned}
+use Rattle.bg_rollout.proofs.request_lists.unowned.Goals as goal
 
 pub unreachable-requires : goal.unreachable-requires
 unreachable-requires c =

@@ -1,8 +1,8 @@
 use Rattle.std.proofs.Common.{◌==◌, find, length, sym, ap, ◌∙◌}
-use Rattle.bg_requestlists.specs.declared.request_lists.OwnList.{OwnList}
-use Rattle.bg_requestlists.specs.RequestLists.{requests_of, requests_in}
-use Rattle.bg_requestlists.proofs.Linked.{count_shown, find_shown, none_shown, owner_now}
-use Rattle.bg_requestlists.proofs.request_lists.RequestLists.count.Goals as goal
+use Rattle.bg_rollout.specs.declared.request_lists.OwnList.{OwnList}
+use Rattle.bg_rollout.specs.RequestLists.{requests_of, requests_in}
+use Rattle.bg_rollout.proofs.Linked.{count_shown, find_shown, none_shown, owner_now}
+use Rattle.bg_rollout.proofs.request_lists.RequestLists.count.Goals as goal
 
 pub returns-in-Some : goal.returns-in-Some
 returns-in-Some c =

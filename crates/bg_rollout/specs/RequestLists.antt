@@ -3,8 +3,8 @@ use Rattle.std.specs.Prelude.{◌≡◌, ◌≤◌, ℕ, Bool, false, true, not,
 use Rattle.std.specs.List.{list_all, list_any}
 use Rattle.bg_openlist.specs.Distinct.{Distinct}
 use Rattle.bg_openlist.specs.Family.{Family, IsFamily, list_at}
-use Rattle.bg_requestlists.specs.declared.request_lists.OpenRequest.{OpenRequest}
-use Rattle.bg_requestlists.specs.declared.request_lists.OwnList.{OwnList}
+use Rattle.bg_rollout.specs.declared.request_lists.OpenRequest.{OpenRequest}
+use Rattle.bg_rollout.specs.declared.request_lists.OwnList.{OwnList}
 
 -- a revision and its open requests, in the order in which they entered
 pub record OpenAt : Type 0 where

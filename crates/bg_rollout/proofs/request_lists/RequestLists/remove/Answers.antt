@@ -1,7 +1,7 @@
 use Rattle.std.proofs.Common.{ap, ◌∙◌}
-use Rattle.bg_requestlists.specs.RequestLists.{has_request, without_seat}
-use Rattle.bg_requestlists.proofs.Linked.{holds_unlinked, linked_node, list_without, shown_without}
-use Rattle.bg_requestlists.proofs.request_lists.RequestLists.remove.Goals as goal
+use Rattle.bg_rollout.specs.RequestLists.{has_request, without_seat}
+use Rattle.bg_rollout.proofs.Linked.{holds_unlinked, linked_node, list_without, shown_without}
+use Rattle.bg_rollout.proofs.request_lists.RequestLists.remove.Goals as goal
 
 pub unlink-requires : goal.unlink-requires
 unlink-requires c = linked_node c.self.inside.owned.items c.self.inside.linked c.args.seat c.self.invariant.family (ap (has_request c.args.seat) c.self.view_is ∙ c.requires)

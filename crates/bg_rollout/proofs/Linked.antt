@@ -11,9 +11,9 @@ use Rattle.std.proofs.lemmas.List.Sums.{AllPass-from_list_all, list_all-from_All
 use Rattle.std.proofs.lemmas.Option.{same_Some}
 use Rattle.bg_openlist.specs.Distinct.{Distinct, Fresh}
 use Rattle.bg_openlist.specs.Family.{Family, IsFamily, empty_family, is_linked, list_at, place_of, value_in, without_node}
-use Rattle.bg_requestlists.specs.declared.request_lists.OpenRequest.{OpenRequest}
-use Rattle.bg_requestlists.specs.declared.request_lists.OwnList.{OwnList}
-use Rattle.bg_requestlists.specs.RequestLists.{OpenAt, OwnsLists, changed, has_request, is_empty_at, is_owned, request_at, requests_in, shown_at, without_seat}
+use Rattle.bg_rollout.specs.declared.request_lists.OpenRequest.{OpenRequest}
+use Rattle.bg_rollout.specs.declared.request_lists.OwnList.{OwnList}
+use Rattle.bg_rollout.specs.RequestLists.{OpenAt, OwnsLists, changed, has_request, is_empty_at, is_owned, request_at, requests_in, shown_at, without_seat}
 
 eq_refl : (n : ℕ) → (n == n) ≡ true
 eq_refl n = grind (arith, nat_tests)

@@ -1,6 +1,6 @@
 use Rattle.std.proofs.Common.{◌≡◌, ◌<◌, ℕ, true}
-use Rattle.bg_requestlists.specs.RequestLists.{is_owned}
-use Rattle.bg_requestlists.proofs.request_lists.unowned.Given as goal
+use Rattle.bg_rollout.specs.RequestLists.{is_owned}
+use Rattle.bg_rollout.proofs.request_lists.unowned.Given as goal
 
 -- a revision uses each list before the counter
 abbrev pub invariant-loop-list : goal.invariant-loop-list

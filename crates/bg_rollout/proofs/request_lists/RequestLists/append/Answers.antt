@@ -1,9 +1,9 @@
 use Rattle.std.proofs.Common.{◌≡◌, ◌≢◌, ◌<◌, ◌==◌, ◌++◌, ◌∷◌, [], ℕ, find, IsSome, sym, ap, subst, ◌∙◌}
 use Rattle.bg_openlist.specs.Family.{list_at}
-use Rattle.bg_requestlists.specs.declared.request_lists.OwnList.{OwnList}
-use Rattle.bg_requestlists.specs.RequestLists.{OpenAt, changed, has_request, is_owned}
-use Rattle.bg_requestlists.proofs.Linked.{find_shown, found_is_below, found_is_owned, free_node, holds_linked, list_with, owner_found, owner_now, owner_of, shown_changed}
-use Rattle.bg_requestlists.proofs.request_lists.RequestLists.append.Goals as goal
+use Rattle.bg_rollout.specs.declared.request_lists.OwnList.{OwnList}
+use Rattle.bg_rollout.specs.RequestLists.{OpenAt, changed, has_request, is_owned}
+use Rattle.bg_rollout.proofs.Linked.{find_shown, found_is_below, found_is_owned, free_node, holds_linked, list_with, owner_found, owner_now, owner_of, shown_changed}
+use Rattle.bg_rollout.proofs.request_lists.RequestLists.append.Goals as goal
 
 pub unwrap-list-requires : goal.unwrap-list-requires
 unwrap-list-requires c =

@@ -1,6 +1,6 @@
 //! A list of open requests for each revision.
 ghost use Rattle.std.specs.Prelude.{◌≡◌, ◌<◌, ◌==◌, ◌++◌, ◌∷◌, [], false, true, length, not, filter, find, IfOk, IsSome, option_map};
-ghost use Rattle.bg_requestlists.specs.RequestLists.{changed, has_request, is_empty_at, is_owned, requests_of, without_seat};
+ghost use Rattle.bg_rollout.specs.RequestLists.{changed, has_request, is_empty_at, is_owned, requests_of, without_seat};
 
 use bg_openlist::OpenLists;
 use bg_revisions::MOST_REVISIONS;
@@ -13,7 +13,7 @@ pub const MOST_SEATS: u32 = 2048;
 /// A request that entered and hasn't left.
 #[derive(Clone, Copy, PartialEq, Eq, Debug, Drop)]
 pub struct OpenRequest {
-    /// The index of its seat, 0 to 255.
+    /// The index of its seat, 0 to 2,047.
     pub seat: u32,
     /// Its number, at least 1.
     pub number: u64,
@@ -38,7 +38,7 @@ pub struct RequestLists {
 
 impl Model for RequestLists {
     ghost use Rattle.std.specs.Prelude.{List, map, vec_capacity};
-    ghost use Rattle.bg_requestlists.specs.RequestLists.{OpenAt, OwnsLists, shown_at};
+    ghost use Rattle.bg_rollout.specs.RequestLists.{OpenAt, OwnsLists, shown_at};
 
     ghost Value = { List OpenAt };
 

@@ -1,6 +1,6 @@
 //! Keys of `blueGreen` that look misspelt.
 
-use bg_strategy::FIELDS;
+use crate::table::FIELDS;
 
 /// The keys of `blueGreen` that this program does not read (Argo Rollouts, "Rollout Specification").
 const UNREAD_KEYS: [&str; 4] = [

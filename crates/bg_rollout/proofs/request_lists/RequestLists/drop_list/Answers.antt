@@ -1,11 +1,11 @@
 use Rattle.std.proofs.Common.{◌≡◌, ◌==◌, not, filter, map, List, rules, sym, ap, subst, ◌∙◌, arith}
 use Rattle.std.specs.Vec.{vec_capacity}
 use Rattle.std.proofs.lemmas.Fn.{filter_same}
-use Rattle.bg_requestlists.specs.declared.request_lists.OwnList.{OwnList}
-use Rattle.bg_requestlists.specs.RequestLists.{OpenAt, OwnsLists, is_empty_at, shown_at}
-use Rattle.bg_requestlists.proofs.Linked.{holds_dropped, shown_kept}
-use Rattle.bg_requestlists.proofs.request_lists.RequestLists.drop_list.Goals as goal
-use Rattle.bg_requestlists.proofs.request_lists.RequestLists.drop_list.Goals.{After-retain}
+use Rattle.bg_rollout.specs.declared.request_lists.OwnList.{OwnList}
+use Rattle.bg_rollout.specs.RequestLists.{OpenAt, OwnsLists, is_empty_at, shown_at}
+use Rattle.bg_rollout.proofs.Linked.{holds_dropped, shown_kept}
+use Rattle.bg_rollout.proofs.request_lists.RequestLists.drop_list.Goals as goal
+use Rattle.bg_rollout.proofs.request_lists.RequestLists.drop_list.Goals.{After-retain}
 
 kept : (c : After-retain) → c.retain.new.self.items ≡ filter (λ (o : OwnList). not (o.revision == c.args.revision)) c.self.inside.owned.items
 kept c = filter_same _ (λ (o : OwnList). not (o.revision == c.args.revision)) _ (λ x b f' k. search rules) _ _ c.retain.ensures.filtered

@@ -1,9 +1,9 @@
 use Rattle.std.proofs.Common.{◌≡◌, ◌++◌, ◌∷◌, [], List, sym, ap, subst, ◌∙◌, arith}
 use Rattle.std.specs.Vec.{vec_capacity}
-use Rattle.bg_requestlists.specs.declared.request_lists.OwnList.{OwnList}
-use Rattle.bg_requestlists.specs.RequestLists.{OwnsLists}
-use Rattle.bg_requestlists.proofs.Linked.{holds_first}
-use Rattle.bg_requestlists.proofs.request_lists.RequestLists.new.Goals as goal
+use Rattle.bg_rollout.specs.declared.request_lists.OwnList.{OwnList}
+use Rattle.bg_rollout.specs.RequestLists.{OwnsLists}
+use Rattle.bg_rollout.proofs.Linked.{holds_first}
+use Rattle.bg_rollout.proofs.request_lists.RequestLists.new.Goals as goal
 
 pub invariant_of-result : goal.invariant_of-result
 invariant_of-result c =

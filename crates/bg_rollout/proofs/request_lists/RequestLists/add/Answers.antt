@@ -1,9 +1,9 @@
 use Rattle.std.proofs.Common.{◌≡◌, List, false, sym, ap, subst, ◌∙◌, arith}
 use Rattle.std.specs.Vec.{vec_capacity}
-use Rattle.bg_requestlists.specs.declared.request_lists.OwnList.{OwnList}
-use Rattle.bg_requestlists.specs.RequestLists.{OwnsLists, is_owned}
-use Rattle.bg_requestlists.proofs.Linked.{holds_added}
-use Rattle.bg_requestlists.proofs.request_lists.RequestLists.add.Goals as goal
+use Rattle.bg_rollout.specs.declared.request_lists.OwnList.{OwnList}
+use Rattle.bg_rollout.specs.RequestLists.{OwnsLists, is_owned}
+use Rattle.bg_rollout.proofs.Linked.{holds_added}
+use Rattle.bg_rollout.proofs.request_lists.RequestLists.add.Goals as goal
 
 pub invariant_of-self : goal.invariant_of-self
 invariant_of-self c =
