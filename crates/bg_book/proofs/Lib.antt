@@ -2,7 +2,7 @@ pub mod Tests
 pub mod ByRule
 pub mod Headlines
 pub mod Openings
-pub mod Order
+pub mod SeatOrder
 pub mod Running
 pub mod SeatsOut
 pub mod Stepping

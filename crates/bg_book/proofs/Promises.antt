@@ -62,12 +62,12 @@ call-back b c e none is back = record {
       (subst (λ (e : Entry). Step b.strategy e b.past step.4.outcomes new.past) is step.4.step);
 }
 
--- the form, the template and the number of revisions have no fault
-no-fault : (r : ℕ) (form : Result (Unit {0}) RevisionFault) (namesake : Result (Option ℕ) RevisionFault) (full : Bool) → form ≡ Ok tt → namesake ≡ Ok (Some r) → full ≡ false
-    → option_or (fault_in of_revision form) (option_or (fault_in of_revision namesake) (fault_if full TooManyRevisions None)) ≡ None
-no-fault r form namesake full is there room = rw (is, there, room) refl
+-- the name and ports, the template and the number of revisions have no fault
+no-fault : (r : ℕ) (formed : Result (Unit {0}) RevisionFault) (namesake : Result (Option ℕ) RevisionFault) (full : Bool) → formed ≡ Ok tt → namesake ≡ Ok (Some r) → full ≡ false
+    → option_or (fault_in of_revision formed) (option_or (fault_in of_revision namesake) (fault_if full TooManyRevisions None)) ≡ None
+no-fault r formed namesake full is there room = rw (is, there, room) refl
 
--- a label and a revision's ports have the right form
+-- a label and a revision's ports are well formed
 well_formed-both : (label ports : Bool) → label ≡ true → ports ≡ true → ◌≡◌ {A = Result (Unit {0}) RevisionFault} (cond label (cond ports (Ok tt) (Err BadPorts)) (Err BadName)) (Ok tt)
 well_formed-both label ports is are = rw (is, are) refl
 
@@ -86,18 +86,18 @@ deploys : (b : Routing) (r : ℕ) (name ports : List ℕ) → r ≤ last_number 
 deploys b r name ports given may =
     let fits = and_parts _ (fits_namesake b.opening (namesake b.opening name b.past) r ports b.past) may in
     let other = and_parts _ (not (is_template name ports (template b.opening (newest_of b.past) b.past))) fits.0 in
-    let form = and_parts (is_label name) (are_ports b.strategy.replicas ports) other.0 in
-    go (namesake b.opening name b.past) refl fits.1 (well_formed-both (is_label name) (are_ports b.strategy.replicas ports) form.0 form.1) other.1 where
+    let formed = and_parts (is_label name) (are_ports b.strategy.replicas ports) other.0 in
+    go (namesake b.opening name b.past) refl fits.1 (well_formed-both (is_label name) (are_ports b.strategy.replicas ports) formed.0 formed.1) other.1 where
       go : (k : Option ℕ) → namesake b.opening name b.past ≡ k → fits_namesake b.opening k r ports b.past ≡ true → well_formed b.strategy.replicas name ports ≡ Ok tt
           → not (is_template name ports (template b.opening (newest_of b.past) b.past)) ≡ true → Deploys b r name ports
-      go None is fits form other =
+      go None is fits formed other =
           let next : r ≡ last_number b.past + 1 = eq_from r (last_number b.past + 1) (and_parts (r == last_number b.past + 1) _ fits).0 in
           absurd (omega arith)
-      go (Some q) is fits form other =
+      go (Some q) is fits formed other =
           let parts = and_parts (q == r) (has_ports ports (template b.opening q b.past)) fits in
           let same : q ≡ r = eq_from q r parts.0 in
           record {
-            faultless = no-fault q (well_formed b.strategy.replicas name ports) (template_answer b.opening (newest_of b.past) name ports b.past) (has_no_place b name) form
+            faultless = no-fault q (well_formed b.strategy.replicas name ports) (template_answer b.opening (newest_of b.past) name ports b.past) (has_no_place b name) formed
                 (ap (λ k. cond (is_template name ports (template b.opening (newest_of b.past) b.past)) (Err SameTemplate) (namesake_answer b.opening ports k b.past)) is
                 ∙ owned-answer q (is_template name ports (template b.opening (newest_of b.past) b.past)) (has_ports ports (template b.opening q b.past)) other parts.1)
                 (ap (λ k. is_none k && nat_le 64 (length (existing b.past))) is);

@@ -4,12 +4,12 @@ use Rattle.bg_history.specs.declared.entry.Entry.{Entry}
 use Rattle.bg_history.specs.Requests.{open_requests}
 use Rattle.bg_history.specs.Compacted.{compacted}
 use Rattle.bg_history_laws.specs.Compaction.{Compacts}
-use Rattle.bg_rollout.specs.Compaction.{midway_compacted}
+use Rattle.bg_rollout.specs.Compaction.{part_compacted}
 use Rattle.bg_rollout.specs.Invariant.{RolloutModel}
 use Rattle.bg_book.specs.Invariant.{AtRest}
 
 pub at-rest : ((past : List Entry) → length (compacted past) ≤ length past) → (seats : ℕ) (r : RolloutModel) → Compacts r.routing.strategy r.routing.opening r.routing.closed r.routing.past
-    → AtRest seats r → AtRest seats (midway_compacted r)
+    → AtRest seats r → AtRest seats (part_compacted r)
 at-rest shorter seats r c h =
     let same : length (open_requests (compacted r.routing.past)) ≡ length (open_requests r.routing.past) = ap length (sym c.same.held) in
     record {

@@ -6,40 +6,40 @@ use Rattle.bg_operator.specs.Words.{is_number}
 use Rattle.bg_operator.specs.declared.line_fault.LineFault.{LineFault}
 use Rattle.bg_operator.specs.declared.line_fault.LineFault.TheVariants.{WrongCount, BadWord, BadNumber}
 
--- the required form of a word: anything, a number below 2 ^ bits, or one of these words
+-- the required kind of a word: anything, a number below 2 ^ bits, or one of these words
 pub data WordKind : Type 0 where
   AnyWord : WordKind
   Number : (bits : ℕ) → WordKind
   OneOf : (words : List (List ℕ)) → WordKind
 
--- the words that follow: one of each form, in order; the same, where the last ones may be missing;
--- one of each form and then one or more of a further form; or any number of one form
+-- the words that follow: one of each kind, in order; the same, where the last ones may be missing;
+-- one of each kind and then one or more of a further kind; or any number of one kind
 pub data Shape : Type 0 where
-  Exactly : (forms : List WordKind) → Shape
-  AtMost : (forms : List WordKind) → Shape
-  AndMore : (forms : List WordKind) (further : WordKind) → Shape
-  AnyNumber : (form : WordKind) → Shape
+  Exactly : (kinds : List WordKind) → Shape
+  AtMost : (kinds : List WordKind) → Shape
+  AndMore : (kinds : List WordKind) (further : WordKind) → Shape
+  AnyNumber : (kind : WordKind) → Shape
 
--- the fault of a word that must be of this form
+-- the fault of a word that must be of this kind
 abbrev pub word_fault : WordKind → List ℕ → Option LineFault
 word_fault AnyWord word = None
 word_fault (Number bits) word = if is_number bits word then None else Some BadNumber
 word_fault (OneOf words) word = if list_any (bytes_eq word) words then None else Some BadWord
 
--- the fault of the first word from the left that does not have its form
+-- the fault of the first word from the left that does not have its kind
 abbrev pub first_wrong : List WordKind → List (List ℕ) → Option LineFault
-first_wrong (form ∷ forms) (word ∷ words) =
-    option_or (word_fault form word) (first_wrong forms words)
+first_wrong (kind ∷ kinds) (word ∷ words) =
+    option_or (word_fault kind word) (first_wrong kinds words)
 first_wrong _ _ = None
 
 -- the fault of the words that follow: a wrong count comes before a wrong word
 abbrev pub shape_fault : Shape → List (List ℕ) → Option LineFault
-shape_fault (Exactly forms) words =
-    if length words == length forms then first_wrong forms words else Some WrongCount
-shape_fault (AtMost forms) words =
-    if nat_le (length words) (length forms) then first_wrong forms words else Some WrongCount
-shape_fault (AndMore forms further) words =
-    if nat_lt (length forms) (length words)
-    then first_wrong (forms ++ map (λ word. further) words) words
+shape_fault (Exactly kinds) words =
+    if length words == length kinds then first_wrong kinds words else Some WrongCount
+shape_fault (AtMost kinds) words =
+    if nat_le (length words) (length kinds) then first_wrong kinds words else Some WrongCount
+shape_fault (AndMore kinds further) words =
+    if nat_lt (length kinds) (length words)
+    then first_wrong (kinds ++ map (λ word. further) words) words
     else Some WrongCount
-shape_fault (AnyNumber form) words = first_wrong (map (λ word. form) words) words
+shape_fault (AnyNumber kind) words = first_wrong (map (λ word. kind) words) words

@@ -34,7 +34,7 @@ IsRoster-map f r keeps h = record {
   few = rw (length-map r.revisions f) h.few;
   ascends = Ascends-map f 0 r.last r.revisions keeps h.ascends;
   own_names = HasOwnNames-map f r.revisions keeps h.own_names;
-  well_formed = AreWellFormed-map f r.replicas r.revisions keeps h.forms;
+  well_formed = AreWellFormed-map f r.replicas r.revisions keeps h.well_formed;
 }
 
 keep-when : (b : Bool) (v w : Revision) → w.number ≡ v.number → w.name ≡ v.name → w.ports ≡ v.ports
@@ -97,7 +97,7 @@ IsRoster-filter p r h = record {
   few = omega (arith, few-filter p r.revisions, h.few);
   ascends = Ascends-filter p 0 r.last r.revisions h.ascends;
   own_names = HasOwnNames-filter p r.revisions h.own_names;
-  well_formed = AreWellFormed-filter p r.replicas r.revisions h.forms;
+  well_formed = AreWellFormed-filter p r.replicas r.revisions h.well_formed;
 }
 
 Ascends-push : (low last : ℕ) (vs : List Revision) (v : Revision) → v.number ≡ last + 1 → AscendsWithin low last vs → AscendsWithin low v.number (vs ++ v ∷ [])
@@ -129,11 +129,11 @@ AreWellFormed-push replicas (w ∷ vs) v here h = (h.0, AreWellFormed-push repli
 -- a roster is still one after a revision with a new name is added
 pub IsRoster-push : (r : Listing) (v : Revision) → v.number ≡ r.last + 1 → named v.name r.revisions ≡ None → is_well_formed r.replicas v.name v.ports ≡ true
     → length r.revisions < 64 → IsRoster r → IsRoster (record r { revisions = r.revisions ++ v ∷ []; last = v.number })
-IsRoster-push r v next is_new form room h = record {
+IsRoster-push r v next is_new formed room h = record {
   few = omega (arith, length-append r.revisions (v ∷ []));
   ascends = Ascends-push 0 r.last r.revisions v next h.ascends;
   own_names = HasOwnNames-push r.revisions v is_new h.own_names;
-  well_formed = AreWellFormed-push r.replicas r.revisions v form h.forms;
+  well_formed = AreWellFormed-push r.replicas r.revisions v formed h.well_formed;
 }
 
 -- after a loop over a whole list, each element has been changed

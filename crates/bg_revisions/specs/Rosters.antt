@@ -38,16 +38,16 @@ has_template name ports None = false
 has_template name ports (Some v) = bytes_eq v.name name && bytes_eq v.ports ports
 
 -- the number of the revision, or none if there is no revision; a fault if the revision has other ports
-abbrev pub owner_of : List ℕ → Option Revision → Result (Option ℕ) RevisionFault
-owner_of ports None = Ok None
-owner_of ports (Some v) = if bytes_eq v.ports ports then Ok (Some v.number) else Err PortsDiffer
+abbrev pub namesake_of : List ℕ → Option Revision → Result (Option ℕ) RevisionFault
+namesake_of ports None = Ok None
+namesake_of ports (Some v) = if bytes_eq v.ports ports then Ok (Some v.number) else Err PortsDiffer
 
 -- the answer to a template: a fault if it is the newest revision's; else the number of the revision of that name, a
 -- fault if that has other ports
 abbrev pub template_of : ℕ → List ℕ → List ℕ → List Revision → Result (Option ℕ) RevisionFault
 template_of newest name ports revisions =
     if has_template name ports (numbered newest revisions) then Err SameTemplate
-    else owner_of ports (named name revisions)
+    else namesake_of ports (named name revisions)
 
 -- the fault if a revision isn't added
 abbrev pub refused_by : List Revision → RevisionFault
@@ -91,4 +91,4 @@ pub record IsRoster (r : Listing) : Type 0 where
   pub few : length r.revisions ≤ 64
   pub ascends : AscendsWithin 0 r.last r.revisions
   pub own_names : HasOwnNames r.revisions
-  pub forms : AreWellFormed r.replicas r.revisions
+  pub well_formed : AreWellFormed r.replicas r.revisions

@@ -113,7 +113,7 @@ pub shown_added : (owned : List OwnList) (f : Family ℕ) (o : OwnList) → list
 shown_added [] f o h = ap (λ (ps : List (ℕ × ℕ)). record { revision = o.revision; requests = map request_at ps } ∷ []) h
 shown_added (x ∷ xs) f o h = ap (λ ls. shown_at f x ∷ ls) (shown_added xs f o h)
 
--- the owner that the search finds
+-- the holder that the search finds
 pub found_is_owned : (r : ℕ) (owned : List OwnList) (o : OwnList) → find (λ x. x.revision == r) owned ≡ Some o → is_owned o.list owned ≡ true
 found_is_owned r [] o h = absurd (cc)
 found_is_owned r (x ∷ xs) o h = go (x.revision == r) h (found_is_owned r xs o) where
@@ -130,7 +130,7 @@ found_is_below r (x ∷ xs) o h k =
       go true e here rest = let low : nat_lt o.list 64 ≡ true = ap (λ (y : OwnList). nat_lt y.list 64) (sym (same_Some x o e)) ∙ here in grind (arith, nat_tests)
       go false e here rest = rest e
 
--- the list that callers see of a revision is the list of its owner
+-- the list that callers see of a revision is the list of its holder
 pub find_shown : (f : Family ℕ) (r : ℕ) (owned : List OwnList) → find (λ l. l.revision == r) (map (shown_at f) owned) ≡ option_map (shown_at f) (find (λ o. o.revision == r) owned)
 find_shown f r [] = refl
 find_shown f r (x ∷ xs) = go (x.revision == r) (find_shown f r xs) where
@@ -152,25 +152,25 @@ pub none_shown : (f : Family ℕ) (o : Option OwnList) → option_map (λ (x : O
 none_shown f None h = refl
 none_shown f (Some x) h = absurd (cc)
 
--- an owner found in a slice of the owners is found in the owners
-pub owner_now : (r : ℕ) (seen owned : List OwnList) (x : Option ℕ) → seen ≡ owned → option_map (λ (o : OwnList). o.list) (find (λ (o : OwnList). o.revision == r) seen) ≡ x
+-- a holder found in a slice of the lists is found in the lists
+pub holder_now : (r : ℕ) (seen owned : List OwnList) (x : Option ℕ) → seen ≡ owned → option_map (λ (o : OwnList). o.list) (find (λ (o : OwnList). o.revision == r) seen) ≡ x
     → option_map (λ (o : OwnList). o.list) (find (λ (o : OwnList). o.revision == r) owned) ≡ x
-owner_now r seen owned x is h = ap (λ (os : List OwnList). option_map (λ (o : OwnList). o.list) (find (λ (o : OwnList). o.revision == r) os)) (sym is) ∙ h
+holder_now r seen owned x is h = ap (λ (os : List OwnList). option_map (λ (o : OwnList). o.list) (find (λ (o : OwnList). o.revision == r) os)) (sym is) ∙ h
 
--- a revision that has a list has an owner
-pub owner_of : (f : Family ℕ) (o : Option OwnList) → IsSome (option_map (shown_at f) o) → IsSome (option_map (λ (x : OwnList). x.list) o)
-owner_of f None h = absurd (cc)
-owner_of f (Some x) h = h
+-- a revision that has a list has a holder
+pub holder_of : (f : Family ℕ) (o : Option OwnList) → IsSome (option_map (shown_at f) o) → IsSome (option_map (λ (x : OwnList). x.list) o)
+holder_of f None h = absurd (cc)
+holder_of f (Some x) h = h
 
--- the owner of the list that was found
-pub record Owner (r l : ℕ) (owned : List OwnList) : Type 0 where
+-- the holder of the list that was found
+pub record Holder (r l : ℕ) (owned : List OwnList) : Type 0 where
   pub own : OwnList
   pub found : find (λ o. o.revision == r) owned ≡ Some own
   pub list_is : own.list ≡ l
 
-pub owner_found : (r l : ℕ) (owned : List OwnList) → option_map (λ (x : OwnList). x.list) (find (λ o. o.revision == r) owned) ≡ Some l → Owner r l owned
-owner_found r l owned h = go (find (λ o. o.revision == r) owned) refl h where
-  go : (o : Option OwnList) → find (λ o. o.revision == r) owned ≡ o → option_map (λ (x : OwnList). x.list) o ≡ Some l → Owner r l owned
+pub holder_found : (r l : ℕ) (owned : List OwnList) → option_map (λ (x : OwnList). x.list) (find (λ o. o.revision == r) owned) ≡ Some l → Holder r l owned
+holder_found r l owned h = go (find (λ o. o.revision == r) owned) refl h where
+  go : (o : Option OwnList) → find (λ o. o.revision == r) owned ≡ o → option_map (λ (x : OwnList). x.list) o ≡ Some l → Holder r l owned
   go None e k = absurd (cc)
   go (Some x) e k = record { own = x; found = e; list_is = same_Some x.list l k }
 

@@ -3,5 +3,5 @@ pub mod Seats
 pub mod Seating
 pub mod Seated
 pub mod MetSeats
-pub mod Order
+pub mod Sequence
 pub mod Gathered

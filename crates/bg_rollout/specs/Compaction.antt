@@ -7,5 +7,5 @@ use Rattle.bg_rollout.specs.Invariant.{RolloutModel}
 abbrev pub with_compacted : Routing → Routing
 with_compacted b = record b { closed = closed_after b.past b.closed; past = compacted b.past }
 
-abbrev pub midway_compacted : RolloutModel → RolloutModel
-midway_compacted r = record r { routing = with_compacted r.routing }
+abbrev pub part_compacted : RolloutModel → RolloutModel
+part_compacted r = record r { routing = with_compacted r.routing }

@@ -113,7 +113,7 @@ abbrev pub has_no_place : Routing → List ℕ → Bool
 has_no_place b name =
     is_none (namesake b.opening name b.past) && nat_le 64 (length (existing b.past))
 
--- the fault of a deploy: of its form; else of its template; else of the number of revisions
+-- the fault of a deploy: of its name and ports; else of its template; else of the number of revisions
 abbrev pub deploy_fault : Routing → List ℕ → List ℕ → Option control.ControlFault
 deploy_fault b name ports =
     option_or (fault_in of_revision (well_formed b.strategy.replicas name ports))

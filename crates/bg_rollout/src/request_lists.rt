@@ -127,7 +127,7 @@ fn unowned(owned: &[OwnList]) -> usize
     ensures free { is_owned result owned.now ≡ false }
 {
     for list in 0..MOST_REVISIONS {
-        if !has_owner(owned, list) {
+        if !has_holder(owned, list) {
             return list;
         }
     }
@@ -135,7 +135,7 @@ fn unowned(owned: &[OwnList]) -> usize
 }
 
 /// Whether a revision uses a linked list.
-fn has_owner(owned: &[OwnList], list: usize) -> bool
+fn has_holder(owned: &[OwnList], list: usize) -> bool
     ensures { result ≡ is_owned list owned.now }
 {
     owned.iter().any(|own| own.list == list)

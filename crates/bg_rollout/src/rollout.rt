@@ -11,7 +11,7 @@ ghost use Rattle.bg_history.specs.Steps.{is_settled};
 ghost use Rattle.bg_history_laws.specs.Listed.{revisions_of};
 ghost use Rattle.bg_promotion.specs.Phases.{phase_of};
 ghost use Rattle.bg_rollout.specs.PastState.{drain_end, is_draining as is_draining_in, is_past_limit};
-ghost use Rattle.bg_rollout.specs.Compaction.{midway_compacted};
+ghost use Rattle.bg_rollout.specs.Compaction.{part_compacted};
 
 mod events;
 mod lifecycle;
@@ -182,7 +182,7 @@ impl<N: Names> Rollout<N> {
     /// Compacts the history: drops the entries of each closed request, counts the request for its seat, and drops each
     /// tick that another tick directly follows. Gives the number of dropped entries. The call allocates nothing.
     pub fn compact(&mut self) -> u64
-        ensures new { self.new ≡ midway_compacted self.old }
+        ensures new { self.new ≡ part_compacted self.old }
         ensures dropped { result + length self.new.routing.past
             ≡ length self.old.routing.past }
     {

@@ -121,9 +121,9 @@ pub may-revert : ((s : Strategy) (o : Opening) (past : List Entry) → all_allow
     → (s : Strategy) (o : Opening) (past : List Entry) (r : ℕ) (t : Template) → is_opening s o ≡ true → all_allowed s o past ≡ true
     → exists_in r past ≡ true → template o r past ≡ Some t → (newest_of past == r) ≡ false → may_deploy s o r t.name t.ports past ≡ true
 may-revert reach s o past r t opens a here is other =
-    let form = and_parts (is_label t.name) (are_ports s.replicas t.ports) (template-well_formed s o r past t opens a is) in
+    let formed = and_parts (is_label t.name) (are_ports s.replicas t.ports) (template-well_formed s o r past t opens a is) in
     and_both _ (fits_namesake o (namesake o t.name past) r t.ports past)
-    (and_both _ (not (is_template t.name t.ports (template o (newest_of past) past))) (and_both (is_label t.name) (are_ports s.replicas t.ports) form.0 form.1)
+    (and_both _ (not (is_template t.name t.ports (template o (newest_of past) past))) (and_both (is_label t.name) (are_ports s.replicas t.ports) formed.0 formed.1)
     (not_newest (is_template t.name t.ports (template o (newest_of past) past)) refl))
     (owned (namesake o t.name past) refl) where
       own : OwnNames o past

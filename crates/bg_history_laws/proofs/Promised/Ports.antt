@@ -48,8 +48,8 @@ enters-port reach s o seat v number r port before opens a h =
       go : (t : Option Template) → template o r before ≡ t → has_value port (port_in t number (available r before)) ≡ true → nat_le 1 (available r before) ≡ true → has_port port t ≡ true
       go None is k some = absurd (cc)
       go (Some t) is k some =
-          let form = template-well_formed s o r before t opens a is in
-          let ports : are_ports s.replicas t.ports ≡ true = (and_parts (is_label t.name) (are_ports s.replicas t.ports) form).1 in
+          let formed = template-well_formed s o r before t opens a is in
+          let ports : are_ports s.replicas t.ports ≡ true = (and_parts (is_label t.name) (are_ports s.replicas t.ports) formed).1 in
           let long : length t.ports ≡ s.replicas = grind (arith, nat_tests) in
           let there = reach s o before a in
           let within_desired : available r before ≤ desired s r before = there.available_most r in

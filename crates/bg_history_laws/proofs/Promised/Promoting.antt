@@ -157,7 +157,7 @@ may-report : (s : Strategy) (o : Opening) (r : ℕ) (past : List Entry) → exis
 may-report s o r past here = and_both (exists_in r past) (nat_le (desired s r past) (desired s r past)) here (grind (arith, nat_tests))
 
 -- after the report, all desired endpoints are available
-after-report : (r n size : ℕ) (resumed : Bool) (past : List Entry) → IsOnItsWay r n resumed past → IsOnItsWay r desired resumed (Available r desired ∷ past)
+after-report : (r n size : ℕ) (resumed : Bool) (past : List Entry) → IsOnItsWay r n resumed past → IsOnItsWay r size resumed (Available r size ∷ past)
 after-report r n size resumed past h = record { runs = h.runs; newest = h.newest; full = h.full; available_is = rw (equal_itself r) refl; resumed_still = h.resumed_still }
 
 module _ (reach : (s : Strategy) (o : Opening) (past : List Entry) → all_allowed s o past ≡ true → Reachable s o past) where

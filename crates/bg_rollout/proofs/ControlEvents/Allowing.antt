@@ -19,9 +19,9 @@ use Rattle.bg_rollout.specs.Routing.{Routing}
 use Rattle.bg_rollout.proofs.ControlEvents.Events.{neither, passed}
 use Rattle.bg_rollout.proofs.OpenRequests.Requests.{and_both, eq_refl}
 
--- a deploy whose form and template have no fault
+-- a deploy whose name, ports and template have no fault
 record Fits (b : Routing) (name ports : List ℕ) : Type 0 where
-  pub form : (is_label name && are_ports b.strategy.replicas ports) ≡ true
+  pub well_formed : (is_label name && are_ports b.strategy.replicas ports) ≡ true
   pub other : not (is_template name ports (template b.opening (newest_of b.past) b.past)) ≡ true
   pub owned : fault_in of_revision (namesake_answer b.opening ports (namesake b.opening name b.past) b.past) ≡ None
   pub place : has_no_place b name ≡ false
@@ -32,7 +32,7 @@ fits b name ports h =
     let two = neither (fault_in of_revision (template_answer b.opening (newest_of b.past) name ports b.past)) _ one.1 in
     let template_fits = differs (is_template name ports (template b.opening (newest_of b.past) b.past)) two.0 in
     record {
-      form = formed (is_label name) (are_ports b.strategy.replicas ports) one.0;
+      well_formed = formed (is_label name) (are_ports b.strategy.replicas ports) one.0;
       other = template_fits.0;
       owned = template_fits.1;
       place = (passed (has_no_place b name) fault.TooManyRevisions None two.1).0;
@@ -51,7 +51,7 @@ fits b name ports h =
 allowed : (b : Routing) (r : ℕ) (name ports : List ℕ) → Fits b name ports → fits_namesake b.opening (namesake b.opening name b.past) r ports b.past ≡ true
     → is_allowed b.strategy b.opening (event.Deploy r name ports) b.past ≡ true
 allowed b r name ports fit owned =
-    and_both _ (fits_namesake b.opening (namesake b.opening name b.past) r ports b.past) (and_both _ (not (is_template name ports (template b.opening (newest_of b.past) b.past))) fit.form fit.other) owned
+    and_both _ (fits_namesake b.opening (namesake b.opening name b.past) r ports b.past) (and_both _ (not (is_template name ports (template b.opening (newest_of b.past) b.past))) fit.well_formed fit.other) owned
 
 -- the deploy of an existing revision is allowed
 allowed_known : (b : Routing) (r : ℕ) (name ports : List ℕ) → event_fault b (Deploy name ports) ≡ None → namesake b.opening name b.past ≡ Some r

@@ -50,8 +50,8 @@ well_formed_found replicas r (x ∷ rest) v forms h = go (x.number == r) h (well
 
 pub ports_count : (replicas r : ℕ) (revisions : List Revision) (v : Revision) → AreWellFormed replicas revisions → numbered r revisions ≡ Some v → length v.ports ≡ replicas
 ports_count replicas r revisions v forms h =
-    let form = (and_parts (is_label v.name) (are_ports replicas v.ports) (well_formed_found replicas r revisions v forms h)).1 in
-    eq_from (length v.ports) replicas (and_parts (length v.ports == replicas) _ (and_parts _ (are_distinct v.ports) form).0).0
+    let formed = (and_parts (is_label v.name) (are_ports replicas v.ports) (well_formed_found replicas r revisions v forms h)).1 in
+    eq_from (length v.ports) replicas (and_parts (length v.ports == replicas) _ (and_parts _ (are_distinct v.ports) formed).0).0
 
 -- the roster and the past give the same port for a number
 pub port_is : (s : Strategy) (o : Opening) (past : List Entry) (r number : ℕ) → is_some (template o r past) ≡ true

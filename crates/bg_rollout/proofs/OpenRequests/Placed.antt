@@ -73,7 +73,7 @@ is_full replicas None = true
 is_full replicas (Some t) = length t.ports == replicas
 
 ports_count : (replicas : ℕ) (ports : List ℕ) → are_ports replicas ports ≡ true → (length ports == replicas) ≡ true
-ports_count replicas ports form = (and_parts (length ports == replicas) _ (and_parts _ (are_distinct ports) form).0).0
+ports_count replicas ports formed = (and_parts (length ports == replicas) _ (and_parts _ (are_distinct ports) formed).0).0
 
 full_first : (replicas : ℕ) (t : Template) (b : Bool) → (length t.ports == replicas) ≡ true → is_full replicas (cond b (Some t) None) ≡ true
 full_first replicas t true h = h
@@ -88,9 +88,9 @@ full s o r [] first h = full_first s.replicas o.template (r == 1) (ports_count s
 full s o r (Tick m ∷ past) first h = full s o r past first (and_parts (is_allowed s o (Tick m) past) _ h).1
 full s o r (Deploy q name ports ∷ past) first h =
     let both = and_parts (is_allowed s o (Deploy q name ports) past) _ h in
-    let form = and_parts (is_label name) (are_ports s.replicas ports) (and_parts _ _ (and_parts _ _ both.0).0).0 in
+    let formed = and_parts (is_label name) (are_ports s.replicas ports) (and_parts _ _ (and_parts _ _ both.0).0).0 in
     full_after s.replicas (template o r past) _ (full s o r past first both.1)
-    (full_first s.replicas (record { name = name; ports = ports }) (q == r) (ports_count s.replicas ports form.1))
+    (full_first s.replicas (record { name = name; ports = ports }) (q == r) (ports_count s.replicas ports formed.1))
 full s o r (Available q n ∷ past) first h = full s o r past first (and_parts (is_allowed s o (Available q n) past) _ h).1
 full s o r (Verdict a f ∷ past) first h = full s o r past first (and_parts (is_allowed s o (Verdict a f) past) _ h).1
 full s o r (Promote ∷ past) first h = full s o r past first (and_parts (is_allowed s o Promote past) _ h).1

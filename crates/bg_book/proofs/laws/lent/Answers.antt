@@ -1,4 +1,4 @@
-use Rattle.bg_book.proofs.Order.{as_left}
+use Rattle.bg_book.proofs.SeatOrder.{as_left}
 use Rattle.bg_book.proofs.laws.lent.Goals as goal
 
 pub returns : goal.returns

@@ -1,4 +1,4 @@
-use Rattle.bg_book.proofs.Order.{same_indices}
+use Rattle.bg_book.proofs.SeatOrder.{same_indices}
 use Rattle.bg_book.proofs.Running.{same_order}
 use Rattle.bg_book.proofs.laws.same_order.Goals as goal
 

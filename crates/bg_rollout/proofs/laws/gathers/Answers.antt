@@ -1,4 +1,4 @@
-use Rattle.bg_rollout.proofs.SeatRecords.Order.{gathered}
+use Rattle.bg_rollout.proofs.SeatRecords.Sequence.{gathered}
 use Rattle.bg_rollout.proofs.laws.gathers.Goals as goal
 
 pub returns : goal.returns

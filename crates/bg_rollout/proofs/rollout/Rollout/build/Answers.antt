@@ -1,7 +1,7 @@
 use Rattle.std.specs.Prelude.{IfOk}
 use Rattle.std.proofs.Common.{ℕ, Result, Ok, Err, ap, ◌∙◌}
 use Rattle.bg_rollout.specs.Gathering.{are_all}
-use Rattle.bg_rollout.proofs.SeatRecords.Order.{new_in_order}
+use Rattle.bg_rollout.proofs.SeatRecords.Sequence.{new_in_order}
 use Rattle.bg_rollout.proofs.rollout.Rollout.build.Goals as goal
 
 -- the consequence for each value of an answer

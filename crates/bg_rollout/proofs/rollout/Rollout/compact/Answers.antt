@@ -1,6 +1,6 @@
 use Rattle.std.proofs.Common.{ap}
 use Rattle.bg_rollout.proofs.WholeStates.Compacting.{represents_compacted}
-use Rattle.bg_rollout.specs.Compaction.{midway_compacted}
+use Rattle.bg_rollout.specs.Compaction.{part_compacted}
 use Rattle.bg_rollout.specs.Invariant.{model_of, parts_of}
 use Rattle.bg_rollout.proofs.rollout.Rollout.compact.Goals as goal
 
@@ -11,4 +11,4 @@ invariant_of-self g c =
     (represents_compacted c.keeps_table.ensures b (parts_of c.self.inside) (c.compacts.ensures b.strategy b.opening b.closed b.past c.self.invariant.routing.legal) c.self.invariant)
 
 pub returns-clause-new : goal.returns-clause-new
-returns-clause-new g c = rw c.compact.ensures.new (ap midway_compacted c.self.view_is)
+returns-clause-new g c = rw c.compact.ensures.new (ap part_compacted c.self.view_is)

@@ -4,7 +4,7 @@ use Rattle.bg_ledger.specs.declared.holding.Holding.{Holding}
 use Rattle.bg_rollout.specs.Gathering.{gather_fault}
 use Rattle.bg_rollout.specs.Invariant.{RolloutModel, PartsRepresent, model_of, parts_of}
 use Rattle.bg_rollout.proofs.SeatRecords.Gathered.{none_open, record_is, seated_calls, seated_index}
-use Rattle.bg_rollout.proofs.SeatRecords.Order.{all_out, count_from, from_each, gathers}
+use Rattle.bg_rollout.proofs.SeatRecords.Sequence.{all_out, count_from, from_each, gathers}
 use Rattle.bg_rollout.proofs.rollout.Rollout.end.Goals as goal
 
 none_inside : (inside now : RolloutModel) (seats : List Holding) → inside ≡ now → gather_fault now.routing.opening.seats seats ≡ None → gather_fault inside.routing.opening.seats seats ≡ None

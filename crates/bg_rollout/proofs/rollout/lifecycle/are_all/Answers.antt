@@ -1,6 +1,6 @@
 use Rattle.std.proofs.Common.{◌≡◌, sym, ◌∙◌, arith}
 use Rattle.std.proofs.lemmas.Option.{slice_get_within}
-use Rattle.bg_rollout.proofs.SeatRecords.Order.{at_place, count_from, each_from, from_each, fails, one_more}
+use Rattle.bg_rollout.proofs.SeatRecords.Sequence.{at_place, count_from, each_from, from_each, fails, one_more}
 use Rattle.bg_rollout.proofs.rollout.lifecycle.are_all.Goals as goal
 
 pub returns-then-seats-count : goal.returns-then-seats-count

@@ -3,7 +3,7 @@ use Rattle.std.proofs.lemmas.Bool.Decides.{nat_tests}
 use Rattle.std.proofs.lemmas.Option.{slice_get_within, get_or_from_slice_get}
 use Rattle.bg_ledger.specs.declared.holding.Holding.{Holding}
 use Rattle.bg_rollout.specs.declared.fault.GatherFault.TheVariants.{StillIn}
-use Rattle.bg_rollout.proofs.SeatRecords.Order.{at_place, first_at, none_in, one_more}
+use Rattle.bg_rollout.proofs.SeatRecords.Sequence.{at_place, first_at, none_in, one_more}
 use Rattle.bg_rollout.proofs.rollout.lifecycle.first_in.Goals as goal
 
 out_at : (n : ℕ) (b : Bool) → b ≡ nat_lt 0 n → b ≡ false → n ≡ 0

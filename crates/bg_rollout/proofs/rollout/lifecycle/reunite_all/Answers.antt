@@ -1,7 +1,7 @@
 use Rattle.std.proofs.Common.{◌≡◌, ◌++◌, ◌∷◌, [], ℕ, length, slice_get, Option, Some, ap, ◌∙◌, subst, arith}
 use Rattle.std.specs.Option.{option_to_list}
 use Rattle.bg_ledger.specs.declared.holding.Holding.{Holding}
-use Rattle.bg_rollout.proofs.SeatRecords.Order.{get_end, length_end}
+use Rattle.bg_rollout.proofs.SeatRecords.Sequence.{get_end, length_end}
 use Rattle.bg_rollout.proofs.rollout.lifecycle.reunite_all.Goals as goal
 
 pub reunite-requires : goal.reunite-requires

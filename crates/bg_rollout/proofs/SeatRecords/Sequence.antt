@@ -49,13 +49,13 @@ none_in (s ∷ rest) out =
 -- the seat at a place holds a request, and no seat before it does
 pub first_at : (seats : List Holding) (p : ℕ) (s : Holding) → slice_get seats p ≡ Some s → nat_lt 0 s.number ≡ true
     → ((k : ℕ) (t : Holding) → k < p → slice_get seats k ≡ Some t → t.number ≡ 0) → still_in seats ≡ Some (StillIn s.index)
-first_at [] p s get in_hand out = absurd (cc)
-first_at (t ∷ rest) zero s get in_hand out =
+first_at [] p s get held_open out = absurd (cc)
+first_at (t ∷ rest) zero s get held_open out =
     ap (λ (w : Holding). cond (nat_lt 0 w.number) (Some (StillIn w.index)) (still_in rest)) (same_Some t s get)
-    ∙ ap (λ b. cond b (Some (StillIn s.index)) (still_in rest)) in_hand
-first_at (t ∷ rest) (suc p) s get in_hand out =
+    ∙ ap (λ b. cond b (Some (StillIn s.index)) (still_in rest)) held_open
+first_at (t ∷ rest) (suc p) s get held_open out =
     ap (λ b. cond b (Some (StillIn t.index)) (still_in rest)) (out_here t (out 0 t (omega arith) refl))
-    ∙ first_at rest p s get in_hand (λ k u h e. out (suc k) u (omega (arith, h)) e)
+    ∙ first_at rest p s get held_open (λ k u h e. out (suc k) u (omega (arith, h)) e)
 
 -- if no seat with a request is found, no seat holds one
 pub all_out : (seats : List Holding) → still_in seats ≡ None → (k : ℕ) (s : Holding) → slice_get seats k ≡ Some s → s.number ≡ 0
