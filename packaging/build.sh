@@ -77,7 +77,7 @@ put_service() {
 # The pages keep their folders, so that links between them lead to a file.
 put_documents() {
     documents=usr/share/doc/bg-switch
-    for file in README.md CHANGELOG.md docs/*; do
+    for file in README.md CHANGELOG.md SECURITY.md docs/*; do
         put 644 "$file" "$documents/$file"
     done
     find examples -type f ! -name '*.state*' ! -path '*/__pycache__/*' | while read -r file; do

@@ -10,12 +10,13 @@ import unittest
 import definitions
 from tests.scenes import TOP
 
-LEAST_LINKS = 30
-MOST_LINES_OF_README = 130
+LEAST_LINKS = 60
+MOST_WORDS_OF_README = 1300
+LINES_OF_A_SCREEN = 12
 
 
 def pages(top: pathlib.Path) -> list[pathlib.Path]:
-    return sorted([top / "README.md", *top.glob("docs/*.md"), *top.glob("examples/**/*.md"), *top.glob("crates/*/README.md")])
+    return sorted(page for place in ("", ".github/", "docs/", "examples/**/", "crates/*/") for page in top.glob(f"{place}*.md"))
 
 
 def without_code(text: str) -> str:
@@ -66,9 +67,10 @@ def missing_names(top: pathlib.Path, text: str) -> list[str]:
 
 class Names(unittest.TestCase):
     def test_what_the_pages_for_people_name_is_there(self) -> None:
-        for page in (TOP / "README.md", TOP / "CONTRIBUTING.md"):
-            with self.subTest(page=page.name):
-                self.assertEqual(missing_names(TOP, page.read_text(encoding="utf-8")), [])
+        for page in (*TOP.glob("*.md"), *TOP.glob(".github/*.md")):
+            if page.name != "CHANGELOG.md":  # it names what a version had
+                with self.subTest(page=page.name):
+                    self.assertEqual(missing_names(TOP, page.read_text(encoding="utf-8")), [])
 
     def test_what_is_missing_is_found(self) -> None:
         with tempfile.TemporaryDirectory() as folder:
@@ -79,7 +81,12 @@ class Names(unittest.TestCase):
             self.assertEqual(missing_names(top, "`make build test-tools`, `make demo`, `bin/tool`, bin/other."), ["bin/other", "demo"])
 
     def test_readme_is_short(self) -> None:
-        self.assertLessEqual(len((TOP / "README.md").read_text(encoding="utf-8").splitlines()), MOST_LINES_OF_README)
+        self.assertLessEqual(len((TOP / "README.md").read_text(encoding="utf-8").split()), MOST_WORDS_OF_README)
+
+    def test_the_first_screen_has_the_first_questions_of_a_reader(self) -> None:
+        screen = "\n".join((TOP / "README.md").read_text(encoding="utf-8").splitlines()[:LINES_OF_A_SCREEN])
+        self.assertRegex(screen, r"\*\*Requests at a time:\*\* .*\b1,023\b")
+        self.assertRegex(screen, r"\*\*The first command\*\* .*\bminutes\b")
 
 
 class Definitions(unittest.TestCase):
