@@ -2,8 +2,7 @@
 """Draws the crates by layer, from crates.txt and the first sentence of each crate's own documentation.
 
 usage: scripts/crate_map.py             prints the drawing
-       scripts/crate_map.py --write     writes it into docs/ARCHITECTURE.md, into the block under `## Crates`, and into the
-                                        README.md of each crate what it gives and what it stands on
+       scripts/crate_map.py --write     writes it into docs/ARCHITECTURE.md, into the block under `## Crates`
 
 A crate's layer is 0 where it stands on no crate of the repository, else one above the highest crate that it stands on.
 crates.txt has the crates in the order of their layers, lowest first. The drawing has the highest layer first.
@@ -66,20 +65,10 @@ def map_of(crates: Mapping[str, Crate]) -> str:
     return "".join(f"{line}\n" for line in drawing(crates))
 
 
-def readme_of(name: str, crates: Mapping[str, Crate], readme: str) -> str:
-    """The README of a crate, with what it gives before the call that it shows, and what it stands on after it."""
-    title, _, *call, _ = readme.split("\n\n")
-    below = ", ".join(nearest(name, crates))
-    return "\n\n".join([title, f"{gives(name)}.", *call, f"It stands on {below or 'no other crate of the repository'}.\n"])
-
-
 def write(crates: Mapping[str, Crate]) -> None:
     drawn = map_of(crates)
     page = PAGE.read_text(encoding="utf-8")
     PAGE.write_text(DRAWING.sub(lambda found: found[1] + drawn, page), encoding="utf-8")
-    for name in crates:
-        readme = TOP / "crates" / name / "README.md"
-        readme.write_text(readme_of(name, crates, readme.read_text(encoding="utf-8")), encoding="utf-8")
 
 
 def main() -> int:

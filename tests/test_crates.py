@@ -1,20 +1,15 @@
-"""crates.txt, the drawing of the crates in docs/ARCHITECTURE.md, and the README of each crate tell the same."""
+"""crates.txt, the drawing of the crates in docs/ARCHITECTURE.md, and the first sentence of each crate tell the same."""
 import re
 import unittest
 
-from crate_map import DRAWING, PAGE, drawing, gives, layers_of, map_of, nearest, readme_of
+from crate_map import DRAWING, PAGE, drawing, layers_of, map_of, nearest
 from gate_cost import crates_in
 from tests.scenes import TOP
 
 CRATES = crates_in((TOP / "crates.txt").read_text(encoding="utf-8"))
 MEND = "run scripts/crate_map.py --write"
-MOST_LINES_DRAWN, MOST_LINES_OF_A_README = 59, 10
+MOST_LINES_DRAWN = 59
 SMALL = crates_in("bg_low: std\nbg_beside:\nbg_middle: bg_low std\nbg_top: bg_low bg_middle bg_beside\n")
-
-
-def sources(name: str) -> str:
-    files = sorted((TOP / "crates" / name / "src").rglob("*.rt"))
-    return "".join(file.read_text(encoding="utf-8") for file in files)
 
 
 class Layers(unittest.TestCase):
@@ -42,26 +37,14 @@ class Drawn(unittest.TestCase):
 
 
 class Readmes(unittest.TestCase):
-    def test_each_crate_has_a_short_one_that_says_what_is_so(self) -> None:
-        for name in CRATES:
-            with self.subTest(name):
-                text = (TOP / "crates" / name / "README.md").read_text(encoding="utf-8")
-                self.assertEqual(text, readme_of(name, CRATES, text), MEND)
-                self.assertEqual(text.splitlines()[:3], [f"# {name}", "", f"{gives(name)}."])
-                self.assertLessEqual(len(text.splitlines()), MOST_LINES_OF_A_README)
-
-    def test_the_call_that_it_shows_is_one_of_its_public_calls(self) -> None:
-        for name in CRATES:
-            with self.subTest(name):
-                text = (TOP / "crates" / name / "README.md").read_text(encoding="utf-8")
-                shown = re.search(r"^```(rust|sh)\n(.+)\n```$", text, re.M)
-                assert shown, f"{name} shows no call"
-                if shown[1] == "sh":
-                    self.assertIn(name, shown[2])
-                    continue
-                call = re.search(r"\b(\w+)\(", shown[2])
-                assert call
-                self.assertRegex(sources(name), rf"\n *pub fn {call[1]}\b")
+    def test_the_page_links_to_each_one_and_each_names_its_crate(self) -> None:
+        page = PAGE.read_text(encoding="utf-8")
+        readmes = sorted(TOP.glob("crates/*/README.md"))
+        self.assertTrue(readmes)
+        for readme in readmes:
+            with self.subTest(readme.parent.name):
+                self.assertIn(f"](../crates/{readme.parent.name}/README.md)", page)
+                self.assertRegex(readme.read_text(encoding="utf-8"), rf"^# {readme.parent.name}: ")
 
 
 if __name__ == "__main__":
