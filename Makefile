@@ -1,6 +1,6 @@
 # check: for the working day.  build: proves and builds the program.  test: the gate.  demo: the examples.  demo-live: a
 # rollout under traffic, and one that its analysis takes back.  bench: times.  tools: one file of the Python tools.  share: completions and
-# manual pages of bgctl.  lint, test-tools: judge and test them.  NAME:
+# manual pages of bgctl.  lint: types and style.  test-tools: the tests of the tools.  NAME:
 # proves and builds the library NAME and what it stands on.
 CRATES := $(shell sed -n 's/^\([a-z_]*\)[^:]*:.*/\1/p' crates.txt)
 LIBRARIES := $(foreach crate,$(CRATES),$(if $(wildcard crates/$(crate)/src/lib.rt),$(crate)))
@@ -12,7 +12,6 @@ PROCESSORS := $(shell nproc)
 CHECKS := $(shell count=$$(nproc); [ $$count -lt 3 ] || count=3; echo $$count)
 GROUPS := group-rules group-http group-others
 BENCHES := $(filter-out bench/run.sh,$(wildcard bench/*.sh)) bench/sick_endpoint.py
-PYTHON := $(shell git ls-files '*.py')
 ARCHIVE := out/bg_switch_tools.pyz
 
 .PHONY: check build test lint tools share test-tools deb dist demo demo-live bench $(GROUPS) $(LIBRARIES)
@@ -42,7 +41,7 @@ $(foreach crate,$(LIBRARIES),$(eval $(crate): $(call below,$(crate))))
 $(LIBRARIES):
 	cd crates/$@ && rt lib
 
-test:
+test: lint
 	python3 -m unittest -q scripts/test_gate_cost.py
 	RT_JOBS=$(CHECKS) scripts/gate_cost.py rt ci
 	$(MAKE) --no-print-directory test-tools
@@ -52,8 +51,7 @@ test:
 	scripts/package.sh
 
 lint:
-	@command -v mypy > /dev/null || { echo 'lint needs mypy: apt-get install mypy, or pip install mypy' >&2; exit 1; }
-	MYPYPATH=lib:scripts mypy --strict --cache-dir out/mypy $(PYTHON)
+	scripts/lint.sh
 
 # They need no switch: a thread answers at a control port of its own.
 test-tools:
@@ -86,6 +84,6 @@ demo-live: build
 	examples/live/demo.py
 	examples/live/bad_revision.py
 
-# Each bench, one after the other; it fails at the end where one did.
+# Each bench, one after the other, with its ratios beside those of bench/baseline.json; it fails at the end where one did.
 bench: build
-	@status=0; for bench in $(BENCHES); do echo "$$bench"; $$bench || status=1; done; exit $$status
+	@bench/compare.py $(BENCHES)

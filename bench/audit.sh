@@ -8,5 +8,5 @@ printed=$("$bench/run.sh" audit "bg_strategy bg_revisions bg_history bg_audit")
 echo "$printed" | grep 'entries audited'
 test "$(echo "$printed" | grep -c 'audited true')" -eq 2
 percent=$(echo "$printed" | sed -n 's/^ratio in percent: //p')
-echo "ratio: $((percent / 100)).$(printf %02d $((percent % 100)))"
+echo "ratio of 100,000 entries to 10,000: $((percent / 100)).$(printf %02d $((percent % 100)))"
 test "$(echo "$printed" | sed -n 's/.*audited true: \([0-9]*\) ns$/\1/p' | tail -n 1)" -lt 1000000000

@@ -17,6 +17,7 @@ done
 ulimit -n "$(ulimit -Hn)"
 work=$(mktemp -d)
 pids=()
+# shellcheck disable=SC2317  # the trap calls it
 finish() { kill "${pids[@]}" 2> /dev/null; wait 2> /dev/null; rm -rf "$work"; }
 trap finish EXIT
 cd "$work" || exit 1
@@ -90,22 +91,22 @@ median() { # PROXY DELAY CLIENTS COLUMN
         sort -n | awk '{a[NR] = $1} END {print a[int((NR + 1) / 2)]}'
 }
 failed=0
-judge() { # TEXT VALUE LIMIT at-least|at-most
-    printf '%s: %.2f, %s %s\n' "$1" "$2" "$4" "$3"
-    awk -v v="$2" -v l="$3" -v k="$4" 'BEGIN { exit !(k == "at-least" ? v >= l : v <= l) }' || { echo '  MISSED'; failed=1; }
+judge() { # TEXT VALUE LIMIT least|most
+    printf '%s: %.2f, at %s %s\n' "$1" "$2" "$4" "$3"
+    awk -v v="$2" -v l="$3" -v k="$4" 'BEGIN { exit !(k == "least" ? v >= l : v <= l) }' || { echo '  MISSED'; failed=1; }
 }
 over() { awk -v a="$1" -v b="$2" 'BEGIN { print a / b }'; }
 larger() { awk -v a="$1" -v b="$2" 'BEGIN { print (a > b ? a : b) }'; }
 for delay in 100 1000; do for clients in 256 1024; do
-    judge "delay $delay ms, $clients clients: requests a second to HAProxy's" \
-        "$(over "$(median bg_switch $delay $clients 4)" "$(median haproxy $delay $clients 4)")" $least_rate at-least
-    judge "delay $delay ms, $clients clients: p99 to HAProxy's" \
-        "$(over "$(median bg_switch $delay $clients 5)" "$(median haproxy $delay $clients 5)")" $most_wait at-most
+    judge "ratio of requests a second to HAProxy's, delay $delay ms, $clients clients" \
+        "$(over "$(median bg_switch $delay $clients 4)" "$(median haproxy $delay $clients 4)")" $least_rate least
+    judge "ratio of p99 to HAProxy's, delay $delay ms, $clients clients" \
+        "$(over "$(median bg_switch $delay $clients 5)" "$(median haproxy $delay $clients 5)")" $most_wait most
 done; done
 better=$(larger "$(median haproxy 0 256 4)" "$(median nginx 0 256 4)")
-judge "no delay, 256 clients: requests a second to the better peer's" "$(over "$(median bg_switch 0 256 4)" "$better")" 1 at-least
-judge "no delay, 256 clients: requests a second to those of 7 workers" \
-    "$(over "$(median bg_switch 0 256 4)" "$(median few 0 256 4)")" 1 at-least
+judge "ratio of requests a second to the better peer's, no delay, 256 clients" "$(over "$(median bg_switch 0 256 4)" "$better")" 1 least
+judge "ratio of requests a second to those of 7 workers, no delay, 256 clients" \
+    "$(over "$(median bg_switch 0 256 4)" "$(median few 0 256 4)")" 1 least
 
 # One slow route (5 s, 100 clients) beside a fast one (8 clients) of the same endpoint.
 switch_at 18320 19300 --concurrency 255
@@ -114,8 +115,8 @@ wrk -t1 -c100 -d$((seconds + 2))s --timeout 20s -H 'Connection: close' http://12
 sleep 1
 wrk -t1 -c8 -d"${seconds}s" --latency -H 'Connection: close' http://127.0.0.1:18320/ > beside 2>&1
 wait "$slow"
-judge 'p99 of 8 fast clients beside 100 slow ones to their p99 alone' \
-    "$(over "$(millis "$(awk '$1 == "99%" {print $2}' beside)")" "$(millis "$(awk '$1 == "99%" {print $2}' alone)")")" 2 at-most
+judge 'ratio of p99 of 8 fast clients beside 100 slow ones to their p99 alone' \
+    "$(over "$(millis "$(awk '$1 == "99%" {print $2}' beside)")" "$(millis "$(awk '$1 == "99%" {print $2}' alone)")")" 2 most
 
 # System calls of a request under load, of all threads. A switch of its own: the one before still looks up whether its 100
 # slow clients have gone, which reads the whole table of sockets.
@@ -126,7 +127,7 @@ wrk -t1 -c64 -d3s -H 'Connection: close' http://127.0.0.1:18340/ > load 2>&1
 kill -INT "$tracer"; wait "$tracer" 2> /dev/null
 requests=$(awk '/requests in/ {print $1}' load)
 calls=$(awk '$4 + 0 > 0 && $NF != "total" {t += $4} END {print t}' calls)
-printf 'system calls of a request: %.1f\n' "$(over "$calls" "$requests")"
+printf 'ratio of system calls to requests: %.2f\n' "$(over "$calls" "$requests")"
 
 # An idle switch with 1,000 workers.
 switch_at 18330 19300 --concurrency 1000
@@ -135,5 +136,5 @@ awk '/VmRSS|Threads/ {print "idle, 1,000 workers: " $1, $2, $3}' "/proc/$switch/
 # strace interrupts each thread as it begins, and so makes each of them call again: the first three seconds don't count
 timeout 13 strace -f -ttt -o idle -p "$switch" 2> /dev/null
 judge 'system calls a second of an idle switch with 1,000 workers' \
-    "$(awk 'NR == 1 {first = $2} $2 > first + 3 && /\(/ && !/resumed/ {t++} END {print t / 10}' idle)" 10 at-most
+    "$(awk 'NR == 1 {first = $2} $2 > first + 3 && /\(/ && !/resumed/ {t++} END {print t / 10}' idle)" 10 most
 exit $failed

@@ -12,9 +12,9 @@ bench=$(dirname -- "$0")
 printed=$("$bench/run.sh" http 'bg_http bg_http_read httparse')
 echo "$printed"
 echo "$printed" | awk -v head="$head" -v by_byte="$by_byte" -v body="$body" '
-    function told(what, name, other) { printf "%s: %.2f\n", what, time[name] / time[other] }
+    function told(what, name, other) { printf "ratio of %s: %.2f\n", what, time[name] / time[other] }
     function limited(what, name, other, most) {
-        printf "%s: %.2f, at most %s\n", what, time[name] / time[other], most
+        printf "ratio of %s: %.2f, at most %s\n", what, time[name] / time[other], most
         above = above || time[name] > most * time[other]
     }
     { time[$1] = $2 }

@@ -8,6 +8,6 @@ printed=$("$bench/run.sh" lists 'bg_strategy bg_revisions bg_history bg_ledger b
 echo "$printed" | awk '
     { printf "%d open, %d revision%s: %.0f ns a pair\n", $1, $2, ($2 > 1 ? "s" : ""), $3 / 400000; time[$1, $2] = $3 }
     END { few = time[8, 1] / time[1, 1]; many = time[8, 64] / time[1, 64]; revisions = time[1, 64] / time[1, 1]
-    printf "8 open requests cost %.2f times as much as 1, with 64 revisions %.2f times\n", few, many
-    printf "64 revisions cost %.2f times as much as 1\n", revisions
+    printf "ratio of 8 open requests to 1: %.2f\nratio of 8 open requests to 1, with 64 revisions: %.2f\n", few, many
+    printf "ratio of 64 revisions to 1: %.2f\n", revisions
     exit few >= 1.5 || many >= 1.5 || revisions >= 1.5 }'

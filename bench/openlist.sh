@@ -6,5 +6,5 @@ bench=$(dirname -- "$0")
 printed=$("$bench/run.sh" openlist bg_openlist)
 echo "$printed" | grep 'turns at'
 percent=$(echo "$printed" | sed -n 's/^ratio in percent: //p')
-echo "ratio: $((percent / 100)).$(printf %02d $((percent % 100)))"
+echo "ratio of 256 linked nodes to 8: $((percent / 100)).$(printf %02d $((percent % 100)))"
 test "$percent" -lt 150

@@ -44,7 +44,7 @@ quickest_ms() {
 }
 
 ratio() {
-    awk -v a="$1" -v b="$2" 'BEGIN { printf "%.1f", b / a }'
+    awk -v a="$1" -v b="$2" 'BEGIN { printf "%.2f", b / a }'
 }
 
 rustc --edition 2021 -O -o "$work/plain_replay" "$top/bench/plain_replay/plain_replay.rs"
@@ -55,7 +55,8 @@ script 400000 > "$work/large"
 small=$(replay_ms "$work/small" 'left 40000 revision 1')
 large=$(replay_ms "$work/large" 'left 400000 revision 1')
 long=$(replay_ms "$work/long" 'refused NotOpen')
-echo "40,000 pairs: $small ms; 400,000 pairs: $large ms; ratio: $(ratio "$small" "$large")"
+echo "40,000 pairs: $small ms; 400,000 pairs: $large ms"
+echo "ratio of 400,000 pairs to 40,000: $(ratio "$small" "$large")"
 echo "30 MB: $long ms"
 [ "$large" -lt $((13 * small)) ] || { echo 'the ratio is 13 or more' >&2; exit 1; }
 [ "$long" -lt 1000 ] || { echo 'the script of 30 MB took a second or more' >&2; exit 1; }
@@ -68,4 +69,5 @@ done
 cmp "$work/proved" "$work/plain"
 proved=$(quickest_ms proved)
 plain=$(quickest_ms plain)
-echo "400,000 pairs, processor time: $proved ms; plain Rust: $plain ms; ratio: $(ratio "$plain" "$proved")"
+echo "400,000 pairs, processor time: $proved ms; plain Rust: $plain ms"
+echo "ratio of the program to plain Rust, 400,000 pairs: $(ratio "$plain" "$proved")"

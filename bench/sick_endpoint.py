@@ -144,6 +144,8 @@ def main() -> int:
             peer = judge(f"{name}, nginx    ", measured(folder, NGINX, seconds, rate, fault))
             ended = measured(folder, SWITCH, seconds, rate, fault)
             own = judge(f"{name}, bg_switch", ended)
+            ratio = (own + SLACK) / (peer + SLACK)
+            print(f"ratio of p99 and {1000 * SLACK:.0f} ms to nginx's, {name} endpoint: {ratio:.2f}", flush=True)
             lost = [one for one in ended if not one.is_good and one.seconds < HELD * TIMEOUT]
             # a request that was being served when the endpoint was killed can't be sent again
             if own > MOST_RATIO * peer + SLACK or len(lost) > (2 if fault == signal.SIGKILL else 0):

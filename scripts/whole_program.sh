@@ -24,6 +24,7 @@ expect_to() {
     end=0
     bin/bg_switch "$@" > "$file" 2> "$work/complaint" || end=$?
     cmp -s "$replies" "$work/replies" || end="$end, with other replies"
+    # shellcheck disable=SC2254  # a pattern of the shell
     case $(cat "$work/complaint") in
         $complaint) ;;
         *) end="$end, with '$(cat "$work/complaint")' on standard error" ;;
@@ -55,7 +56,7 @@ expect 0 examples/tested_before_and_after.settings '' check < examples/tested_be
 # Words that are no order.
 expect 2 /dev/null '?*' < /dev/null
 while read -r words; do
-    # the words of a line, split at its spaces
+    # shellcheck disable=SC2086  # the words of a line, split at its spaces
     expect 2 /dev/null '?*' $words < /dev/null
 done << 'END'
 help
@@ -148,7 +149,7 @@ expect 1 "$work/not_json" "$no_json EOF while parsing at line 2 column 0" replay
 yaml="$no_json invalid JSON at line *
 bg_switch: it looks like YAML: \`kubectl get rollout NAME -o json\` writes JSON"
 for text in 'apiVersion: argoproj.io/v1alpha1\nkind: Rollout\n' '# a rollout\n\n  spec:\n' '---\nkind: Rollout\n'; do
-    printf -- "$text" > "$work/yaml"
+    printf '%b' "$text" > "$work/yaml"
     expect 1 "$work/not_json" "$yaml" check < "$work/yaml"
 done
 
