@@ -1,7 +1,7 @@
 # check: for the working day.  build: proves and builds the program.  test: the gate.  demo: the examples.  demo-live: a
-# rollout under traffic, and one that its analysis takes back.  bench: times.  tools: one file of the Python tools.  share: completions and
-# manual pages of bgctl.  lint: types and style.  test-tools: the tests of the tools.  NAME:
-# proves and builds the library NAME and what it stands on.
+# rollout under traffic, and one that its analysis takes back.  bench: times, and ratios beside the baseline.  tools: one
+# file of the Python tools.  share: completions and manual pages of bgctl.  lint: judges what no proof reads.  test-tools:
+# the tests of the tools.  NAME: proves and builds the library NAME and what it stands on.
 CRATES := $(shell sed -n 's/^\([a-z_]*\)[^:]*:.*/\1/p' crates.txt)
 LIBRARIES := $(foreach crate,$(CRATES),$(if $(wildcard crates/$(crate)/src/lib.rt),$(crate)))
 # The libraries that a crate stands on, by its line of crates.txt.

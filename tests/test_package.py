@@ -16,6 +16,7 @@ SOURCE = TOP / "crates" / "bg_command_line" / "src" / "command_line.rt"
 # The commands, with what each calls itself in its usage.
 COMMANDS = {"bgctl": "bgctl", "bg-operator": "bin/operator", "bg-controller": "bin/controller", "bg-analysis": "bin/analysis",
             "bg-dashboard": "bin/dashboard"}
+KINDS_OF_CHANGE = ("Added", "Changed", "Deprecated", "Removed", "Fixed", "Security")
 # Descriptors for each worker, connections at each client port, operators at the control port, and what the switch has beside.
 FOR_A_WORKER, FOR_A_PORT, FOR_OPERATORS, OWN = 3, 1024, 1024, 64
 
@@ -70,6 +71,27 @@ class Version(unittest.TestCase):
             done = run([str(BUILD), "stage", folder], program)
             self.assertEqual((done.told, done.status), (f"packaging: {folder} is there already\n", 1))
             self.assertEqual(os.listdir(folder), ["program"])
+
+
+class Changelog(unittest.TestCase):
+    """The form of Keep a Changelog: a section Unreleased, and one for each version with its date, the newest first."""
+
+    def setUp(self) -> None:
+        self.text = (TOP / "CHANGELOG.md").read_text(encoding="utf-8")
+
+    def test_each_version_has_one_section(self) -> None:
+        unreleased, *released = re.findall(r"^## (.*)$", self.text, re.M)
+        self.assertEqual(unreleased, "[Unreleased]")
+        found = [re.fullmatch(r"\[(\d+)\.(\d+)\.(\d+)\] - \d{4}-\d\d-\d\d", heading) for heading in released]
+        numbers = [tuple(map(int, one.groups())) if one else () for one in found]
+        self.assertNotIn((), numbers, released)
+        self.assertEqual(numbers, sorted(set(numbers), reverse=True))
+
+    def test_each_kind_of_change_stands_once_in_a_section(self) -> None:
+        for section in re.split(r"^## ", self.text, flags=re.M)[1:]:
+            with self.subTest(section.splitlines()[0]):
+                kinds = re.findall(r"^### (.*)$", section, re.M)
+                self.assertEqual(kinds, [kind for kind in KINDS_OF_CHANGE if kind in kinds])
 
 
 class Files(unittest.TestCase):
