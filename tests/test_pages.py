@@ -99,7 +99,7 @@ class Definitions(unittest.TestCase):
         told, faults = io.StringIO(), io.StringIO()
         with contextlib.redirect_stdout(told), contextlib.redirect_stderr(faults):
             self.assertEqual(definitions.main(["is_running", "bg_endpoints", "is_nowhere"]), 1)
-        self.assertRegex(told.getvalue(), r"(?m)^crates/bg_history/specs/Turns\.antt:\d+: is_running: \w")
+        self.assertRegex(told.getvalue(), r"(?m)^crates/bg_history/specs/AttemptBounds\.antt:\d+: is_running: \w")
         self.assertRegex(told.getvalue(), r"(?m)^crates/bg_endpoints/specs/OwnPorts\.antt: \w")
         self.assertEqual(faults.getvalue(), "no definition and no crate with definitions has the name is_nowhere\n")
 

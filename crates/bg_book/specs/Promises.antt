@@ -62,7 +62,7 @@ next_promotion_control b =
     then Available (newest_of b.past) (desired b.strategy (newest_of b.past) b.past)
     else PromoteFull
 
--- at most this many of these calls fully promote r; each is taken in its turn
+-- at most this many of these calls fully promote r; each is taken after the ones before it
 abbrev pub CallsPromote : ℕ → Routing → ℕ → Type 0
 CallsPromote zero b r = IsFullyPromoted r b.past
 CallsPromote (suc calls) b r =

@@ -42,7 +42,7 @@ promote_full_of_no_attempt = refl
 ready_of_the_one_before : has_ready (Retry ∷ Abort ∷ ready) ≡ false
 ready_of_the_one_before = refl
 
--- a retry is a turn, like a deploy
+-- a retry bounds an attempt, like a deploy
 retry_bounds_an_attempt : is_attempt_bound Retry ≡ true
 retry_bounds_an_attempt = refl
 

@@ -30,7 +30,7 @@ goes : (e : Entry) (before : List Entry) → is_leave e ≡ true → thin (stay 
 goes (Leave seat number r) before h = refl
 goes e before h = absurd (cc)
 
--- a turn in which the entry stays
+-- a step in which the entry stays
 pub step-stays : (xs : List Entry) (i : ℕ) (d : Entry) (kept : List Entry) → i < length xs → is_leave (get_or xs i d) ≡ false → kept ≡ reverse (thin (stay (reverse (take i xs))))
     → reverse (laid (get_or xs i d) (reverse kept)) ≡ reverse (thin (stay (reverse (take (i + 1) xs))))
 step-stays xs i d kept lt is h =
@@ -39,7 +39,7 @@ step-stays xs i d kept lt is h =
     ∙ ap reverse (sym (stays (get_or xs i d) (reverse (take i xs)) is))
     ∙ ap (λ p. reverse (thin (stay p))) (sym (reverse-more xs i d lt))
 
--- a turn in which the entry is dropped
+-- a step in which the entry is dropped
 pub step-goes : (xs : List Entry) (i : ℕ) (d : Entry) → i < length xs → is_leave (get_or xs i d) ≡ true
     → reverse (thin (stay (reverse (take i xs)))) ≡ reverse (thin (stay (reverse (take (i + 1) xs))))
 step-goes xs i d lt is =

@@ -1,4 +1,4 @@
--- The turns of a past: the begin and the end of each attempt, and its revision.
+-- The bounds of the attempts of a past: the begin and the end of each attempt, and its revision.
 use Rattle.std.specs.Prelude.{ℕ, Bool, true, false, not, ◌==◌, List, [], ◌∷◌}
 use Rattle.bg_history.specs.declared.entry.Entry.{Entry}
 use Rattle.bg_history.specs.declared.entry.Entry.TheVariants.{Tick, Deploy, Verdict, Abort, Retry, Outcome}
@@ -30,7 +30,7 @@ is_halt (Verdict analysis Failed) = true
 is_halt (Verdict analysis Error) = true
 is_halt _ = false
 
--- a turn: an entry that begins or ends an attempt
+-- a bound of an attempt: an entry that begins or ends an attempt
 abbrev pub is_attempt_bound : Entry → Bool
 is_attempt_bound (Deploy r name ports) = true
 is_attempt_bound Retry = true
@@ -40,7 +40,7 @@ is_attempt_bound (Verdict analysis Failed) = true
 is_attempt_bound (Verdict analysis Error) = true
 is_attempt_bound _ = false
 
--- an attempt runs: the newest turn is a retry, or a deploy of a revision that wasn't the stable one
+-- an attempt runs: the newest bound is a retry, or a deploy of a revision that wasn't the stable one
 abbrev pub is_running : List Entry → Bool
 is_running [] = false
 is_running (Deploy r name ports ∷ before) = not (r == stable_of before)
@@ -51,7 +51,7 @@ is_running (Verdict analysis Failed ∷ before) = false
 is_running (Verdict analysis Error ∷ before) = false
 is_running (_ ∷ before) = is_running before
 
--- the last attempt was halted: the newest turn is an abort or a verdict that is failed or error
+-- the last attempt was halted: the newest bound is an abort or a verdict that is failed or error
 abbrev pub is_halted : List Entry → Bool
 is_halted [] = false
 is_halted (Deploy r name ports ∷ before) = false

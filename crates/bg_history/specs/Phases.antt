@@ -10,7 +10,7 @@ use Rattle.bg_history.specs.Attempts.{has_ready, has_resumed, has_switched, is_p
 abbrev pub needs_pause : Strategy → Bool
 needs_pause s = not s.auto_promotion || nat_lt 0 s.auto_seconds
 
--- steady: no attempt runs, and the newest turn halted none
+-- steady: no attempt runs, and the newest bound of an attempt is no halt
 abbrev pub is_steady : List Entry → Bool
 is_steady past = not (is_halted past) && not (is_running past)
 

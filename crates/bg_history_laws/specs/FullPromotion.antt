@@ -28,7 +28,7 @@ next_promotion_call s past =
     if has_promote_full past then Available (newest_of past) (desired s (newest_of past) past)
     else PromoteFull
 
--- at most this many of these calls fully promote r; each is allowed in its turn
+-- at most this many of these calls fully promote r; each is allowed after the ones before it
 abbrev pub CanPromote : ℕ → Strategy → Opening → ℕ → List Entry → Type 0
 CanPromote zero s o r past = IsFullyPromoted r past
 CanPromote (suc calls) s o r past =

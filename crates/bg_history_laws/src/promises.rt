@@ -33,7 +33,7 @@ pub fn can_roll_back()
 
 /// A running attempt can always be promoted. In a legal past in which an attempt runs, at most three calls fully
 /// promote its revision: a full promotion, unless the attempt has one, and then up to two reports that all desired
-/// endpoints of the revision are available. Each call is allowed in its turn.
+/// endpoints of the revision are available. Each call is allowed after the ones before it.
 pub fn can_promote()
     ensures { (s : Strategy) (o : Opening) (closed : List ℕ) (past : List Entry)
         → IsLegal s o closed past → IsTrue (is_running past)

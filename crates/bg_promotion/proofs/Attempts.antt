@@ -10,7 +10,7 @@ use Rattle.bg_strategy.specs.declared.strategy.Strategy.{Strategy}
 use Rattle.bg_history.specs.AttemptBounds.{moment, is_attempt_bound, is_running}
 use Rattle.bg_history.specs.Attempts.{in_attempt, has_ready, is_ready, first_at, is_passed, pass_moment, passes}
 
--- only a turn begins or ends an attempt
+-- only a bound begins or ends an attempt
 is_running-unbounded : (e : Entry) (before : List Entry) → is_attempt_bound e ≡ false → is_running (e ∷ before) ≡ is_running before
 is_running-unbounded (Tick m) before h = refl
 is_running-unbounded (Deploy r name ports) before h = grind arith
