@@ -5,12 +5,14 @@ import io
 import os
 import sys
 
-from bg_switch_tools import analysis_command, controller_command, operator_command
-from bg_switch_tools.bgctl import bgctl_command
-from bg_switch_tools.dashboard import dashboard_command
+from bg_switch_tools.analysis import cli as analysis_cli
+from bg_switch_tools.bgctl import cli as bgctl_cli
+from bg_switch_tools.controller import cli as controller_cli
+from bg_switch_tools.dashboard import cli as dashboard_cli
+from bg_switch_tools.operator import cli as operator_cli
 
-TOOLS = {"bgctl": bgctl_command.main, "operator": operator_command.main, "controller": controller_command.main,
-         "analysis": analysis_command.main, "dashboard": dashboard_command.main}
+TOOLS = {"bgctl": bgctl_cli.main, "operator": operator_cli.main, "controller": controller_cli.main,
+         "analysis": analysis_cli.main, "dashboard": dashboard_cli.main}
 
 
 def prepare_streams() -> None:

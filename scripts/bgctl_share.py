@@ -18,8 +18,8 @@ TOP = pathlib.Path(__file__).resolve().parents[1]
 sys.path.insert(0, str(TOP / "lib"))
 
 from bg_switch_tools.bgctl import VERSION  # noqa: E402  (the path stands above)
-from bg_switch_tools.bgctl.command_line import DESCRIPTION, parser  # noqa: E402
-from bg_switch_tools.bgctl.command_table import COMMANDS  # noqa: E402
+from bg_switch_tools.bgctl.argument_parser import DESCRIPTION, parser  # noqa: E402
+from bg_switch_tools.bgctl.commands import COMMANDS  # noqa: E402
 
 PACKAGES = {"shtab": "python3-shtab", "argcomplete": "python3-argcomplete"}
 COLUMNS = "500"  # so that no line of a help is wrapped: man(1) fills the lines

@@ -18,7 +18,7 @@ from support.switch import Switch
 from support.traffic import ACCESS_LOG
 
 # isort: split; `support` tells where the tools' package is
-from bg_switch_tools.access_log import Entry, read_lines
+from bg_switch_tools.switch.access_log import Entry, read_lines
 
 CLIENTS, REQUESTS = 8, 2000
 TIMEOUT = 2  # seconds for which an endpoint may be silent

@@ -22,7 +22,7 @@ from support.switch import Switch
 from support.traffic import ACCESS_LOG
 
 # isort: split; `support` tells where the tools' package is
-from bg_switch_tools.access_log import Entry, read_lines
+from bg_switch_tools.switch.access_log import Entry, read_lines
 
 SEED = 7
 CONNECTIONS, CLIENTS, WORKERS = 2000, 32, 7

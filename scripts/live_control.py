@@ -12,8 +12,8 @@ from support import checks, processes
 from support.checks import check, check_within, comes
 from support.clients import SMALL_BUFFER, connect, received, send_in_pieces, timed_for
 from support.messages import BY_HAND
+from support.stderr_lines import accepts_fail, check_told_once, told
 from support.switch import Switch, book
-from support.told import accepts_fail, check_told_once, told
 
 # How long, in seconds, an order waits at most. Where another connection kept it out, it would wait for as long as that
 # one stays.

@@ -21,7 +21,7 @@ from support.processes import run_to_end
 from support.switch import Switch
 
 # isort: split; `support` tells where the tools' package is
-from bg_switch_tools.state import write_whole
+from bg_switch_tools.controller.state_file import write_whole
 
 # Another seed kills at other moments: SEED=7 scripts/live_controller.py --by-hand
 SEED = int(os.environ.get("SEED", "1"))

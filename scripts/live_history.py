@@ -11,8 +11,8 @@ from support.checks import check, comes
 from support.clients import received, timed
 from support.endpoints import Endpoint, Held, by_target, held_at
 from support.messages import UNAVAILABLE, answer, request
+from support.stderr_lines import check_told_once, full, nearly_full, told
 from support.switch import LISTENING, Switch
-from support.told import check_told_once, full, nearly_full, told
 
 MOST = 1_000_000
 # From so many entries on it is told that the history is nearly full.

@@ -23,7 +23,7 @@ from support.processes import Run, run_to_end
 from support.switch import Switch
 
 # isort: split; `support` tells where the tools' package is
-from bg_switch_tools.meanings import FAULTS, LINES, REFUSALS
+from bg_switch_tools.switch.lines import FAULTS, LINES, REFUSALS
 
 OPERATOR = str(TOP / "bin" / "operator")
 WAIT = 20  # seconds for which anything is awaited

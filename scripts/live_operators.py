@@ -18,8 +18,8 @@ from support.endpoints import Endpoint, by_target
 from support.messages import BY_HAND
 from support.ports import LOCAL, STATE, TABLE, free_ports
 from support.processes import Run
+from support.stderr_lines import orders_told, told, turned_away
 from support.switch import LISTENING, PROGRAM, Switch, book, words_of_serve
-from support.told import orders_told, told, turned_away
 from support.users import NOBODY, connect_as, is_root
 
 VARIABLE = "BG_SWITCH_OPERATORS"

@@ -16,8 +16,8 @@ from support.endpoints import Endpoint, Held, by_target, held_at
 from support.messages import ROLLOUT, answer, request
 from support.operators import Operator
 from support.ports import is_open, is_refused
+from support.stderr_lines import accepts_fail, check_told_once, fewer_workers, no_event_loop, told, used_up
 from support.switch import LISTENING, Ended, Switch, opened
-from support.told import accepts_fail, check_told_once, fewer_workers, no_event_loop, told, used_up
 
 # How long, in seconds, it takes at most until the ports are closed, and until the program has ended once nothing is
 # open. Where a shutdown waited for what it needn't, that would be for the timeout or the sixty seconds of a shutdown.

@@ -12,7 +12,7 @@ from collections.abc import Callable, Iterator, Sequence
 from types import TracebackType
 
 from tests.fake_port import free_port
-from tests.scenes import WAIT, comes
+from tests.tool_runs import WAIT, comes
 
 HOST = "127.0.0.1"
 Answer = Callable[[str], tuple[int, bytes]]  # the status and the body for a query, or for a path that is read

@@ -4,7 +4,7 @@ import random
 from collections.abc import Iterator, Sequence
 from typing import NamedTuple
 
-from bg_switch_tools.access_log import Entry, written
+from bg_switch_tools.switch.access_log import Entry, written
 
 SEED = 46
 BEGIN = 1_790_000_000.0  # seconds from 1970

@@ -7,8 +7,8 @@ import unittest
 from collections.abc import Callable
 from unittest import mock
 
-from bg_switch_tools import access_log
-from bg_switch_tools.access_log import Entry, Follower, Lost, NoEntry, read_line, time_text, written
+from bg_switch_tools.switch import access_log
+from bg_switch_tools.switch.access_log import Entry, Follower, Lost, NoEntry, read_line, time_text, written
 from tests.synthetic_log import ANSWERED, BEGIN, REFUSALS, GrowingLog, Part, entries, refused
 
 LINE = (b'{"time":"2026-11-25T18:03:12.042Z","service":"active","revision":2,"request":17,"port":9201,"method":"GET",'

@@ -12,12 +12,13 @@ from collections.abc import Callable, Sequence
 from typing import NamedTuple
 from unittest import mock
 
-from bg_switch_tools import access_log, log_analysis
-from bg_switch_tools.access_log import Entry, written
-from bg_switch_tools.analysis_command import main
-from bg_switch_tools.durations import duration_of, milliseconds_of, positive_duration_of, value_of
-from bg_switch_tools.measuring import SILENCE, Analyser, Limits, measure, quantile, request_of
-from bg_switch_tools.words import count_of, port_of, share_of
+from bg_switch_tools.analysis import log_analysis
+from bg_switch_tools.analysis.cli import main
+from bg_switch_tools.analysis.measurements import SILENCE, Analyser, Limits, measure, quantile, request_of
+from bg_switch_tools.switch import access_log
+from bg_switch_tools.switch.access_log import Entry, written
+from bg_switch_tools.switch.arguments import count_of, port_of, share_of
+from bg_switch_tools.switch.durations import duration_of, milliseconds_of, positive_duration_of, value_of
 from tests.fake_switch import FakeSwitch
 from tests.synthetic_log import ANSWERED, GrowingLog, Part, entries, refused
 

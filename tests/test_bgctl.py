@@ -13,15 +13,15 @@ import zipapp
 from typing import NamedTuple
 from unittest import mock
 
-from bg_switch_tools import operator_command
-from bg_switch_tools.bgctl import VERSION, statuses
-from bg_switch_tools.bgctl.bgctl_command import main
-from bg_switch_tools.bgctl.command_line import long_options, parser, place_of_command
-from bg_switch_tools.bgctl.command_table import COMMANDS, FIRST_ONES, NAMES
-from bg_switch_tools.dashboard import dashboard_command
+from bg_switch_tools.bgctl import VERSION, exit_statuses
+from bg_switch_tools.bgctl.argument_parser import long_options, parser, place_of_command
+from bg_switch_tools.bgctl.cli import main
+from bg_switch_tools.bgctl.commands import COMMANDS, FIRST_ONES, NAMES
+from bg_switch_tools.dashboard import cli as dashboard_cli
+from bg_switch_tools.operator import cli as operator_cli
 from tests.fake_port import free_port
 from tests.fake_switch import FakeSwitch
-from tests.scenes import TOP
+from tests.tool_runs import TOP
 
 
 class Ended(NamedTuple):
@@ -39,7 +39,7 @@ def run(*words: str, lines: str = "", tool: str = "bgctl", **variables: str) -> 
             mock.patch("sys.stdin", io.TextIOWrapper(io.BytesIO(lines.encode()))), \
             mock.patch.dict(os.environ, {**others, **variables}, clear=True):
         try:
-            status = main(words) if tool == "bgctl" else operator_command.main(words)
+            status = main(words) if tool == "bgctl" else operator_cli.main(words)
         except SystemExit as ended:
             status = int(str(ended.code))
     return Ended(printed.getvalue(), told.getvalue(), status)
@@ -76,8 +76,8 @@ class Words(unittest.TestCase):
             self.assertEqual(place_of_command(line.split()), place, line)
 
     def test_the_statuses_stand_in_the_help_alone(self) -> None:
-        self.assertIn(statuses.listed(), run("--help").printed)
-        self.assertEqual([status for status, _ in statuses.TABLE], [0, 1, 2, 3, 70, 130])
+        self.assertIn(exit_statuses.listed(), run("--help").printed)
+        self.assertEqual([status for status, _ in exit_statuses.TABLE], [0, 1, 2, 3, 70, 130])
         for page in TOP.glob("docs/*.md"):
             self.assertNotIn("ended by ctrl-C", page.read_text(encoding="utf-8"), page.name)
 
@@ -88,11 +88,11 @@ class Words(unittest.TestCase):
 
     def test_the_dashboard_has_its_own_options(self) -> None:
         told = run("dashboard", "--help").printed
-        for option in long_options(dashboard_command.parser()):
+        for option in long_options(dashboard_cli.parser()):
             self.assertIn(option, told)
 
     def test_each_command_is_carried_out_by_a_method(self) -> None:
-        from bg_switch_tools.bgctl.bgctl_command import Run
+        from bg_switch_tools.bgctl.cli import Run
         self.assertEqual([name for name in NAMES if not callable(getattr(Run, name, None))], [])
 
 
@@ -178,7 +178,7 @@ class Orders(Ordered):
         self.assertEqual((self.bgctl("shutdown", "--yes").status, self.switch.orders()), (0, ["quit"]))
 
     def test_interrupted(self) -> None:
-        with mock.patch("bg_switch_tools.operator_command.ask", side_effect=KeyboardInterrupt):
+        with mock.patch("bg_switch_tools.operator.cli.ask", side_effect=KeyboardInterrupt):
             self.assertEqual(self.bgctl("status").status, 130)
 
 
@@ -201,18 +201,18 @@ class OtherTools(Ordered):
             pathlib.Path(path).write_text('{"control": 0}', encoding="ascii")
             self.assertEqual(run("check", path), ("revisions: is missing\ncontrol: 0 is below 1\n", "", 1))
             for words in (("controller", path, "--json"), ("controller", "--json", "--plan", path)):
-                self.assertEqual(self.handed_on("controller_command.run", *words), [path, True])
+                self.assertEqual(self.handed_on("controller.cli.run", *words), [path, True])
 
     def test_analysis(self) -> None:
         words = ["--log", "f", "--seconds", "1", "--revision", "web-v1"]
-        self.assertEqual(self.handed_on("analysis_command.main", "analysis", *words), [words])
-        self.assertEqual(self.handed_on("analysis_command.main", "analysis", *words, "--control", "5", BG_CONTROL="6"),
+        self.assertEqual(self.handed_on("analysis.cli.main", "analysis", *words), [words])
+        self.assertEqual(self.handed_on("analysis.cli.main", "analysis", *words, "--control", "5", BG_CONTROL="6"),
                          [[*words, "--control", "5"]])
-        self.assertEqual(self.handed_on("analysis_command.main", "analysis", *words, BG_CONTROL="6"), [[*words, "--control", "6"]])
-        self.assertEqual(self.handed_on("analysis_command.main", "--control", "7", "analysis", *words), [[*words, "--control", "7"]])
+        self.assertEqual(self.handed_on("analysis.cli.main", "analysis", *words, BG_CONTROL="6"), [[*words, "--control", "6"]])
+        self.assertEqual(self.handed_on("analysis.cli.main", "--control", "7", "analysis", *words), [[*words, "--control", "7"]])
 
     def test_dashboard(self) -> None:
-        self.assertEqual(self.handed_on("dashboard.dashboard_command.main", "dashboard", "--listen", "8090", "--read-only", BG_CONTROL="6"),
+        self.assertEqual(self.handed_on("dashboard.cli.main", "dashboard", "--listen", "8090", "--read-only", BG_CONTROL="6"),
                          [["6", "--listen", "8090", "--log", "", "--read-only"]])
 
     def test_prompt(self) -> None:

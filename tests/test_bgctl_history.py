@@ -8,15 +8,15 @@ import tempfile
 import unittest
 from unittest import mock
 
-from bg_switch_tools.bgctl import history_file, recording
-from bg_switch_tools.bgctl.attempts import DEPLOYED, ENDED, LIVE, LOST, Attempts, Event, read_event
-from bg_switch_tools.bgctl.history_file import HistoryFile
-from bg_switch_tools.bgctl.pausing import Pause, PauseFile
-from bg_switch_tools.bgctl.recording import Recorder
-from bg_switch_tools.bgctl.showing import duration
-from bg_switch_tools.log import Log
-from bg_switch_tools.plan import PlannedRevision
-from bg_switch_tools.reports import Report, read_report
+from bg_switch_tools.bgctl.history_table import duration
+from bg_switch_tools.controller import history_file, history_recorder
+from bg_switch_tools.controller.attempts import DEPLOYED, ENDED, LIVE, LOST, Attempts, Event, read_event
+from bg_switch_tools.controller.history_file import HistoryFile
+from bg_switch_tools.controller.history_recorder import Recorder
+from bg_switch_tools.controller.log import Log
+from bg_switch_tools.controller.pause import Pause, PauseFile
+from bg_switch_tools.controller.plan import PlannedRevision
+from bg_switch_tools.switch.reports import Report, read_report
 from tests.test_bgctl import run
 
 V1, V2 = PlannedRevision("web-v1", (1, 2)), PlannedRevision("web-v2", (3, 4))
@@ -42,7 +42,7 @@ class Histories(unittest.TestCase):
         pathlib.Path(self.plan).write_text("{}", encoding="ascii")
         self.file = HistoryFile(self.plan)
         self.seconds = 0
-        stack.enter_context(mock.patch.object(recording, "local_time", lambda: at(self.seconds)))
+        stack.enter_context(mock.patch.object(history_recorder, "local_time", lambda: at(self.seconds)))
         self.out = io.StringIO()
 
     def recorder(self, deployed: PlannedRevision | None = None) -> Recorder:

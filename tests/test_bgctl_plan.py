@@ -9,16 +9,16 @@ import unittest
 from typing import Any
 from unittest import mock
 
-from bg_switch_tools import plan_edit
-from bg_switch_tools.bgctl import authors
-from bg_switch_tools.bgctl.authors import Author, login_name
-from bg_switch_tools.bgctl.edit_lock import EditGoesOn, EditLock
-from bg_switch_tools.bgctl.pausing import PauseFile
-from bg_switch_tools.plan_edit import deploy_by_plan, with_last
-from bg_switch_tools.plan_file import read_whole_plan
-from tests.scenes import comes
+from bg_switch_tools.controller import plan_edit
+from bg_switch_tools.controller import plan_author
+from bg_switch_tools.controller.pause import PauseFile
+from bg_switch_tools.controller.plan_author import Author, login_name
+from bg_switch_tools.controller.plan_edit import deploy_by_plan, with_last
+from bg_switch_tools.controller.plan_edit_lock import EditGoesOn, EditLock
+from bg_switch_tools.controller.plan_file import read_whole_plan
 from tests.test_bgctl import Ended, run
 from tests.test_controller import NAMES, Turns
+from tests.tool_runs import comes
 
 
 class Edits(unittest.TestCase):
@@ -66,7 +66,7 @@ class Edits(unittest.TestCase):
 
     def test_a_crash_before_the_file_is_in_place_changes_nothing(self) -> None:
         before = self.path.read_bytes()
-        with mock.patch("bg_switch_tools.state.os.replace", side_effect=OSError(5, "Input/output error")), self.assertRaises(OSError):
+        with mock.patch("bg_switch_tools.controller.state_file.os.replace", side_effect=OSError(5, "Input/output error")), self.assertRaises(OSError):
             deploy_by_plan(str(self.path), "web-v3", [3])
         self.assertEqual(self.path.read_bytes(), before)
         deploy_by_plan(str(self.path), "web-v3", [3])
@@ -93,7 +93,7 @@ class Edits(unittest.TestCase):
     def test_the_author_is_that_of_the_text(self) -> None:
         path = str(self.path)
         self.assertIsNone(Author(path).name())
-        with mock.patch.object(authors, "login_name", return_value="alice"):
+        with mock.patch.object(plan_author, "login_name", return_value="alice"):
             deploy_by_plan(path, "web-v3", [3], Author(path).sign)
         self.assertEqual(Author(path).name(), "alice")
         deploy_by_plan(path, "web-v4", [4])
@@ -119,8 +119,8 @@ class ByAPlan(Turns):
     """Runs of bgctl beside a controller."""
 
     def bgctl(self, *words: str, who: str = "alice") -> Ended:
-        with mock.patch.object(authors, "login_name", return_value=who), \
-                mock.patch("bg_switch_tools.bgctl.pausing.login_name", return_value=who):
+        with mock.patch.object(plan_author, "login_name", return_value=who), \
+                mock.patch("bg_switch_tools.controller.pause.login_name", return_value=who):
             return run(*words, BG_PLAN=self.plan.path)
 
     def ports(self, name: str) -> list[str]:

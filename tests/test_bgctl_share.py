@@ -6,8 +6,8 @@ import subprocess
 import tempfile
 import unittest
 
-from bg_switch_tools.bgctl.command_table import COMMANDS, NAMES
-from tests.scenes import TOP
+from bg_switch_tools.bgctl.commands import COMMANDS, NAMES
+from tests.tool_runs import TOP
 
 PYTHON = "/usr/bin/python3"
 SCRIPT = TOP / "scripts" / "bgctl_share.py"

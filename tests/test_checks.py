@@ -3,7 +3,7 @@ import subprocess
 import sys
 import unittest
 
-from tests.scenes import TOP, WAIT
+from tests.tool_runs import TOP, WAIT
 
 CODE = """
 import sys

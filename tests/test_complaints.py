@@ -12,7 +12,7 @@ import time
 import unittest
 
 from tests.fake_switch import FakeSwitch
-from tests.scenes import TOOLS, TOP, WAIT, ControllerRun, Endpoint, comes, controlling, operator, plan_of, with_fast_clock
+from tests.tool_runs import TOOLS, TOP, WAIT, ControllerRun, Endpoint, comes, controlling, operator, plan_of, with_fast_clock
 
 
 class Controlled(unittest.TestCase):

@@ -2,8 +2,8 @@
 import unittest
 from collections.abc import Sequence
 
-from bg_switch_tools.conditions import Conditions, WrongCondition, read_condition
-from bg_switch_tools.reports import Report, read_report
+from bg_switch_tools.operator.conditions import Conditions, WrongCondition, read_condition
+from bg_switch_tools.switch.reports import Report, read_report
 
 HOLDS, MAY_COME = "holds", "may come"
 

@@ -4,7 +4,7 @@ import time
 import unittest
 from collections.abc import Sequence
 
-from bg_switch_tools.connection import Connection, Unreachable, ask, words_of
+from bg_switch_tools.switch.connection import Connection, Unreachable, ask, words_of
 from tests.fake_port import ENDS, REPORT, FakePort, free_port
 
 

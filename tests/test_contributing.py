@@ -3,7 +3,7 @@ import re
 import subprocess
 import unittest
 
-from tests.scenes import TOP
+from tests.tool_runs import TOP
 
 PATH = re.compile(r"`([\w./*-]+/[\w.*-]*|[\w-]+\.(?:rt|antt|py|md|txt))`")
 PLACEHOLDERS = ("NAME", "WHAT_IS_WRONG")

@@ -11,13 +11,13 @@ import unittest
 from collections.abc import Sequence
 from unittest import mock
 
-from bg_switch_tools import book, controller, controller_command, memory
-from bg_switch_tools.controller_command import Runner
-from bg_switch_tools.log import Log
-from bg_switch_tools.plan_file import PlanFile
-from bg_switch_tools.state import StateFile
+from bg_switch_tools.controller import book, cli as controller_cli, controller, memory
+from bg_switch_tools.controller.cli import Runner
+from bg_switch_tools.controller.log import Log
+from bg_switch_tools.controller.plan_file import PlanFile
+from bg_switch_tools.controller.state_file import StateFile
 from tests.fake_switch import FakeSwitch
-from tests.scenes import Endpoint, comes, plan_of
+from tests.tool_runs import Endpoint, comes, plan_of
 
 NAMES = ("web-v1", "web-v2", "web-v3")
 
@@ -443,7 +443,7 @@ class Logs(Turns):
     def test_each_minute_without_an_answer(self) -> None:
         self.write("web-v1")
         self.switch.kill()
-        with mock.patch.object(controller_command, "MINUTE", 0.2), mock.patch.object(controller_command, "CONNECT", 0.05):
+        with mock.patch.object(controller_cli, "MINUTE", 0.2), mock.patch.object(controller_cli, "CONNECT", 0.05):
             self.start()
             self.assertTrue(comes(lambda: self.log().count("no answer for") >= 2))
         self.assertEqual(self.log().count("no answer: port"), 1)

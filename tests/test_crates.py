@@ -4,7 +4,7 @@ import unittest
 
 from crate_map import DRAWING, PAGE, drawing, layers_of, map_of, nearest
 from gate_cost import crates_in
-from tests.scenes import TOP
+from tests.tool_runs import TOP
 
 CRATES = crates_in((TOP / "crates.txt").read_text(encoding="utf-8"))
 MEND = "run scripts/crate_map.py --write"

@@ -17,11 +17,11 @@ import zipapp
 from collections.abc import Iterator, Sequence
 from typing import NamedTuple
 
-from bg_switch_tools.access_log import Entry
+from bg_switch_tools.switch.access_log import Entry
 from tests.fake_port import free_port
 from tests.fake_switch import FakeSwitch
-from tests.scenes import TOOLS, TOP, WAIT, comes
 from tests.synthetic_log import ANSWERED, GrowingLog, Part, entries, refused
+from tests.tool_runs import TOOLS, TOP, WAIT, comes
 
 PYTHON = "/usr/bin/python3"
 LIBRARIES = "import aiohttp, prometheus_client"
@@ -394,8 +394,8 @@ class Libraries(unittest.TestCase):
 
     def test_the_other_tools_need_no_library(self) -> None:
         code = ("import sys; sys.argv = ['x']; sys.path.insert(0, 'lib'); import __main__, runpy; "
-                "from bg_switch_tools import analysis_command, controller_command, operator_command; "
-                "from bg_switch_tools.dashboard import dashboard_command; "
+                "import bg_switch_tools.analysis.cli, bg_switch_tools.bgctl.cli, bg_switch_tools.controller.cli, "
+                "bg_switch_tools.dashboard.cli, bg_switch_tools.operator.cli; "
                 "sys.exit('aiohttp' in sys.modules or 'prometheus_client' in sys.modules)")
         self.assertEqual(subprocess.run([sys.executable, "-B", "-c", code], cwd=TOP, timeout=WAIT, check=False).returncode, 0)
 

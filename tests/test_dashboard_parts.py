@@ -4,17 +4,17 @@ import unittest
 from collections.abc import Sequence
 from unittest import mock
 
-from bg_switch_tools.access_log import Batch
 from bg_switch_tools.dashboard import totals, traffic
 from bg_switch_tools.dashboard.alarms import without_endpoint
 from bg_switch_tools.dashboard.board import MOST_HAPPENED, Board
 from bg_switch_tools.dashboard.guard import fault_of, is_token
-from bg_switch_tools.dashboard.orders import Moved, Order, WrongOrder, carry_out, read_order
+from bg_switch_tools.dashboard.page_commands import Moved, Order, WrongOrder, carry_out, read_order
 from bg_switch_tools.dashboard.steps import Attempt, orders, steps
 from bg_switch_tools.dashboard.totals import Labels, Tally, Totals, reasons
 from bg_switch_tools.dashboard.traffic import Durations, Traffic
-from bg_switch_tools.reports import PHASES, Report, read_report
-from bg_switch_tools.tables import in_one_line
+from bg_switch_tools.switch.access_log import Batch
+from bg_switch_tools.switch.report_text import in_one_line
+from bg_switch_tools.switch.reports import PHASES, Report, read_report
 from tests.fake_switch import FakeBook, FakeSwitch
 from tests.synthetic_log import ANSWERED, BEGIN, Part, entries, refused
 

@@ -7,9 +7,9 @@ import tempfile
 import unittest
 import zipapp
 
-from bg_switch_tools.plan_reading import read_plan
+from bg_switch_tools.controller.plan_reader import read_plan
 from tests.fake_switch import FakeSwitch
-from tests.scenes import TOP, WAIT, Endpoint, comes, controlling, plan_of
+from tests.tool_runs import TOP, WAIT, Endpoint, comes, controlling, plan_of
 
 RELEASE = TOP / "examples" / "ci" / "release.sh"
 MOST_LINES = 15

@@ -7,8 +7,8 @@ import unittest
 from typing import NamedTuple
 from unittest import mock
 
-from bg_switch_tools.operator_command import main
-from bg_switch_tools.prompting import Prompt
+from bg_switch_tools.operator.cli import main
+from bg_switch_tools.operator.prompt import Prompt
 from tests.fake_port import free_port
 from tests.fake_switch import FakeSwitch
 

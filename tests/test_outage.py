@@ -3,8 +3,8 @@ import pathlib
 import time
 import unittest
 
-from tests.scenes import comes, operator
 from tests.test_controller import Turns
+from tests.tool_runs import comes, operator
 
 
 class Downs(Turns):

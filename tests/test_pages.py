@@ -8,7 +8,7 @@ import tempfile
 import unittest
 
 import definitions
-from tests.scenes import TOP
+from tests.tool_runs import TOP
 
 LEAST_LINKS = 60
 MOST_WORDS_OF_README = 1300

@@ -10,12 +10,12 @@ import time
 import unittest
 from unittest import mock
 
-from bg_switch_tools import controller_command, plan_text
-from bg_switch_tools.plan import Commands, Health, PlannedRevision, Progress
-from bg_switch_tools.plan_edit import deploy_by_plan
-from bg_switch_tools.plan_file import PlanFile
-from bg_switch_tools.plan_limits import missing_commands
-from bg_switch_tools.plan_reading import WrongPlan, read_plan
+from bg_switch_tools.controller import cli as controller_cli, plan_text
+from bg_switch_tools.controller.plan import Commands, Health, PlannedRevision, Progress
+from bg_switch_tools.controller.plan_edit import deploy_by_plan
+from bg_switch_tools.controller.plan_file import PlanFile
+from bg_switch_tools.controller.plan_limits import missing_commands
+from bg_switch_tools.controller.plan_reader import WrongPlan, read_plan
 
 GOOD: dict[str, object] = {
     "control": 8082,
@@ -206,7 +206,7 @@ class Contradictions(unittest.TestCase):
             path = os.path.join(folder, "plan.json")
             pathlib.Path(path).write_text(json.dumps(told), encoding="ascii")
             with contextlib.redirect_stdout(io.StringIO()) as printed:
-                self.assertEqual(controller_command.main(["check", path]), 1)
+                self.assertEqual(controller_cli.main(["check", path]), 1)
             self.assertEqual(set(printed.getvalue().splitlines()), wanted)
             script.touch()
             self.assertEqual(set(missing_commands(plan, folder)), wanted, "it is no program yet")
@@ -289,7 +289,7 @@ class Edits(unittest.TestCase):
 
     def test_what_is_wrong_is_told(self) -> None:
         with contextlib.redirect_stderr(io.StringIO()) as told:
-            self.assertEqual(controller_command.main(["deploy", self.path, "web-v3", "9101", "x"]), 1)
+            self.assertEqual(controller_cli.main(["deploy", self.path, "web-v3", "9101", "x"]), 1)
         self.assertEqual(told.getvalue().splitlines(), [
             f"controller: {self.path} stays as it is, since with web-v3 it would be no plan:", "  revisions[2].ports[1]: 0 is below 1",
             "  revisions[2].ports[0]: 9101 stands at revisions[0].ports[0] already: an endpoint serves one revision"])

@@ -4,10 +4,10 @@ import time
 import unittest
 from unittest import mock
 
-from bg_switch_tools.plan import Health
-from bg_switch_tools.probes import Probes, is_up
+from bg_switch_tools.controller.plan import Health
+from bg_switch_tools.controller.probes import Probes, is_up
 from tests.fake_port import free_port
-from tests.scenes import Endpoint, comes
+from tests.tool_runs import Endpoint, comes
 
 HEALTH = Health("/", 0.05, 0.6, 2)
 
@@ -108,7 +108,7 @@ class Together(unittest.TestCase):
 
     def test_an_outage_counts_from_the_first_failure_of_the_last_endpoint(self) -> None:
         probes = Probes()
-        with mock.patch("bg_switch_tools.probes.time.monotonic") as clock:
+        with mock.patch("bg_switch_tools.controller.probes.time.monotonic") as clock:
             for now, port, up in ((10.0, 1, True), (10.0, 2, True), (11.0, 1, False), (13.0, 1, False), (14.0, 2, False)):
                 clock.return_value = now
                 probes._take_in(port, up)

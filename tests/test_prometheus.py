@@ -13,15 +13,15 @@ from collections.abc import Sequence
 from typing import NamedTuple
 from unittest import mock
 
-from bg_switch_tools import prometheus
-from bg_switch_tools.analysis_command import main
-from bg_switch_tools.prometheus import NoAnswer, Server, query_values, server_of
-from bg_switch_tools.prometheus_analysis import Condition, filled, judged
-from bg_switch_tools.subject import Subject
-from bg_switch_tools.verdicts import NotJudged
+from bg_switch_tools.analysis import prometheus_query
+from bg_switch_tools.analysis.cli import main
+from bg_switch_tools.analysis.judged_revision import Subject
+from bg_switch_tools.analysis.prometheus_analysis import Condition, filled, judged
+from bg_switch_tools.analysis.prometheus_query import NoAnswer, Server, query_values, server_of
+from bg_switch_tools.analysis.verdicts import NotJudged
 from tests.fake_port import free_port
 from tests.fake_prometheus import FakePrometheus, real_prometheus, refused, vector
-from tests.scenes import comes
+from tests.tool_runs import comes
 
 PROGRAM = "prometheus"
 MISSING = "prometheus is not installed: apt-get install prometheus to run this test"
@@ -69,7 +69,7 @@ class Queries(unittest.TestCase):
                 (200, vector("x"), "a sample of the result is none"), (200, vector(*["1"] * 1001), "more than 1000 values"),
                 (200, b'{"status": "success", "data": {"resultType": "vector", "result": [1]}}', "a sample"),
                 (200, b'{"status": "success", "data": {"resultType": "scalar", "result": [1, 7]}}', "a sample"),
-                (200, b"[" * 99999, "is no JSON"), (200, b" " * (prometheus.LARGEST + 1), "has more than")):
+                (200, b"[" * 99999, "is no JSON"), (200, b" " * (prometheus_query.LARGEST + 1), "has more than")):
             with self.subTest(body=body[:80]), self.assertRaisesRegex(NoAnswer, why):
                 self.values(status, body)
 

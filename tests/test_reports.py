@@ -1,7 +1,7 @@
 """Reports, read from their lines."""
 import unittest
 
-from bg_switch_tools.reports import NoReport, Revision, as_json, read_report
+from bg_switch_tools.switch.reports import NoReport, Revision, as_json, read_report
 from tests.fake_port import REPORT
 
 DRAINING = ("moment 130", "phase paused", "active 2", "preview 3", "stable 2", "newest 3",

@@ -6,8 +6,8 @@ import re
 import unittest
 from collections.abc import Iterator, Mapping
 
-from bg_switch_tools.meanings import FAULTS, HINTS, REFUSALS
-from tests.scenes import TOP
+from bg_switch_tools.switch.lines import FAULTS, HINTS, REFUSALS
+from tests.tool_runs import TOP
 
 CRATES = ("bg_strategy", "bg_revisions", "bg_promotion", "bg_rollout", "bg_book", "bg_operator", "bg_script")
 OF_LINES, OF_STRATEGIES = "LineFault", "StrategyFault"

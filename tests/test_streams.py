@@ -11,8 +11,8 @@ from collections.abc import Sequence
 
 from support.plans import Plan
 from tests.fake_switch import FakeSwitch
-from tests.scenes import TOOLS, WAIT, comes
 from tests.synthetic_log import GrowingLog, Part, entries
+from tests.tool_runs import TOOLS, WAIT, comes
 
 BYTES = b"a \xff"  # a name with a space and a byte that is no UTF-8
 

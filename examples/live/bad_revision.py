@@ -29,8 +29,8 @@ from support.examples import start_switch  # noqa: E402
 from support.traffic import Traffic, prepared_log  # noqa: E402
 
 # isort: split; `support` tells where the tools' package is
-from bg_switch_tools.conditions import Conditions  # noqa: E402
-from bg_switch_tools.waiting import wait_for  # noqa: E402
+from bg_switch_tools.operator.conditions import Conditions  # noqa: E402
+from bg_switch_tools.operator.wait import wait_for  # noqa: E402
 
 ACTIVE, PREVIEW, CONTROL, PAGE, DRIVER = 31780, 31781, 31782, 31790, 31791
 REVISIONS = {"web-v1": (31811, 31812), "web-v2": (31821, 31822)}

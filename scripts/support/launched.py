@@ -16,8 +16,8 @@ from support.ports import free_ports
 from support.switch import LISTENING, PROGRAM, words_of_serve
 
 # isort: split; `support` tells where the tools' package is
-from bg_switch_tools.connection import Unreachable, ask
-from bg_switch_tools.reports import Report, read_report
+from bg_switch_tools.switch.connection import Unreachable, ask
+from bg_switch_tools.switch.reports import Report, read_report
 
 WAIT = 40.0  # seconds for which anything is awaited
 CLIENTS = 3

@@ -1,6 +1,6 @@
 """An operator, who keeps one connection to the control port and is answered line by line."""
-from bg_switch_tools.connection import Connection
-from bg_switch_tools.reports import Report, read_report
+from bg_switch_tools.switch.connection import Connection
+from bg_switch_tools.switch.reports import Report, read_report
 
 from support.checks import check
 

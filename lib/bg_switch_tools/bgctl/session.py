@@ -2,11 +2,11 @@
 import argparse
 import sys
 
-from bg_switch_tools import operator_command
-from bg_switch_tools.bgctl.finding import Target
-from bg_switch_tools.connection import ask
-from bg_switch_tools.operator_command import Operator
-from bg_switch_tools.reports import Report, read_report
+from bg_switch_tools.bgctl.target import Target
+from bg_switch_tools.operator import cli as operator_cli
+from bg_switch_tools.operator.cli import Operator
+from bg_switch_tools.switch.connection import ask
+from bg_switch_tools.switch.reports import Report, read_report
 
 
 def tell(text: str) -> None:
@@ -19,7 +19,7 @@ class Session(Operator):
 
     def __init__(self, target: Target, given: argparse.Namespace) -> None:
         """`Unusable` where the control port is not known."""
-        told = operator_command.parser().parse_args([])  # each of its options, with its default
+        told = operator_cli.parser().parse_args([])  # each of its options, with its default
         told.port, told.plan, told.idempotent = target.port(), target.path, True
         told.wait = getattr(given, "request_timeout", told.wait)
         for option in ("timeout", "json", "yes"):

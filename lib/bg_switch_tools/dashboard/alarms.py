@@ -1,8 +1,8 @@
 """What is wrong with a switch that answers: states in which clients get errors."""
 from typing import TypedDict
 
-from bg_switch_tools.access_log import CLIENT_SERVICES
-from bg_switch_tools.reports import Report
+from bg_switch_tools.switch.access_log import CLIENT_SERVICES
+from bg_switch_tools.switch.reports import Report
 
 ALARMED = "active"  # the preview service has no endpoint while a new revision starts, which is no fault
 

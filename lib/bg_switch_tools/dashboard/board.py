@@ -4,15 +4,15 @@ import time
 from collections.abc import Mapping, Sequence
 from typing import TypedDict
 
-from bg_switch_tools.access_log import CLIENT_SERVICES, Batch, Entry
-from bg_switch_tools.changes import changes, is_another_book
 from bg_switch_tools.dashboard.alarms import alarms
 from bg_switch_tools.dashboard.steps import Attempt, orders, steps
 from bg_switch_tools.dashboard.totals import Totals
 from bg_switch_tools.dashboard.traffic import KEPT, SLOT, Traffic
-from bg_switch_tools.meanings import with_meaning
-from bg_switch_tools.reports import Report, as_json
-from bg_switch_tools.tables import AWAITED, NO_BOOK, in_one_line
+from bg_switch_tools.switch.access_log import CLIENT_SERVICES, Batch, Entry
+from bg_switch_tools.switch.lines import with_meaning
+from bg_switch_tools.switch.report_changes import changes, is_another_book
+from bg_switch_tools.switch.report_text import AWAITED, NO_BOOK, in_one_line
+from bg_switch_tools.switch.reports import Report, as_json
 
 MOST_HAPPENED, MOST_FAILED = 200, 50
 MOST_OF_A_BATCH = 20  # failed requests that one look adds

@@ -7,7 +7,7 @@ from prometheus_client.core import CounterMetricFamily, GaugeMetricFamily, Histo
 from bg_switch_tools.dashboard.alarms import without_endpoint
 from bg_switch_tools.dashboard.board import Board
 from bg_switch_tools.dashboard.totals import Labels, Totals
-from bg_switch_tools.reports import PHASES, SERVICES, Report
+from bg_switch_tools.switch.reports import PHASES, SERVICES, Report
 
 CONTENT_TYPE = prometheus_client.CONTENT_TYPE_LATEST
 # The phases of Argo Rollouts.

@@ -12,13 +12,13 @@ from collections.abc import AsyncIterator, Awaitable, Callable
 
 from aiohttp import http_exceptions, web
 
-from bg_switch_tools.access_log import Batch, Follower
-from bg_switch_tools.connection import HOST, Unreachable, ask
 from bg_switch_tools.dashboard import guard, metrics
 from bg_switch_tools.dashboard.board import Board
-from bg_switch_tools.dashboard.orders import Moved, WrongOrder, carry_out, read_order
-from bg_switch_tools.meanings import meaning_of, was_carried_out
-from bg_switch_tools.reports import NoReport, Report, read_report
+from bg_switch_tools.dashboard.page_commands import Moved, WrongOrder, carry_out, read_order
+from bg_switch_tools.switch.access_log import Batch, Follower
+from bg_switch_tools.switch.connection import HOST, Unreachable, ask
+from bg_switch_tools.switch.lines import meaning_of, was_carried_out
+from bg_switch_tools.switch.reports import NoReport, Report, read_report
 
 PAUSE = 0.5  # seconds between two reports
 SOON = 0.01  # seconds, while more of the log is there than was read

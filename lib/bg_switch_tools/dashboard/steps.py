@@ -2,7 +2,7 @@
 from collections.abc import Collection
 from typing import TypedDict
 
-from bg_switch_tools.reports import PHASES, Report
+from bg_switch_tools.switch.reports import PHASES, Report
 
 # The steps of the line, each with its title. The phases of an attempt are steps, and so are the switch and the end.
 STEPS = (("scaling", "scaling"), ("preAnalysis", "analysis"), ("paused", "paused"), ("sizing", "sizing"), ("switch", "switch"),

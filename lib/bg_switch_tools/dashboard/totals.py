@@ -4,9 +4,9 @@ import collections
 from collections.abc import Iterator
 from typing import NamedTuple
 
-from bg_switch_tools.access_log import CLIENT_SERVICES, Entry
 from bg_switch_tools.dashboard.traffic import CLASSES, NO_ANSWER, class_of
-from bg_switch_tools.reports import SERVICES, Report
+from bg_switch_tools.switch.access_log import CLIENT_SERVICES, Entry
+from bg_switch_tools.switch.reports import SERVICES, Report
 
 # The ends of the buckets of durations, in seconds.
 BUCKETS = (0.001, 0.0025, 0.005, 0.01, 0.025, 0.05, 0.1, 0.25, 0.5, 1.0, 2.5, 5.0, 10.0, 30.0, 60.0)

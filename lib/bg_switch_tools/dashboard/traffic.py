@@ -5,7 +5,7 @@ import math
 from collections.abc import Iterator, Sequence
 from typing import TypedDict
 
-from bg_switch_tools.access_log import Entry
+from bg_switch_tools.switch.access_log import Entry
 
 SLOT = 2  # seconds that are counted together
 KEPT = 600  # seconds

@@ -1,0 +1,86 @@
+"""The revision that an analysis judges, by its name and its number in the book that is open."""
+import argparse
+import os
+from collections.abc import Mapping
+
+from bg_switch_tools.analysis.verdicts import NotJudged
+from bg_switch_tools.switch.arguments import port_of
+from bg_switch_tools.switch.connection import Unreachable, ask
+from bg_switch_tools.switch.reports import NoReport, Report, read_report
+
+FIRST_WAIT = 10.0  # seconds for the switch to answer at the begin
+WAIT = 1.0  # seconds for it to answer later
+NAME, NUMBER, CONTROL = "BG_REVISION", "BG_REVISION_NUMBER", "BG_CONTROL"  # variables of the controller
+
+
+class Subject:
+    """A revision. With a control port, its number is that of its name in the book that is open: a switch that was started again
+    gives numbers anew. `name` is empty where it is not known."""
+
+    def __init__(self, name: str, number: int, control: int | None = None) -> None:
+        self.name = name
+        self.number = number
+        self.control = control
+
+    @property
+    def title(self) -> str:
+        return f"revision {self.number} {self.name}".rstrip()
+
+    def asked(self) -> Report | None:
+        """A report that has the revision; None where the switch gives no answer, or no book is open. `NotJudged` where the
+        book that is open has it no more."""
+        if self.control is None:
+            return None
+        try:
+            report = read_report(ask(self.control, b"report", WAIT))
+        except (Unreachable, NoReport):
+            return None
+        if report is not None:
+            self.take(report)
+        return report
+
+    def take(self, report: Report) -> None:
+        """Takes the number that the revision has in a report. `NotJudged` where the report has it not."""
+        found = report.named(self.name) if self.name else report.revisions.get(self.number)
+        if found is None:
+            raise NotJudged(f"the switch has no revision {self.name or self.number}")
+        self.name, self.number = found.name, found.number
+
+
+def subject_of(told: str, control: int | None, variables: Mapping[str, str] = os.environ) -> Subject:
+    """The revision that was told by its name or number, or else the one that the controller tells by variables. `NotJudged`
+    where its number can't be known."""
+    name, number = variables.get(NAME, ""), variables.get(NUMBER, "")
+    if told in ("", name) and number.isdigit():
+        return Subject(name, int(number), control or control_of(variables))
+    if not told:
+        raise NotJudged("no revision is told: --revision names it, where no controller runs this")
+    is_number = told.isascii() and told.isdigit()
+    if control is None:
+        if is_number:
+            return Subject("", int(told))
+        raise NotJudged(f"the number of {told} is not known: --control tells the port to ask, or --revision the number")
+    return asked_subject(Subject("" if is_number else told, int(told) if is_number else 0, control))
+
+
+def control_of(variables: Mapping[str, str]) -> int | None:
+    """The control port that the controller tells; None where it tells none. `NotJudged` where it tells no port."""
+    told = variables.get(CONTROL, "")
+    try:
+        return port_of(told) if told else None
+    except argparse.ArgumentTypeError as reason:
+        raise NotJudged(f"{CONTROL}: {reason}") from None
+
+
+def asked_subject(subject: Subject) -> Subject:
+    """A revision with the number and name that the switch tells. `NotJudged` where it tells none."""
+    assert subject.control is not None
+    told = subject.name or subject.number
+    try:
+        report = read_report(ask(subject.control, b"report", FIRST_WAIT))
+    except (Unreachable, NoReport) as reason:
+        raise NotJudged(f"the number of {told} is not known: {reason}") from None
+    if report is None:
+        raise NotJudged(f"the switch has no revision {told}")
+    subject.take(report)
+    return subject

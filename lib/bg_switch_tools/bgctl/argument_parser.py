@@ -1,0 +1,172 @@
+"""The command line of bgctl."""
+import argparse
+import re
+from collections.abc import Callable, Sequence
+from typing import NoReturn
+
+from bg_switch_tools.analysis import cli as analysis_cli
+from bg_switch_tools.bgctl import VERSION
+from bg_switch_tools.bgctl.commands import COMMANDS, END, LINE_WORDS, NAMES, Command
+from bg_switch_tools.bgctl.suggestion import did_you_mean
+from bg_switch_tools.bgctl.target import BEFORE
+from bg_switch_tools.dashboard.cli import listened_port
+from bg_switch_tools.operator.conditions import FORMS
+from bg_switch_tools.switch.arguments import count_of, numbered_port, port_of, seconds_of
+from bg_switch_tools.switch.json_values import MOST_PORTS
+
+DESCRIPTION = "Operates a blue-green switch and its controller."
+VALUED = ("--control", "--plan")  # the options that stand before a command as well, and take a value
+
+
+class Parser(argparse.ArgumentParser):
+    """A parser that says of an option that is none which one was probably meant."""
+    options: Sequence[str] = ()  # the long ones of all commands
+
+    def error(self, message: str) -> NoReturn:
+        unknown = re.search(r"unrecognized arguments: (--[\w-]+)", message)
+        super().error(message + (did_you_mean(unknown[1], self.options) if unknown else ""))
+
+
+def long_options(made: argparse.ArgumentParser) -> list[str]:
+    """The long options of a parser."""
+    return re.findall(r"--[a-z][a-z0-9-]*", made.format_usage())
+
+
+def place_of_command(words: Sequence[str]) -> int | None:
+    """The place of the word that is the command; None where there is none."""
+    waits_for_value = False
+    for place, word in enumerate(words):
+        if not waits_for_value and not word.startswith("-"):
+            return place
+        waits_for_value = not waits_for_value and word in VALUED
+    return None
+
+
+def wrong_command(word: str) -> str:
+    """Why a word is no command."""
+    if word in LINE_WORDS:
+        return f"{word} is a line of the switch: bgctl line {word} .. sends it"
+    return f"there is no command {word}{did_you_mean(word, NAMES) or '; bgctl --help lists them'}"
+
+
+def endpoint_port(text: str) -> int:
+    return numbered_port(text, "the port of an endpoint")
+
+
+class Building:
+    """Builds the parser. `files` is set as `complete` at each argument that is a file, which shtab reads."""
+
+    def __init__(self, files: object) -> None:
+        self.files = files
+        self.parser = Parser(prog="bgctl", description=DESCRIPTION, epilog=END, allow_abbrev=False,
+                             formatter_class=argparse.RawDescriptionHelpFormatter)
+        self.parser.add_argument("--version", action="version", version=f"bgctl {VERSION}")
+        self.add_target(self.parser, BEFORE)
+        self.made: list[argparse.ArgumentParser] = [self.parser]
+        # as argparse's own class, so that a command can have the options of a parser of another tool
+        top: argparse.ArgumentParser = self.parser
+        self.commands = top.add_subparsers(dest="command", metavar="COMMAND", required=True, title="commands")
+
+    def mark_file(self, action: argparse.Action) -> None:
+        if self.files is not None:
+            setattr(action, "complete", self.files)
+
+    def add_target(self, to: argparse.ArgumentParser, prefix: str) -> None:
+        to.add_argument("--control", dest=f"{prefix}control", type=port_of, metavar="PORT", help="the control port, on 127.0.0.1")
+        self.mark_file(to.add_argument("--plan", dest=f"{prefix}plan", metavar="FILE", help="the plan of the controller"))
+
+    def add(self, command: Command, *parents: argparse.ArgumentParser) -> argparse.ArgumentParser:
+        """The parser of a command; with `parents` it has their options alone, and else those of the target."""
+        meaning = command.meaning[0].upper() + command.meaning[1:] + "."
+        made = self.commands.add_parser(
+            command.name, help=command.meaning, description=f"{meaning} {command.more}".strip(), parents=parents,
+            epilog=f"example:\n  {command.example}\n\nbgctl --help has the exit statuses.", allow_abbrev=False,
+            add_help=not parents, formatter_class=argparse.RawDescriptionHelpFormatter)
+        if not parents:
+            self.add_target(made, "")
+            made.add_argument("--request-timeout", type=seconds_of, default=10.0, metavar="SECONDS",
+                              help="how long the switch may take to answer (10)")
+        self.made.append(made)
+        return made
+
+    def whole(self) -> argparse.ArgumentParser:
+        """The parser, once each command has its arguments."""
+        self.parser.options = tuple(dict.fromkeys(option for made in self.made for option in long_options(made)))
+        return self.parser
+
+
+def _json(to: argparse.ArgumentParser) -> None:
+    to.add_argument("--json", action="store_true", help="prints JSON")
+
+
+def _timeout(to: argparse.ArgumentParser, of: str) -> None:
+    to.add_argument("--timeout", type=seconds_of, default=600.0, metavar="SECONDS", help=f"how long {of} waits (600)")
+
+
+def _deploy(to: argparse.ArgumentParser) -> None:
+    to.add_argument("name", metavar="NAME", help="the name of the revision: lower-case letters, digits and hyphens")
+    to.add_argument("ports", metavar="PORT", nargs="+", type=endpoint_port,
+                    help=f"the port of each endpoint, at most {MOST_PORTS}")
+    to.add_argument("--wait", action="store_true", help="waits for the end of the attempt, and ends by it")
+    _timeout(to, "--wait")
+
+
+def _undo(to: argparse.ArgumentParser) -> None:
+    to.add_argument("--to", metavar="NAME|NUMBER", help="the revision to be taken again")
+    to.add_argument("--ports", metavar="PORT", nargs="+", type=endpoint_port, default=[], help="its ports, where no plan has them")
+    to.add_argument("--wait", action="store_true", help="waits for the end of the attempt, and ends by it")
+    _timeout(to, "--wait")
+
+
+def _promote(to: argparse.ArgumentParser) -> None:
+    _json(to)
+    to.add_argument("--full", action="store_true", help="skips the analyses and pauses of the attempt")
+
+
+def _wait(to: argparse.ArgumentParser) -> None:
+    to.add_argument("conditions", metavar="CONDITION", nargs="+", help=FORMS)
+    _json(to)
+    _timeout(to, "it")
+
+
+def _history(to: argparse.ArgumentParser) -> None:
+    _json(to)
+    to.add_argument("--last", type=count_of, default=20, metavar="N", help="how many attempts are shown (20)")
+
+
+def _line(to: argparse.ArgumentParser) -> None:
+    to.add_argument("words", metavar="WORD", nargs="*", help="the words of the line")
+    _json(to)
+    to.add_argument("--yes", action="store_true", help="a `tick` more than a day ahead is sent")
+
+
+def _shutdown(to: argparse.ArgumentParser) -> None:
+    to.add_argument("--yes", action="store_true", help="does not ask")
+
+
+def _dashboard(to: argparse.ArgumentParser) -> None:
+    to.add_argument("--listen", type=listened_port, required=True, metavar="PORT", help="the port of the page")
+    to.add_argument("--log", default="", metavar="FILE", help="the access log of the switch, BG_SWITCH_ACCESS_LOG")
+    to.add_argument("--read-only", action="store_true", help="the page has no buttons, and nothing can be ordered through it")
+
+
+ARGUMENTS: dict[str, Callable[[argparse.ArgumentParser], None]] = {
+    "status": _json, "deploy": _deploy, "undo": _undo, "promote": _promote, "abort": _json, "retry": _json, "wait": _wait,
+    "history": _history, "line": _line, "shutdown": _shutdown, "dashboard": _dashboard}
+
+
+def parser(files: object = None) -> argparse.ArgumentParser:
+    """The parser of bgctl. What `files` is, each argument that is a file is marked with for shtab."""
+    building = Building(files)
+    for command in COMMANDS:
+        if command.name == "analysis":
+            building.add(command, analysis_cli.parser())
+            continue
+        made = building.add(command)
+        if command.name in ("check", "controller"):
+            building.mark_file(made.add_argument("path", metavar="PLAN", nargs="?", help="the plan, in the place of --plan"))
+        if command.name == "controller":
+            made.add_argument("--json", action="store_true", help="writes each line of the log as an object of JSON")
+        if command.name in ARGUMENTS:
+            ARGUMENTS[command.name](made)
+    return building.whole()

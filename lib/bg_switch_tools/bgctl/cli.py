@@ -1,0 +1,166 @@
+"""bin/bgctl: one command for an operator of the switch and of its controller."""
+import argparse
+import importlib
+import os
+import sys
+from collections.abc import Callable, Sequence
+
+from bg_switch_tools.analysis import cli as analysis_cli
+from bg_switch_tools.bgctl.argument_parser import parser, place_of_command, wrong_command
+from bg_switch_tools.bgctl.commands import NAMES, NEWCOMER
+from bg_switch_tools.bgctl.deploy import deploy, tell_pause, undo
+from bg_switch_tools.bgctl.exit_statuses import DONE, NO_ANSWER, REFUSED
+from bg_switch_tools.bgctl.history_table import show
+from bg_switch_tools.bgctl.session import Session, tell
+from bg_switch_tools.bgctl.target import Target, Unusable
+from bg_switch_tools.controller import cli as controller_cli
+from bg_switch_tools.controller.pause import PauseFile
+from bg_switch_tools.controller.plan import PlannedRevision
+from bg_switch_tools.dashboard import cli as dashboard_cli
+from bg_switch_tools.operator.cli import INTERRUPTED
+from bg_switch_tools.operator.conditions import Conditions, WrongCondition
+from bg_switch_tools.switch.connection import Unreachable
+from bg_switch_tools.switch.reports import NoReport
+
+PAUSED_BY_PLAN = "only a controller is paused"
+ASKED = "_ARGCOMPLETE"  # the variable by which argcomplete's code for a shell asks for completions
+
+
+class Run:
+    """A run of one command, by the words that were given."""
+
+    def __init__(self, given: argparse.Namespace, words: Sequence[str]) -> None:
+        self.given = given
+        self.words = words  # those after the command
+        self.target = Target(given)
+
+    def session(self) -> Session:
+        return Session(self.target, self.given)
+
+    def status(self) -> int:
+        if self.target.path:
+            tell_pause(self.target.path)
+        return self.session().status()
+
+    def watch(self) -> int:
+        return self.session().watch()
+
+    def wait(self) -> int:
+        return self.session().wait_for(self.given.conditions)
+
+    def deploy(self) -> int:
+        return deploy(self.session(), self.target, PlannedRevision(self.given.name, tuple(self.given.ports)), self.given.wait)
+
+    def undo(self) -> int:
+        return undo(self.session(), self.target, self.given.to, self.given.ports, self.given.wait)
+
+    def promote(self) -> int:
+        return self.session().line("promote full" if self.given.full else "promote")
+
+    def abort(self) -> int:
+        return self.session().line("abort")
+
+    def retry(self) -> int:
+        return self.session().line("retry")
+
+    def line(self) -> int:
+        if self.given.words:
+            return self.session().line(" ".join(self.given.words))
+        return self.session().carry_out(line.removesuffix(b"\n") for line in sys.stdin.buffer)
+
+    def prompt(self) -> int:
+        return self.session().prompt()
+
+    def shutdown(self) -> int:
+        return self.session().shut_down()
+
+    def history(self) -> int:
+        return show(self.target.needed_path("the controller of a plan keeps the history"), self.given.last, self.given.json)
+
+    def pause(self) -> int:
+        paused = PauseFile(self.target.needed_path(PAUSED_BY_PLAN)).pause()
+        print(f"the controller is {paused.text()}")
+        return DONE
+
+    def resume(self) -> int:
+        was_paused = PauseFile(self.target.needed_path(PAUSED_BY_PLAN)).resume()
+        print("the controller goes on" if was_paused else "the controller was not paused")
+        return DONE
+
+    def check(self) -> int:
+        return controller_cli.check(self.plan_path("a plan is judged"))
+
+    def controller(self) -> int:
+        return controller_cli.run(self.plan_path("a controller runs a plan"), self.given.json)
+
+    def plan_path(self, why: str) -> str:
+        """The plan that stands after the command, or else that of the target."""
+        return self.given.path or self.target.needed_path(why)
+
+    def analysis(self) -> int:
+        port = None if self.given.control else self.target.known_port()
+        return analysis_cli.main([*self.words, *(["--control", str(port)] if port else [])])
+
+    def dashboard(self) -> int:
+        words = [str(self.target.port()), "--listen", str(self.given.listen), "--log", self.given.log]
+        return dashboard_cli.main([*words, *(["--read-only"] if self.given.read_only else [])])
+
+    def run(self) -> int:
+        """Carries the command out. Gives the exit status."""
+        carry_out: Callable[[], int] = getattr(self, self.given.command)
+        return carry_out()
+
+
+def judge(made: argparse.ArgumentParser, given: argparse.Namespace) -> None:
+    """Ends the run where its words are wrong in a way that only their meaning shows."""
+    if given.command == "wait":
+        try:
+            Conditions(given.conditions)
+        except WrongCondition as wrong:
+            made.error(str(wrong))
+
+
+def complete() -> int:
+    """Answers a shell that asks for completions by argcomplete's protocol. Gives the exit status."""
+    try:
+        importlib.import_module("argcomplete").autocomplete(parser())
+    except ImportError:
+        tell("completion needs python3-argcomplete: apt-get install python3-argcomplete")
+    return REFUSED
+
+
+def guarded(run: Callable[[], int]) -> int:
+    """Runs, and gives the exit status. What prevents it is told in a sentence."""
+    try:
+        status = run()
+        sys.stdout.flush()
+        return status
+    except (Unreachable, NoReport, Unusable) as reason:
+        tell(str(reason))
+        return NO_ANSWER
+    except KeyboardInterrupt:
+        print()
+        return INTERRUPTED
+    except BrokenPipeError:
+        os.dup2(os.open(os.devnull, os.O_WRONLY), sys.stdout.fileno())
+    except OSError as error:
+        tell(f"{error.filename or 'the input or the output'}: {error.strerror}")
+    return REFUSED
+
+
+def main(words: Sequence[str]) -> int:
+    if ASKED in os.environ:
+        return complete()
+    if not words:
+        print(NEWCOMER)
+        return DONE
+    made = parser()
+    place = place_of_command(words)
+    if place is not None and words[place] not in NAMES:
+        tell(wrong_command(words[place]))
+        return NO_ANSWER
+    given = made.parse_args(words)
+    judge(made, given)
+    if hasattr(sys.stdout, "reconfigure"):
+        sys.stdout.reconfigure(errors="replace")
+    return guarded(Run(given, [] if place is None else words[place + 1:]).run)

@@ -1,0 +1,21 @@
+"""The exit statuses of bgctl. `bgctl --help` and its manual page show this table, and no other page repeats it."""
+from bg_switch_tools.operator.cli import DARK, INTERRUPTED
+
+DONE, REFUSED, NO_ANSWER = 0, 1, 2
+FAULT = 70
+
+TABLE = (
+    (DONE, "it was carried out: the conditions of a wait hold, the revision of --wait is stable, an analysis has succeeded"),
+    (REFUSED, "it was refused, or can't come any more: the attempt was aborted or replaced, the plan is wrong, a file can't be "
+     "written, an analysis has failed, the state is aborted or no book is open (status)"),
+    (NO_ANSWER, "the switch gave no answer in time, a wait has reached its timeout, an analysis can't judge, a plan that was named "
+     "can't be read, the control port or the revision of an undo is not known, or the words are wrong"),
+    (DARK, "no endpoint of the active revision is available, so that clients are answered 503 (status)"),
+    (FAULT, "the controller has ended by a fault of its own (controller)"),
+    (INTERRUPTED, "it was ended by ctrl-C"),
+)
+
+
+def listed() -> str:
+    """The table as text."""
+    return "\n".join(["exit statuses:", *(f"  {status:<4} {meaning}" for status, meaning in TABLE)])

@@ -1,0 +1,253 @@
+"""bin/controller: runs a rollout by a plan, or judges a plan."""
+import argparse
+import os
+import signal
+import sys
+import threading
+import time
+from collections.abc import Sequence
+from types import FrameType
+
+from bg_switch_tools.controller.book_opener import Unfit
+from bg_switch_tools.controller.controller import Controller
+from bg_switch_tools.controller.log import Log
+from bg_switch_tools.controller.plan import Plan
+from bg_switch_tools.controller.plan_edit import deploy_by_plan
+from bg_switch_tools.controller.plan_file import PlanFile, read_whole_plan
+from bg_switch_tools.controller.plan_limits import missing_commands
+from bg_switch_tools.controller.plan_reader import WrongPlan
+from bg_switch_tools.controller.probes import Probes
+from bg_switch_tools.controller.state_file import IsLocked, StateLock
+from bg_switch_tools.switch.connection import Connection, Unreachable
+from bg_switch_tools.switch.reports import NoReport
+
+USAGE = """bin/controller [--json] PLAN              runs the plan, up to SIGTERM or ctrl-C
+       bin/controller check PLAN                judges it: prints its problems, and carries nothing out
+       bin/controller deploy PLAN NAME PORT..   makes a revision the last one of the plan, which a running controller then deploys"""
+ABOUT = """
+The controller looks at the switch five times a second. It ticks each second (the moment is the number of seconds since the book
+was opened first), tells the switch which ports are down and how many endpoints of each revision are up, runs the analysis that
+the phase asks for and hands its verdict in, starts and stops endpoints where the plan has commands for it, and deploys the
+plan's last revision where the plan has just named it. Where no book is open it opens one: with the revision that was stable, by
+the state file beside the plan, and else with the plan's first revision. The plan is read again when its file changes: a deploy
+is an edit of it. What is done by hand beside it (bin/operator) stands: promote, abort, retry, an undo.
+
+A plan:
+  {"control": 8082,                                         the control port of the switch
+   "active": 8080, "preview": 8081,                         its other ports, which no revision may have
+   "health": {"path": "/", "interval": 2,                   asked of each endpoint every so many seconds; it is down after
+              "timeout": 2, "failures": 2},                 so many answers in a row that aren't, whole and in time, 200
+                                                            to 399
+   "analyses": {"pre": ["./smoke_test.sh", "8081"],         the commands of the analyses before and after the switch, run
+                "post": ["./smoke_test.sh", "8080"],        in the plan's folder: status 0 is successful, 1 failed, and
+                "seconds": 600},                            any other, or no end in so many seconds, error
+   "progress": {"seconds": 600, "abort": false,             an attempt for which no further endpoint comes up in so many
+                                                            seconds is told in the log, and aborted where this says so
+                "outage": 5},                               one that has switched ends after so many seconds in which no
+                                                            endpoint of it was up
+   "redispatch": true,                                      false for a switch that was started without --redispatch
+   "start": ["systemctl", "start", "web@{revision}-{port}"],
+   "stop": ["systemctl", "stop", "web@{revision}-{port}"],  run for each port of a revision, also with {number}, the place
+                                                            of the port from 1: before its deploy and where it is down;
+                                                            once it is scaled down or removed
+   "notify": ["./tell_the_chat.sh"],                        gets each line of the log on its standard input, as an object
+                                                            of JSON
+   "timeout": 60,                                           seconds within which each of these three has to end
+   "revisions": [{"name": "web-v1", "ports": [9101, 9102]}, from the first one to the one that is to be live
+                 {"name": "web-v2", "ports": [9201, 9202]}]}
+What "health" and "progress" leave out is as above; an analysis that is left out waits for a verdict by hand; other keys that
+are left out do nothing. A command finds the name, the number and the ports of the revision that it judges in BG_REVISION,
+BG_REVISION_NUMBER and BG_PORTS; bin/analysis is one that judges by the access log. A plan may be in YAML where python3-yaml is
+installed. docs/OPERATING.md says what each line of the log means.
+
+Exit status: 0 after SIGTERM or ctrl-C, and for a plan in which `check` finds nothing wrong; 1 where the plan is wrong when it
+starts, by `check` or after `deploy`, where the switch can't be opened with it, and where another controller runs it; 2 where the
+words are wrong.
+"""
+CONNECT, ANSWER = 1.0, 10.0  # seconds within which a connection is taken, and for the answers of a turn
+RETRY = 0.2  # seconds between two tries where the switch gives no answer
+MINUTE = 60.0
+LOOK = 0.05  # seconds between two looks at whether a signal has come
+LONGEST_END = 1.2  # seconds for the turn to end after a signal
+
+
+class Silence:
+    """Tells in the log when the switch gives no answer: when that begins, each minute, and when it ends."""
+
+    def __init__(self, log: Log) -> None:
+        self.log = log
+        self.since = self.next = 0.0
+        self.lasts = False
+
+    def begin(self, reason: str) -> None:
+        now = time.monotonic()
+        if not self.lasts:
+            self.lasts, self.since, self.next = True, now, now + MINUTE
+            self.log.say("switch", f"no answer: {reason}")
+        elif now >= self.next:
+            self.next += MINUTE
+            self.log.say("switch", f"no answer for {now - self.since:.0f} seconds: {reason}")
+
+    def end(self) -> None:
+        if self.lasts:
+            self.log.say("switch", f"answers again, after {time.monotonic() - self.since:.0f} seconds")
+        self.lasts = False
+
+
+class Runner:
+    """Takes one turn after the other, in a thread of its own, until it is stopped."""
+
+    def __init__(self, file: PlanFile, plan: Plan, log: Log) -> None:
+        self.file = file
+        self.log = log
+        self.controller = Controller(file.path, plan, log, Probes())
+        self.silence = Silence(log)
+        self.stopping = threading.Event()
+        self.connection: Connection | None = None
+        self.unfit = ""
+        self.has_fault = True  # until the turns have ended as they should
+        self.thread = threading.Thread(target=self._run, daemon=True)
+
+    def _run(self) -> None:
+        pause = 0.0
+        while not self.unfit and not self.stopping.wait(pause):
+            self._read_again()
+            pause = self._turn()
+        self.controller.end()
+        if not self.unfit:
+            self.log.say("end", "ends; the switch goes on")
+        self.controller.notifier.end()
+        self.has_fault = False
+
+    def _read_again(self) -> None:
+        """Takes a plan that has changed. Where it is wrong the one before stands."""
+        try:
+            if (plan := self.file.read()) is not None:
+                self.controller.take_plan(plan)
+        except WrongPlan as wrong:
+            for problem in wrong.problems:
+                self.log.say("plan", f"the plan is wrong, so the one before stands: {problem}")
+
+    def _turn(self) -> float:
+        """Gives the seconds until the next turn."""
+        try:
+            with Connection(self.controller.plan.control, CONNECT) as connection:
+                self.connection = connection
+                connection.allow(ANSWER)
+                self._read_again()  # the plan may have changed while the switch was down
+                pause = self.controller.turn(connection) if connection.port == self.controller.plan.control else 0.0
+            self.silence.end()
+            return pause
+        except (Unreachable, NoReport) as reason:
+            if not self.stopping.is_set():
+                self.silence.begin(str(reason))
+        except Unfit as reason:
+            self.unfit = str(reason)
+        finally:
+            self.connection = None
+        return RETRY
+
+    def stop(self) -> None:
+        """Ends the turns, within a second or so: a connection that waits is cut, and an analysis that runs is stopped."""
+        self.stopping.set()
+        if connection := self.connection:
+            connection.cut()
+        self.thread.join(LONGEST_END)
+        if self.has_fault:
+            self.controller.launcher.begin_end()
+            self.controller.analyses.end_at_last()
+
+
+def tell(text: str) -> None:
+    """Tells the user something beside the log."""
+    print(f"controller: {text}", file=sys.stderr)
+
+
+def tell_problems(title: str, wrong: WrongPlan) -> None:
+    """Tells what is wrong with a plan, a line for each problem."""
+    tell("\n".join([f"{title}:", *(f"  {problem}" for problem in wrong.problems)]))
+
+
+def run(path: str, as_json: bool) -> int:
+    """Runs a plan, unless another controller does. Gives the exit status."""
+    file = PlanFile(path)
+    try:
+        plan = file.first()
+        lock = StateLock(path)
+    except WrongPlan as wrong:
+        tell_problems(f"{path} is no plan", wrong)
+        return 1
+    except IsLocked as reason:
+        tell(str(reason))
+        return 1
+    except OSError as error:
+        tell(f"no lock can be had beside {path}, so a second controller is not noticed: {error.strerror}")
+        return run_locked(file, plan, as_json)
+    try:
+        return run_locked(file, plan, as_json)
+    finally:
+        lock.release()
+
+
+def run_locked(file: PlanFile, plan: Plan, as_json: bool) -> int:
+    """Runs a plan until a signal comes. Gives the exit status."""
+    signals: list[int] = []
+
+    def note(number: int, _: FrameType | None) -> None:
+        signals.append(number)
+    for number in (signal.SIGTERM, signal.SIGINT):
+        signal.signal(number, note)
+    runner = Runner(file, plan, Log(sys.stdout, as_json))
+    runner.thread.start()
+    while runner.thread.is_alive() and not signals:
+        time.sleep(LOOK)
+    if runner.unfit:
+        tell(runner.unfit)
+        return 1
+    runner.stop()
+    return 70 if runner.has_fault and not runner.thread.is_alive() else 0
+
+
+def check(path: str) -> int:
+    """Prints what is wrong with a plan, and which of its commands are not there. Gives the exit status."""
+    try:
+        problems = missing_commands(read_whole_plan(path), os.path.dirname(os.path.abspath(path)))
+    except WrongPlan as wrong:
+        problems = wrong.problems
+    print("\n".join(problems) if problems else f"{path} is a plan")
+    return 1 if problems else 0
+
+
+def deploy(path: str, name: str, ports: Sequence[str]) -> int:
+    """Makes a revision the last one of a plan, which a controller then deploys. Gives the exit status."""
+    try:
+        print(deploy_by_plan(path, name, [port_or_none(port) for port in ports]))
+    except WrongPlan as wrong:
+        tell_problems(f"{path} stays as it is, since with {name} it would be no plan", wrong)
+        return 1
+    except OSError as error:
+        tell(f"{path} can't be written: {error.strerror}")
+        return 1
+    return 0
+
+
+def port_or_none(text: str) -> int:
+    """A port as a word; 0, which no plan may have, where it is no number."""
+    return int(text) if text.isascii() and text.isdigit() and len(text) <= 9 else 0
+
+
+def main(words: Sequence[str]) -> int:
+    parser = argparse.ArgumentParser(prog="controller", usage=USAGE, description="Runs a rollout by a plan.", epilog=ABOUT,
+                                     formatter_class=argparse.RawDescriptionHelpFormatter)
+    parser.add_argument("--json", action="store_true", help="writes each line of the log as an object of JSON")
+    parser.add_argument("words", nargs="+", metavar="[check | deploy] PLAN", help="the file of the plan; `check` alone judges it, "
+                        "`deploy` makes a revision its last one")
+    given = parser.parse_args(words)
+    if len(given.words) == 1 and given.words[0] not in ("check", "deploy"):
+        return run(given.words[0], given.json)
+    if len(given.words) == 2 and given.words[0] == "check" and not given.json:
+        return check(given.words[1])
+    if len(given.words) >= 4 and given.words[0] == "deploy" and not given.json:
+        return deploy(given.words[1], given.words[2], given.words[3:])
+    parser.error("the file of one plan is wanted, after the word check where it is to be judged alone, and between the word deploy "
+                 "and a revision where that is to be deployed")

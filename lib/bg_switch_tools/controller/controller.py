@@ -1,0 +1,185 @@
+"""The turns of a controller: it ticks, reports availability, runs analyses, starts and stops endpoints, and deploys by its
+plan."""
+import os
+import time
+
+from bg_switch_tools.controller.analysis_runner import AnalysisRunner
+from bg_switch_tools.controller.availability import Availability
+from bg_switch_tools.controller.book import AGAIN, Book
+from bg_switch_tools.controller.book_opener import Opening
+from bg_switch_tools.controller.history_recorder import Recorder
+from bg_switch_tools.controller.launcher import Launcher
+from bg_switch_tools.controller.log import Log, Once
+from bg_switch_tools.controller.memory import Memory
+from bg_switch_tools.controller.notifier import Notifier
+from bg_switch_tools.controller.pause import Pause
+from bg_switch_tools.controller.plan import Plan, PlannedRevision
+from bg_switch_tools.controller.probes import Probes
+from bg_switch_tools.controller.progress import ProgressClock
+from bg_switch_tools.switch.connection import Connection
+from bg_switch_tools.switch.lines import was_carried_out
+from bg_switch_tools.switch.moments import Clock
+from bg_switch_tools.switch.reports import Report
+
+TURN = 0.2  # seconds between two turns: an order of somebody else is known after that, and kept
+SOON = 0.05  # seconds until the next turn where something is awaited that comes soon
+
+
+class Controller:
+    """What is done in a turn, over a connection of its own."""
+
+    def __init__(self, path: str, plan: Plan, log: Log, probes: Probes) -> None:
+        folder = os.path.dirname(os.path.abspath(path))
+        self.plan = plan
+        self.log = log
+        self.probes = probes
+        self.once = Once(log)
+        self.notifier = Notifier(folder, log, plan.commands)
+        log.tell = self.notifier.take
+        self.memory = Memory(path, plan, log)
+        self.pause = Pause(path, log)
+        self.history = Recorder(path, log, self.memory.state.deployed)
+        self.book = Book(log)
+        self.clock = Clock()
+        self.availability = Availability(log, self.once, probes)
+        self.opening = Opening(log, self.memory, self.book, self.availability)
+        self.analyses = AnalysisRunner(folder, log, self.once, self.memory, probes)
+        self.launcher = Launcher(folder, log, self.memory, probes)
+        self.progress = ProgressClock()
+        self.next_deploy = 0.0
+        self._watch_endpoints()
+
+    def _watch_endpoints(self) -> None:
+        revisions = [*self.plan.revisions, *self.memory.revisions(self.plan).values()]
+        self.probes.watch([port for revision in revisions for port in revision.ports], self.plan.health)
+
+    def take_plan(self, plan: Plan) -> None:
+        """Goes on by another plan."""
+        self.log.say("plan", f"the plan has changed: its control port is {plan.control}, its last revision {plan.last.name}")
+        if plan.control != self.plan.control:
+            self.book.leave()
+            self._forget_book()
+            self.opening.sent = None
+            self.launcher.former.add(self.plan.control)
+        self.plan, self.next_deploy = plan, 0.0
+        self.opening.forget_book()
+        self.analyses.take_plan(plan)
+        self.notifier.commands = plan.commands
+        self._watch_endpoints()
+
+    def turn(self, connection: Connection) -> float:
+        """One turn. Gives the seconds until the next one. `Unreachable` where the switch stops answering in the middle."""
+        self.pause.look()
+        report = self._open_book(connection)
+        if report is None:
+            return SOON if self.opening.is_early() else TURN
+        self.opening.check_sizes(self.plan, report)
+        self.history.take_in(report, self.memory.revisions(self.plan))
+        report = self._tick(connection, report)
+        for step in (self._adopt, self._report_availability, self._judge, self._limit_progress, self._launch, self._deploy):
+            step(connection, report)
+        if self.book.has_ordered:
+            report = self.book.open_report(connection)
+        self.memory.take_in(self.plan, report)
+        self._watch_endpoints()
+        return TURN
+
+    def end(self) -> None:
+        """The last thing that is done: the commands that run are stopped, and the moment is kept."""
+        self.launcher.begin_end()
+        self.analyses.end_at_last()
+        self.launcher.end()
+        if not self.memory.is_fresh:
+            self.memory.write()
+
+    def _open_book(self, connection: Connection) -> Report | None:
+        """The report of the book, which is opened where none is open; None where that has to wait."""
+        report = self.book.report(connection)
+        if self.book.was_lost:
+            self._forget_book()
+        if report is not None:
+            self.opening.settle(self.plan, report)
+            return report
+        self.launcher.turn(self.plan, None, self.memory.revisions(self.plan), self.memory.to_open(self.plan))
+        if not self.opening.open(connection, self.plan):
+            return None
+        self.clock.begin_at(self.memory.state.moment)
+        return self.book.open_report(connection)
+
+    def _forget_book(self) -> None:
+        self.analyses.end("its book is gone")
+        self.history.lose_book()
+        self.book.was_lost = False
+        self.once.clear()
+        self.availability.forget_book()
+        self.opening.forget_book()
+        self.next_deploy = 0.0
+
+    def _tick(self, connection: Connection, report: Report) -> Report:
+        """Ticks each second. Where somebody has ticked further, or the book was open before, the seconds count on from there."""
+        self.clock.follow(report.moment)
+        if self.clock.moment() <= report.moment:
+            return report
+        self.book.order(connection, f"tick {self.clock.moment()}")
+        return self.book.open_report(connection)
+
+    def _adopt(self, _: Connection, report: Report) -> None:
+        """Without a state file, a book that is open is gone on with as it stands."""
+        last = self.plan.last
+        existing = report.named(last.name)
+        if not self.memory.is_fresh:
+            return
+        if existing is None:
+            self.log.say("plan", f"{last.name} does not exist yet, so it is deployed")
+        elif existing != report.newest:
+            self.log.say("plan", f"{last.name} exists and is not the newest revision, so it is taken for undone and not deployed")
+        self.memory.set_deployed(last if existing else None)
+
+    def _report_availability(self, connection: Connection, report: Report) -> None:
+        known = self.memory.revisions(self.plan)
+        self.availability.report(self.book, connection, self.plan, report, known)
+        self.availability.watch_live(self.book, connection, self.plan, report, known)
+
+    def _judge(self, connection: Connection, report: Report) -> None:
+        self.analyses.judge(self.book, connection, self.plan, report, self.pause.is_on)
+
+    def _limit_progress(self, connection: Connection, report: Report) -> None:
+        """Tells of an attempt whose endpoints are not there in time, and aborts it where the plan says so."""
+        newest, limit = report.newest, self.plan.progress
+        waited = self.progress.waited(report, time.monotonic())
+        if waited < limit.seconds:
+            self.once.forget("progress", newest)
+            return
+        self.once.say("progress", newest, f"has made no progress for {limit.seconds:g} seconds: {newest.available} of "
+                      f"{newest.desired} endpoints are up")
+        if limit.abort:
+            self.book.order(connection, "abort")
+
+    def _coming(self, report: Report) -> PlannedRevision | None:
+        """The plan's last revision, where it is to be deployed: once, so that what is undone by hand stays undone until the plan
+        names another."""
+        last, deployed = self.plan.last, self.memory.state.deployed
+        if last == deployed:
+            return None
+        is_other_template = deployed is not None and deployed.name == last.name
+        if report.newest.name == last.name and not is_other_template:
+            self.memory.set_deployed(last)
+            return None
+        return last
+
+    def _launch(self, _: Connection, report: Report) -> None:
+        self.launcher.turn(self.plan, report, self.memory.revisions(self.plan), self._coming(report))
+
+    def _deploy(self, connection: Connection, report: Report) -> None:
+        """Deploys the plan's last revision, once its endpoints were started."""
+        last = self._coming(report)
+        if last is None or self.pause.is_on or time.monotonic() < self.next_deploy or not self.launcher.is_ready(self.plan, last):
+            return
+        self.history.announce(last)
+        reply = self.book.order(connection, f"deploy {last.words}")
+        if was_carried_out(reply):
+            self.memory.set_begun(last)
+        elif reply == "refused SameTemplate":
+            self.memory.set_deployed(last)
+        else:
+            self.next_deploy = time.monotonic() + AGAIN

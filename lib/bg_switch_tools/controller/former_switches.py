@@ -1,0 +1,66 @@
+"""The switches that a plan named before, at other control ports: their requests may still be open after an upgrade."""
+import socket
+import time
+
+from bg_switch_tools.controller.memory import Memory
+from bg_switch_tools.switch.connection import HOST, Unreachable, ask
+from bg_switch_tools.switch.reports import NoReport, Report, read_report
+
+PAUSE = 2.0  # seconds between two looks
+SELECTING = ("active", "preview", "stable")  # what can send requests to a revision
+CONNECT, ANSWER = 0.3, 1.0  # seconds within which a switch takes a connection, and answers
+
+
+def needed_names(report: Report) -> list[str]:
+    """The revisions whose endpoints a report needs: those that a service selects, that are sized, or that have requests open. An
+    aborted revision is the newest one, and no service selects it."""
+    selected = [report.selected[service] for service in SELECTING]
+    return [revision.name for number, revision in report.revisions.items() if revision.desired or revision.open or number in selected]
+
+
+def _is_gone(port: int) -> bool:
+    """Whether nothing listens at a port any more."""
+    try:
+        socket.create_connection((HOST, port), CONNECT).close()
+    except ConnectionRefusedError:
+        return True
+    except OSError:
+        pass
+    return False
+
+
+def _names_at(port: int) -> set[str] | None:
+    """The revisions that a switch needs; None where it does not answer."""
+    try:
+        report = read_report(ask(port, b"report", ANSWER))
+    except Unreachable:
+        return None
+    except NoReport:
+        return set()
+    return set(needed_names(report)) if report else set()
+
+
+class FormerSwitches:
+    """Asks them which revisions they still need, until nothing listens at their ports."""
+
+    def __init__(self, memory: Memory) -> None:
+        self.memory = memory
+        self.next = 0.0
+        self.needed: set[str] | None = None
+
+    def add(self, port: int) -> None:
+        """The plan names another control port in place of this one."""
+        self.memory.set_former((*self.memory.state.former, port))
+        self.next = 0.0
+
+    def names(self, control: int) -> set[str] | None:
+        """The names of the revisions that are needed there; None where one of the switches does not tell, so that any may be.
+        `control` is the port that the plan names now."""
+        if not self.memory.state.former:
+            return set()
+        if time.monotonic() >= self.next:
+            self.next = time.monotonic() + PAUSE
+            self.memory.set_former(tuple(port for port in self.memory.state.former if port != control and not _is_gone(port)))
+            told = [_names_at(port) for port in self.memory.state.former]
+            self.needed = None if None in told else {name for names in told if names for name in names}
+        return self.needed

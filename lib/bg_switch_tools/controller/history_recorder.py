@@ -1,0 +1,100 @@
+"""Writes the history of a plan's rollout, from the reports that its controller reads."""
+from bg_switch_tools.controller.attempts import (ABORTED, DEPLOYED, ENDED, LIVE, LOST, OPENED, REPLACED, RETRIED, STABLE,
+                                            UNDONE, Attempt, Attempts, Event)
+from bg_switch_tools.controller.history_file import HistoryFile
+from bg_switch_tools.controller.log import Log, local_time
+from bg_switch_tools.controller.memory import Revisions
+from bg_switch_tools.controller.plan import PlannedRevision
+from bg_switch_tools.controller.plan_author import Author
+from bg_switch_tools.switch.reports import Report, Revision
+
+PLAN, LINE = "plan", "line"  # by whom: an edit of the plan by other means than bgctl; a line that somebody sent to the switch
+
+
+class Recorder:
+    """Notes what a report shows that the ones before have not shown."""
+
+    def __init__(self, plan_path: str, log: Log, deployed: PlannedRevision | None) -> None:
+        """`deployed` is what a controller before this one has deployed by the plan: it may have ended before it noted that."""
+        self.file = HistoryFile(plan_path)
+        self.author = Author(plan_path)
+        self.log = log
+        self.is_failing = False
+        try:
+            self.attempts = self.file.read()[0]
+        except OSError as error:
+            self.attempts = Attempts()
+            self._fail(error)
+        newest = self.attempts.newest
+        is_noted = deployed is None or newest is not None and newest.name == deployed.name
+        self.announced = deployed.name if deployed and not is_noted else ""  # what the controller deploys by its plan
+
+    def announce(self, revision: PlannedRevision) -> None:
+        """The controller is about to deploy this revision by its plan."""
+        self.announced = revision.name
+
+    def lose_book(self) -> None:
+        """The book is gone: nothing of it is live, and its attempt does not go on."""
+        running = self._running()
+        if running:
+            self._note(Event(local_time(), ENDED, running.name, running.number, how=LOST))
+        if self.attempts.all and not self.attempts.is_lost:
+            self._note(Event(local_time(), LOST))
+
+    def take_in(self, report: Report, known: Revisions) -> None:
+        """Notes what this report shows. `known` are the revisions whose ports are known."""
+        newest = report.newest
+        beginning = self._beginning(report)
+        if beginning:
+            self._end_the_one_before(report)
+            ports = known[newest.name].ports if newest.name in known else ()
+            self._note(Event(local_time(), beginning, newest.name, newest.number, self._by(beginning, newest, known), ports=ports))
+        if not report.is_running and self._running():
+            self._note(Event(local_time(), ENDED, newest.name, newest.number, how=ABORTED if report.phase == "aborted" else STABLE))
+        active, live = report.service("active"), self.attempts.live
+        if live is None or not live.is_of(active.name, active.number):
+            self._note(Event(local_time(), LIVE, active.name, active.number))
+
+    def _running(self) -> Attempt | None:
+        """The attempt that runs, by the events so far."""
+        newest = self.attempts.newest
+        return newest if newest and not newest.how else None
+
+    def _beginning(self, report: Report) -> str:
+        """How an attempt has begun since the report before; empty where none has."""
+        before, newest = self.attempts.newest, report.newest
+        if before is None or self.attempts.is_lost:
+            return OPENED if newest == report.stable else DEPLOYED
+        if not before.is_of(newest.name, newest.number):
+            return DEPLOYED
+        return RETRIED if report.is_running and before.how else ""
+
+    def _end_the_one_before(self, report: Report) -> None:
+        before = self._running()
+        if before:
+            how = UNDONE if report.newest == report.stable else REPLACED
+            self._note(Event(local_time(), ENDED, before.name, before.number, how=how))
+
+    def _by(self, beginning: str, newest: Revision, known: Revisions) -> str:
+        """By whom it was deployed: the author of the plan's edit, or `plan`, or `line`."""
+        if beginning == OPENED:
+            return PLAN if newest.name in known else LINE
+        if beginning == RETRIED or self.announced != newest.name:
+            return LINE
+        self.announced = ""
+        return self.author.name() or PLAN
+
+    def _note(self, event: Event) -> None:
+        """Adds an event. Where the file can't be written, the event is lost there, and the log tells it once."""
+        self.attempts.take(event)
+        try:
+            self.file.append(event)
+        except OSError as error:
+            self._fail(error)
+            return
+        self.is_failing = False
+
+    def _fail(self, error: OSError) -> None:
+        if not self.is_failing:
+            self.log.say("state", f"the history can't be kept in {self.file.path}: {error.strerror}")
+        self.is_failing = True

@@ -1,0 +1,80 @@
+"""The controller's log: a line of text, or an object of JSON, for each thing that happens."""
+import contextlib
+import json
+import threading
+import time
+from collections.abc import Callable
+from typing import TextIO
+
+from bg_switch_tools.switch.lines import meaning_of, was_carried_out, with_meaning
+from bg_switch_tools.switch.reports import Revision
+
+
+def local_time() -> str:
+    """The local time with its zone, as ISO 8601 has it: 2026-11-25T18:03:12+01:00."""
+    text = time.strftime("%Y-%m-%dT%H:%M:%S%z")
+    return f"{text[:-2]}:{text[-2:]}"
+
+
+class Log:
+    """Writes the log. `moment` is the moment of the latest report, which each line is given; None before the first one."""
+
+    def __init__(self, out: TextIO, as_json: bool) -> None:
+        self.out = out
+        self.as_json = as_json
+        self.moment: int | None = None
+        self.lock = threading.Lock()
+        self.tell: Callable[[dict[str, object]], None] | None = None  # is given each line as an object
+
+    def say(self, event: str, text: str) -> None:
+        """Writes a line. `event` is its kind, which only JSON shows: plan, switch, state, change, analysis, outage, command, end."""
+        self._write(event, text, {})
+
+    def order(self, line: str, reply: str) -> None:
+        """Writes the line for an order and its reply."""
+        told = {"line": line, "reply": reply, "carried_out": was_carried_out(reply), "meaning": meaning_of(reply)}
+        self._write("order", f"{line} => {with_meaning(reply)}", told)
+
+    def say_beside(self, event: str, text: str) -> None:
+        """Writes a line that `tell` is not given. Any thread may call this."""
+        self._print(self._object(event, text, {}))
+
+    def _object(self, event: str, text: str, told: dict[str, object]) -> dict[str, object]:
+        return {"time": local_time(), "moment": self.moment, "event": event, "text": text, **told}
+
+    def _write(self, event: str, text: str, told: dict[str, object]) -> None:
+        whole = self._object(event, text, told)
+        self._print(whole)
+        if self.tell:
+            self.tell(whole)
+
+    def _print(self, whole: dict[str, object]) -> None:
+        moment = "" if whole["moment"] is None else f"moment {whole['moment']}: "
+        text = json.dumps(whole) if self.as_json else f"{whole['time']} {moment}{whole['text']}"
+        # a log that nobody takes any more ends no controller
+        with contextlib.suppress(OSError, ValueError), self.lock:
+            print(text, file=self.out, flush=True)
+
+
+class Once:
+    """What is told of a revision, and told once. What a revision is told by is its number, so a new book begins anew."""
+
+    def __init__(self, log: Log) -> None:
+        self.log = log
+        self.told: set[tuple[str, int]] = set()
+
+    def say(self, kind: str, revision: Revision, text: str, event: str = "plan") -> None:
+        """Writes that this holds of a revision, unless a line of this kind was written for it already."""
+        if (kind, revision.number) not in self.told:
+            self.told.add((kind, revision.number))
+            self.log.say(event, f"{revision.title()} {text}")
+
+    def has_said(self, kind: str, revision: Revision) -> bool:
+        return (kind, revision.number) in self.told
+
+    def forget(self, kind: str, revision: Revision) -> None:
+        """A line of this kind is written for the revision again the next time."""
+        self.told.discard((kind, revision.number))
+
+    def clear(self) -> None:
+        self.told.clear()

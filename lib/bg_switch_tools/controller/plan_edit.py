@@ -1,0 +1,69 @@
+"""Edits of a plan's file, which a controller that runs takes up. A deploy is such an edit."""
+import contextlib
+import json
+import os
+import stat
+from collections.abc import Callable, Sequence
+
+from bg_switch_tools.controller.plan_edit_lock import EditLock
+from bg_switch_tools.controller.plan_file import PlanFile
+from bg_switch_tools.controller.plan_reader import MOST_REVISIONS, WrongPlan, read_plan
+from bg_switch_tools.controller.state_file import write_whole
+from bg_switch_tools.switch.json_values import decoded
+
+
+def with_last(told: object, name: str, ports: Sequence[int]) -> object:
+    """The value of a plan with this revision as its last one. One of this name is moved; where there are too many, the first
+    one goes."""
+    if not isinstance(told, dict) or not isinstance(told.get("revisions"), list):
+        return told
+    named = [one for one in told["revisions"] if isinstance(one, dict) and one.get("name") == name]
+    others = [one for one in told["revisions"] if one not in named]
+    last = {**(named[-1] if named else {}), "name": name, "ports": list(ports)}
+    return {**told, "revisions": [*others[-(MOST_REVISIONS - 1):], last]}
+
+
+def _unsigned(_: bytes) -> None:
+    """An edit whose author is not noted."""
+
+
+def _make_like(descriptor: int, before: os.stat_result) -> None:
+    """Gives a file the mode of the one before, and its owner and group as far as the caller may."""
+    try:
+        os.fchown(descriptor, before.st_uid, before.st_gid)
+    except PermissionError:
+        with contextlib.suppress(PermissionError):
+            os.fchown(descriptor, -1, before.st_gid)
+    os.fchmod(descriptor, stat.S_IMODE(before.st_mode))
+
+
+def _put_in_place(path: str, text: bytes) -> None:
+    """Writes a file in one step, which keeps its mode and owner; where it is a link, the file that this leads to."""
+    whole = os.path.realpath(path)
+    before = os.stat(whole)
+    fresh = os.open(f"{whole}.new", os.O_WRONLY | os.O_CREAT | os.O_TRUNC, 0o600)
+    try:
+        _make_like(fresh, before)
+    finally:
+        os.close(fresh)
+    write_whole(whole, text)
+
+
+def deploy_by_plan(path: str, name: str, ports: Sequence[int], sign: Callable[[bytes], None] = _unsigned) -> str:
+    """Makes a revision the last one of a plan's file, in one step, and says so. A file that names it last with these ports stays
+    as it is. `sign` is given the new text before it is in place. `WrongPlan` where the result is no plan, and `OSError` where the
+    file can't be written, or another edit does not end: then nothing is changed."""
+    with EditLock(path):
+        file = PlanFile(path)
+        plan = file.first()
+        if (plan.last.name, plan.last.ports) == (name, tuple(ports)):
+            return f"{name} is the last revision of {path} already"
+        try:
+            told = decoded(file.text or b"")
+        except ValueError:
+            raise WrongPlan(["it is YAML, whose comments this edit would lose: name the revision in the file by hand"]) from None
+        edited = (json.dumps(with_last(told, name, ports), indent=2) + "\n").encode("ascii")
+        read_plan(edited)
+        sign(edited)
+        _put_in_place(path, edited)
+    return f"{name} is the last revision of {path}"

@@ -1,0 +1,197 @@
+"""What a controller remembers beside its plan, so that it outlives a crash of the switch, of itself, and of both."""
+import dataclasses
+import fcntl
+import json
+import os
+
+from bg_switch_tools.controller.plan import Plan, PlannedRevision
+from bg_switch_tools.controller.process_groups import ProcessId
+from bg_switch_tools.switch.json_values import JsonObject, Judge, decoded
+
+SUFFIX = ".state"
+COPY = ".copy"
+LOCK = ".lock"
+GREATEST_MOMENT = 1 << 53
+GREATEST_TIME = 1 << 40  # seconds of Unix time, and above each number and start of a process
+MOST_STARTED = 1000  # revisions, and commands that run at a time
+MISSING = "is not there"  # what is the matter with a file that does not exist
+NEEDED = ("moment", "stable", "deployed", "attempt")
+LATER = ("since", "analysis", "started", "commands", "former")  # the keys that a file of an earlier controller has not
+
+
+@dataclasses.dataclass(frozen=True)
+class State:
+    """`stable` is the revision that was stable last, of those whose ports are known. `deployed` is the plan's last revision
+    that was deployed because the plan names it. `attempt` is the newest revision while its attempt runs. `since` is the time at
+    which the moment was 0, in seconds of the system's clock (0 where that is not known). `analysis` is the process of the
+    analysis that runs. `started` are the revisions that were started and not stopped yet, `commands` the processes of the
+    commands that start and stop them and run. `former` are the control ports that the plan named before."""
+    moment: int = 0
+    stable: PlannedRevision | None = None
+    deployed: PlannedRevision | None = None
+    attempt: PlannedRevision | None = None
+    since: int = 0
+    analysis: ProcessId | None = None
+    started: tuple[PlannedRevision, ...] = ()
+    commands: tuple[ProcessId, ...] = ()
+    former: tuple[int, ...] = ()
+
+    def belongs_to(self, plan: Plan) -> bool:
+        """Whether this was written for this plan: it has the name of the stable or of the deployed revision."""
+        return any(revision and plan.named(revision.name) for revision in (self.stable, self.deployed))
+
+    def keeps(self, other: "State") -> bool:
+        """Whether the other one differs in the moment alone."""
+        return dataclasses.replace(other, moment=self.moment) == self
+
+
+class NoState(Exception):
+    """There is no state to go on by. The text says why."""
+
+
+def _told(revision: PlannedRevision | None) -> object:
+    return revision and {"name": revision.name, "ports": list(revision.ports)}
+
+
+def written(state: State) -> bytes:
+    """The bytes of a state file."""
+    return (json.dumps({
+        "moment": state.moment, "stable": _told(state.stable), "deployed": _told(state.deployed), "attempt": _told(state.attempt),
+        "since": state.since, "analysis": state.analysis and dataclasses.asdict(state.analysis),
+        "started": [_told(revision) for revision in state.started],
+        "commands": [dataclasses.asdict(command) for command in state.commands], "former": list(state.former)}, indent=1) + "\n").encode("ascii")
+
+
+def _read_revision(judge: Judge, told: object, place: str) -> PlannedRevision:
+    members = judge.members(told, place, ("name", "ports"), ("name", "ports"))
+    return PlannedRevision(judge.member(members, "name", place, judge.name, ""),
+                           judge.member(members, "ports", place, judge.ports, ()))
+
+
+def _read_process(judge: Judge, told: object, place: str) -> ProcessId:
+    members = judge.members(told, place, ("pid", "start"), ("pid", "start"))
+    pid, start = (judge.member(members, key, place, lambda value, at: judge.whole_number(value, at, least, GREATEST_TIME), 2)
+                  for key, least in (("pid", 2), ("start", 0)))
+    return ProcessId(pid, start)
+
+
+def _read_list(judge: Judge, told: object, place: str) -> list[object]:
+    if isinstance(told, list) and len(told) <= MOST_STARTED:
+        return told
+    judge.note(place, f"there is no list of at most {MOST_STARTED}")
+    return []
+
+
+def _read_values(judge: Judge, members: JsonObject) -> State:
+    stable, deployed, attempt = (None if members[key] is None else _read_revision(judge, members[key], key) for key in NEEDED[1:])
+    started = _read_list(judge, members.get("started", []), "started")
+    commands = _read_list(judge, members.get("commands", []), "commands")
+    analysis = members.get("analysis")
+    return State(
+        judge.whole_number(members["moment"], "moment", 0, GREATEST_MOMENT), stable, deployed, attempt,
+        judge.whole_number(members.get("since", 0), "since", 0, GREATEST_TIME),
+        None if analysis is None else _read_process(judge, analysis, "analysis"),
+        tuple(_read_revision(judge, one, f"started[{number}]") for number, one in enumerate(started)),
+        tuple(_read_process(judge, one, f"commands[{number}]") for number, one in enumerate(commands)),
+        judge.ports(members["former"], "former") if members.get("former") else ())
+
+
+def read_state(text: bytes) -> State:
+    """The state of a file's bytes. `NoState` where they are cut, or are none: a name and ports of it are those of a plan."""
+    judge = Judge()
+    if not text.strip():
+        raise NoState("is empty")
+    try:
+        told = decoded(text)
+    except ValueError as error:
+        is_cut = text.startswith(b"{") and not text.endswith(b"}\n")
+        raise NoState("is cut" if is_cut else f"is no state file: {error}") from None
+    if not isinstance(told, JsonObject):
+        raise NoState("is no state file: it has no object")
+    members = judge.members(told, "", (*NEEDED, *LATER), NEEDED)
+    state = State() if judge.problems else _read_values(judge, members)
+    if judge.problems:
+        raise NoState(f"is no state file: {'; '.join(judge.problems)}")
+    return state
+
+
+def write_whole(path: str, text: bytes) -> None:
+    """Puts a file in place, so that a reader, also one after a crash, finds either the one before or this one."""
+    fresh = f"{path}.new"
+    with open(fresh, "wb") as file:
+        file.write(text)
+        file.flush()
+        os.fsync(file.fileno())
+    os.replace(fresh, path)
+    folder = os.open(os.path.dirname(os.path.abspath(path)), os.O_RDONLY)
+    try:
+        os.fsync(folder)
+    finally:
+        os.close(folder)
+
+
+def _why_neither(file: str, copy: str) -> str:
+    """Why neither a state file nor its copy can be used, by what is the matter with each."""
+    if file == copy:
+        return "there is none" if file == MISSING else f"it {file}"
+    return f"it {file}, and its copy {copy}"
+
+
+class StateFile:
+    """The state file of a plan, and a copy of it, which is read where the file itself can't be used."""
+
+    def __init__(self, plan_path: str) -> None:
+        self.path = plan_path + SUFFIX
+        self.copy = self.path + COPY
+
+    def read(self) -> tuple[State, str]:
+        """The state, and why that of the copy was taken; an empty text where it is that of the file itself. `NoState` where
+        neither can be used."""
+        try:
+            return self._read_one(self.path), ""
+        except NoState as reason:
+            try:
+                return self._read_one(self.copy), str(reason)
+            except NoState as other:
+                raise NoState(_why_neither(str(reason), str(other))) from None
+
+    @staticmethod
+    def _read_one(path: str) -> State:
+        """The state of one file. The text of `NoState` says what is the matter with the file."""
+        try:
+            with open(path, "rb") as file:
+                return read_state(file.read())
+        except FileNotFoundError:
+            raise NoState(MISSING) from None
+        except OSError as error:
+            raise NoState(f"can't be read: {error.strerror}") from None
+
+    def write(self, state: State) -> None:
+        """Writes the file and its copy, one after the other. `OSError` where the folder takes no file."""
+        text = written(state)
+        write_whole(self.path, text)
+        write_whole(self.copy, text)
+
+
+class IsLocked(Exception):
+    """Another controller runs the plan. The text names its process."""
+
+
+class StateLock:
+    """The lock of a plan's state (flock(2)): one controller has it. The system lets it go when the process ends, however."""
+
+    def __init__(self, plan_path: str) -> None:
+        """Takes the lock. `IsLocked` where another process has it; `OSError` where the folder takes no file."""
+        self.path = plan_path + SUFFIX + LOCK
+        self.descriptor = os.open(self.path, os.O_RDWR | os.O_CREAT, 0o644)
+        try:
+            fcntl.flock(self.descriptor, fcntl.LOCK_EX | fcntl.LOCK_NB)
+        except BlockingIOError:
+            holder = os.read(self.descriptor, 20).decode("ascii", "replace").strip()
+            os.close(self.descriptor)
+            raise IsLocked(f"another controller runs this plan: process {holder or 'not known'} has the lock {self.path}") from None
+        os.ftruncate(self.descriptor, 0)
+        os.write(self.descriptor, f"{os.getpid()}\n".encode("ascii"))
+
+    def release(self) -> None:
+        os.close(self.descriptor)

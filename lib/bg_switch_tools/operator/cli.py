@@ -1,0 +1,233 @@
+"""bin/operator: sends lines to the control port of a running switch, shows its state, and waits for it."""
+import argparse
+import json
+import os
+import sys
+from collections.abc import Iterable, Sequence
+
+from bg_switch_tools.controller.announced_deploy import Announced
+from bg_switch_tools.controller.plan_reader import WrongPlan
+from bg_switch_tools.operator.commands import examples, help_lines
+from bg_switch_tools.operator.conditions import FORMS, Conditions, WrongCondition
+from bg_switch_tools.operator.line_sender import Reply, carry_out
+from bg_switch_tools.operator.prompt import Command, Prompt, confirm_shutdown
+from bg_switch_tools.operator.wait import TOO_LATE, nothing_comes, wait_for
+from bg_switch_tools.operator.watch import dated, watch
+from bg_switch_tools.switch.arguments import port_of, seconds_of
+from bg_switch_tools.switch.connection import Unreachable, ask, words_of
+from bg_switch_tools.switch.lines import with_meaning
+from bg_switch_tools.switch.report_text import in_one_line
+from bg_switch_tools.switch.reports import NoReport, Report, as_json, read_report
+
+ABOUT = """Sends lines to the control port of a running switch, and prints the replies.
+
+  bin/operator PORT                  at a terminal: a prompt; else the lines of standard input
+  bin/operator PORT promote          one line or command, given as words
+"""
+END = f"""
+Conditions of wait: {FORMS}.
+
+Exit status: 0 where every line was carried out; 1 where one was refused or faulty, at which it stops; 2 where the switch gave no
+answer in time, or the words are wrong; 3 of `status` where no endpoint of the active revision is available, so that clients are
+answered 503. docs/LINES.md has each line and its replies.
+"""
+INTERRUPTED = 130
+DARK = 3  # the exit status of `status` where live traffic has no endpoint
+COMMANDS = ("status", "wait", "watch", "shutdown", "help")
+
+
+def parser() -> argparse.ArgumentParser:
+    made = argparse.ArgumentParser(
+        prog="operator", usage="bin/operator PORT [LINE | COMMAND] [options]", description=ABOUT,
+        epilog="\n".join(["lines and commands, with an example each:", *examples()]) + "\n" + END,
+        formatter_class=argparse.RawDescriptionHelpFormatter)
+    made.add_argument("port", type=port_of, nargs="?", metavar="PORT", help="the control port of the switch, on 127.0.0.1")
+    made.add_argument("words", nargs="*", metavar="WORD", help="the words of one line or command")
+    made.add_argument("--wait", type=seconds_of, default=10.0, metavar="SECONDS",
+                      help="how long to wait for the switch to answer (10)")
+    made.add_argument("--timeout", type=seconds_of, metavar="SECONDS", help="how long `wait` waits for its conditions (600)")
+    made.add_argument("--keep-going", action="store_true", help="goes on after a line that was refused or faulty")
+    made.add_argument("--json", action="store_true", help="prints each reply, the status and what was waited for as JSON")
+    made.add_argument("--idempotent", action="store_true",
+                      help="a deploy of the revision that is running or stable already is carried out")
+    made.add_argument("--yes", action="store_true", help="`shutdown` does not ask, and a `tick` more than a day ahead is sent")
+    made.add_argument("--plan", metavar="PLAN",
+                      help="`wait` first waits until the controller has deployed the last revision of this plan")
+    return made
+
+
+class Operator:
+    """What the words of a run ask for."""
+
+    def __init__(self, given: argparse.Namespace) -> None:
+        self.port: int = given.port
+        self.wait: float = given.wait
+        self.timeout: float = 600.0 if given.timeout is None else given.timeout
+        self.keeps_going: bool = given.keep_going
+        self.is_json: bool = given.json
+        self.is_idempotent: bool = given.idempotent
+        self.is_sure: bool = given.yes
+        self.plan: str | None = given.plan
+
+    def tell(self, text: str) -> None:
+        print(f"operator: {text}", file=sys.stderr, flush=True)
+
+    def show_json(self, told: object) -> None:
+        print(json.dumps(told), flush=True)
+
+    def show(self, reply: Reply) -> None:
+        """Prints a reply. What it means is no part of it: away from a terminal that goes to standard error."""
+        is_plain_terminal = sys.stdout.isatty() and not self.is_json
+        if self.is_json:
+            self.show_json(reply.as_json())
+        for line in [] if self.is_json else reply.lines:
+            print(with_meaning(line) if is_plain_terminal else line, flush=True)
+        if reply.note:
+            self.tell(reply.note)
+        elif reply.meaning and not is_plain_terminal:
+            self.tell(f"{reply.lines[0]}: {reply.meaning}")
+
+    def carry_out(self, lines: Iterable[bytes]) -> int:
+        """Carries lines out, in turn, up to `quit`. Gives the exit status."""
+        status = 0
+        for line in lines:
+            reply = carry_out(self.port, line, self.wait, self.is_idempotent, self.is_sure)
+            self.show(reply)
+            if words_of(line) == [b"quit"]:
+                break
+            if not reply.carried_out:
+                status = 1
+                if not self.keeps_going:
+                    break
+        return status
+
+    def status(self) -> int:
+        """Shows the state in one line. The exit status is 0 where it is steady or an attempt runs, `DARK` where no endpoint of
+        the active revision is available, and else 1."""
+        report = read_report(ask(self.port, b"report", self.wait))
+        if self.is_json:
+            self.show_json({"phase": None} if report is None else as_json(report))
+        else:
+            print(in_one_line(report))
+        if report is not None and report.service("active").available == 0:
+            self.tell(f"no endpoint of {report.service('active').title()}, which is active, is available")
+            return DARK
+        return 1 if report is None or report.phase == "aborted" else 0
+
+    def wait_for(self, texts: Sequence[str]) -> int:
+        """Waits for conditions. Each change meanwhile is told on standard error."""
+        before: list[Report] = []
+        try:
+            announced = Announced(self.plan).name if self.plan else nothing_comes
+        except WrongPlan as wrong:
+            self.tell(f"{self.plan} is no plan: {wrong}")
+            return TOO_LATE
+
+        def see(report: Report) -> None:
+            for change in dated(before[-1], report) if before else []:
+                self.tell(change)
+            before[:] = [report]
+        waited = wait_for(self.port, Conditions(texts), self.timeout, self.wait, see, announced)
+        if self.is_json:
+            report = as_json(waited.report) if waited.report else None
+            self.show_json({"status": waited.status, "reason": waited.reason or None, "report": report})
+        elif waited.status == 0:
+            print(in_one_line(waited.report))
+        if waited.status != 0:
+            self.tell(waited.reason)
+        return waited.status
+
+    def shut_down(self) -> int:
+        """Asks, and sends `quit`."""
+        if not self.is_sure:
+            if not sys.stdin.isatty():
+                self.tell("shutdown asks at a terminal alone; elsewhere --yes is wanted with it")
+                return TOO_LATE
+            if not confirm_shutdown(self.port):
+                print("The switch goes on.")
+                return 1
+        return self.carry_out([b"quit"])
+
+    def watch(self) -> int:
+        """Watches up to ctrl-C."""
+        try:
+            watch(self.port, self.wait)
+        except KeyboardInterrupt:
+            print()
+        return 0
+
+    def show_help(self) -> int:
+        print("\n".join(help_lines(at_prompt=False)))
+        return 0
+
+    def command(self, words: Sequence[str]) -> int:
+        """Carries out one of `COMMANDS`."""
+        if words[0] == "wait":
+            return self.wait_for(words[1:])
+        return {"status": self.status, "watch": self.watch, "shutdown": self.shut_down, "help": self.show_help}[words[0]]()
+
+    def prompt(self) -> int:
+        commands: dict[str, Command] = {"status": lambda _: self.status(), "watch": lambda _: self.watch(),
+                                        "wait": self.wait_for}
+        Prompt(self.port, self.wait, commands).run()
+        return 0
+
+
+def judge_words(made: argparse.ArgumentParser, given: argparse.Namespace) -> None:
+    """Ends the run where options and words don't go together."""
+    words: list[str] = given.words
+    command = words[0] if words else ""
+    if given.port is None:
+        made.error("PORT: the control port of the switch is wanted, such as 8082")
+    if command in COMMANDS and command != "wait" and len(words) > 1:
+        made.error(f"{command} takes no further words, and not {words[1]!r}")
+    if command == "wait":
+        try:
+            Conditions(words[1:])
+        except WrongCondition as wrong:
+            made.error(str(wrong))
+        if len(words) == 1:
+            made.error(f"wait wants one condition or more, of {FORMS}")
+    if given.timeout is not None and command != "wait":
+        made.error("--timeout goes with wait; --wait says how long to wait for an answer")
+    if given.idempotent and command not in ("", "deploy"):
+        made.error("--idempotent goes with deploy")
+    if given.yes and command not in ("", "shutdown", "tick"):
+        made.error("--yes goes with shutdown and tick")
+    if given.plan is not None and command != "wait":
+        made.error("--plan goes with wait")
+
+
+def run(given: argparse.Namespace) -> int:
+    operator, words = Operator(given), given.words
+    if words and words[0] in COMMANDS:
+        return operator.command(words)
+    if words:
+        return operator.carry_out(" ".join(words).encode("utf-8", "surrogateescape").split(b"\n"))
+    if sys.stdin.isatty() and sys.stdout.isatty():
+        return operator.prompt()
+    return operator.carry_out(line.removesuffix(b"\n") for line in sys.stdin.buffer)
+
+
+def main(words: Sequence[str]) -> int:
+    made = parser()
+    given = made.parse_intermixed_args(words)
+    judge_words(made, given)
+    if hasattr(sys.stdout, "reconfigure"):
+        sys.stdout.reconfigure(errors="replace")
+    try:
+        status = run(given)
+        sys.stdout.flush()
+        return status
+    except (Unreachable, NoReport) as reason:
+        print(f"operator: {reason}", file=sys.stderr)
+        return 2
+    except KeyboardInterrupt:
+        print()
+        return INTERRUPTED
+    except OSError as error:
+        # where nobody reads the replies any more, that is no news
+        if not isinstance(error, BrokenPipeError):
+            print(f"operator: the input or the output fails: {error.strerror}", file=sys.stderr)
+        os.dup2(os.open(os.devnull, os.O_WRONLY), sys.stdout.fileno())
+        return 1

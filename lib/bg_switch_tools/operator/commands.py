@@ -1,0 +1,36 @@
+"""The commands of bin/operator beside the lines of the switch, and the help that lists both."""
+from collections.abc import Sequence
+
+from bg_switch_tools.switch.lines import LINES, Line
+
+COMMANDS = (
+    Line("status", "shows the state in one line; status 0 where it is steady or an attempt runs, 1 where it was aborted, "
+         "3 where no endpoint of the active revision is available",
+         "status"),
+    Line("wait CONDITION..", "waits until all conditions hold; status 0 then, 1 as soon as they can't come without a new order, "
+         "2 at the timeout", "wait phase=paused newest=web-v2 --timeout 60"),
+    Line("watch", "draws the state once a second, and each change, up to ctrl-C", "watch"),
+    Line("shutdown", "asks, and then shuts the switch down: it sends quit", "shutdown"),
+    Line("help", "lists the lines and commands", "help"),
+)
+PROMPT_COMMANDS = (
+    Line("quit, exit, ctrl-D", "leave this prompt; the switch goes on", "exit"),
+)
+WIDTH = 20  # of the column of the forms
+
+
+def listed(lines: Sequence[Line]) -> list[str]:
+    """A line for each, with what it does."""
+    return [f"  {line.form:{WIDTH}} {line.meaning}" for line in lines]
+
+
+def help_lines(at_prompt: bool) -> list[str]:
+    """The lines and commands. At the prompt `quit` leaves it."""
+    if not at_prompt:
+        return listed([*LINES, *COMMANDS])
+    return listed([*(line for line in LINES if line.form != "quit"), *COMMANDS, *PROMPT_COMMANDS])
+
+
+def examples() -> list[str]:
+    """An example of each line and command, with what it does."""
+    return [f"  bin/operator 8082 {line.example}\n      {line.meaning}" for line in (*LINES, *COMMANDS)]

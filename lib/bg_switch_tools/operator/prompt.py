@@ -1,0 +1,90 @@
+"""A prompt at a terminal."""
+from collections.abc import Callable, Sequence
+
+from bg_switch_tools.operator.commands import help_lines
+from bg_switch_tools.operator.line_sender import Reply, carry_out
+from bg_switch_tools.switch.connection import Unreachable, words_of
+from bg_switch_tools.switch.lines import with_meaning
+from bg_switch_tools.switch.reports import NoReport
+
+try:
+    import readline as readline  # gives `input` editing and history
+except ImportError:
+    pass
+
+LEAVE = ("quit", "exit")
+Command = Callable[[Sequence[str]], object]
+
+
+def show_at_terminal(reply: Reply) -> None:
+    """Prints the lines of a reply with what they mean, and what it comes to."""
+    for line in reply.lines:
+        print(with_meaning(line))
+    if reply.note:
+        print(reply.note)
+
+
+def confirm_shutdown(port: int) -> bool:
+    """Whether the operator wants the switch to be shut down. The end of the input is no."""
+    try:
+        told = input(f"Shut the switch at port {port} down? No operator is answered any more. [y/N] ")
+    except EOFError:
+        print()
+        return False
+    return told.strip() in ("y", "Y", "yes")
+
+
+class Prompt:
+    """Carries out the lines of a terminal. `commands` are those that are no lines of the switch."""
+
+    def __init__(self, port: int, wait: float, commands: dict[str, Command]) -> None:
+        self.port = port
+        self.wait = wait
+        self.commands = commands
+
+    def carry_out(self, text: str) -> bool:
+        """Carries out a line. Gives whether the prompt goes on."""
+        line = text.encode("utf-8", "replace")
+        words = [word.decode("utf-8", "replace") for word in words_of(line)]
+        if not words:
+            return True
+        if words[0] in LEAVE and len(words) == 1:
+            return False
+        if words == ["help"]:
+            print("\n".join(help_lines(at_prompt=True)))
+        elif words == ["shutdown"]:
+            return not self.shut_down()
+        elif words[0] in self.commands:
+            self.run_command(words)
+        else:
+            show_at_terminal(carry_out(self.port, line, self.wait, is_idempotent=False))
+        return True
+
+    def run_command(self, words: Sequence[str]) -> None:
+        """Runs a command up to its end or ctrl-C."""
+        try:
+            self.commands[words[0]](words[1:])
+        except KeyboardInterrupt:
+            print()
+
+    def shut_down(self) -> bool:
+        """Asks, and sends `quit`. Gives whether it did."""
+        if not confirm_shutdown(self.port):
+            print("The switch goes on.")
+            return False
+        carry_out(self.port, b"quit", self.wait, is_idempotent=False)
+        print("The switch shuts down.")
+        return True
+
+    def run(self) -> None:
+        """Carries lines out until `quit`, `exit`, the end of the input or ctrl-C. A line that is refused ends nothing."""
+        print(f"The switch at port {self.port}. help lists the lines; quit leaves this prompt.")
+        goes_on = True
+        while goes_on:
+            try:
+                goes_on = self.carry_out(input(f"{self.port}> "))
+            except (Unreachable, NoReport, ValueError) as reason:
+                print(reason)
+            except (EOFError, KeyboardInterrupt):
+                print()
+                return

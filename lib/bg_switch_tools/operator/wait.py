@@ -1,0 +1,53 @@
+"""Waits until conditions hold, or can't come to hold any more."""
+import time
+from collections.abc import Callable
+from typing import NamedTuple
+
+from bg_switch_tools.operator.conditions import Conditions
+from bg_switch_tools.switch.connection import Unreachable, ask
+from bg_switch_tools.switch.report_text import in_one_line
+from bg_switch_tools.switch.reports import NoReport, Report, read_report
+
+PAUSE = 0.2  # seconds between two reports
+REACHED, NEVER, TOO_LATE = 0, 1, 2
+
+
+class Waited(NamedTuple):
+    """How a wait has ended: `REACHED`, `NEVER` or `TOO_LATE`; the reason of the latter two; the latest report."""
+    status: int
+    reason: str
+    report: Report | None
+
+
+def nothing_comes() -> str | None:
+    """What a wait that knows of no plan takes for announced."""
+    return None
+
+
+def wait_for(port: int, conditions: Conditions, timeout: float, wait: float, see: Callable[[Report], None],
+             announced: Callable[[], str | None] = nothing_comes) -> Waited:
+    """Waits for conditions, for `timeout` seconds at most. `see` is given each report. `announced` gives the revision whose
+    deploy a plan announces: up to that deploy the wait goes on.
+
+    A switch that does not answer within `wait` seconds, or has no book yet, is asked again.
+    """
+    deadline = time.monotonic() + timeout
+    report: Report | None = None
+    state = "the switch was not asked"
+    while True:
+        coming = announced()  # before the report: what was deployed by then, the report shows
+        try:
+            report = read_report(ask(port, b"report", max(min(wait, deadline - time.monotonic()), PAUSE)))
+            state = in_one_line(report)
+        except (Unreachable, NoReport) as error:
+            report, state = None, str(error)
+        if report is not None:
+            see(report)
+            outlook = conditions.outlook(report, coming)
+            if outlook.holds or outlook.never:
+                return Waited(REACHED if outlook.holds else NEVER, outlook.never, report)
+        if time.monotonic() + PAUSE >= deadline:
+            break
+        time.sleep(PAUSE)
+    state += f"; the controller has not deployed {coming} by the plan yet" if coming else ""
+    return Waited(TOO_LATE, f"{' '.join(conditions.texts)} does not hold after {timeout:g} seconds: {state}", report)

@@ -1,0 +1,49 @@
+"""Draws the state once a second, and below it each change that was seen."""
+import shutil
+import sys
+import time
+from collections.abc import Sequence
+
+from bg_switch_tools.switch.connection import ask
+from bg_switch_tools.switch.report_changes import changes
+from bg_switch_tools.switch.report_text import draw
+from bg_switch_tools.switch.reports import Report, read_report
+
+SECONDS = 1  # between two drawings
+CLEAR = "\x1b[H\x1b[J"  # to the upper left corner, and empties the screen
+MOST_SEEN = 1000  # changes that are kept: no terminal has more rows
+
+
+def _fitting(lines: Sequence[str], seen: Sequence[str]) -> str:
+    """The lines, and the last of the changes, as a terminal of this size holds them."""
+    columns, rows = shutil.get_terminal_size()
+    room = max(rows - len(lines) - 2, 0)
+    shown = [*lines, "", *(seen[-room:] if room else [])]
+    return "\n".join(line[:columns] for line in shown[:max(rows - 1, 1)])
+
+
+def dated(before: Report | None, now: Report | None) -> list[str]:
+    """The changes between two reports, each with its moment."""
+    moment = f"moment {now.moment}: " if before and now else ""
+    return [moment + change for change in changes(before, now)]
+
+
+def watch(port: int, wait: float) -> None:
+    """Draws until it is interrupted, or the switch does not answer for so many seconds (`Unreachable`).
+
+    At a terminal the screen is drawn anew each second. Elsewhere a block of plain text is written at first, and then
+    after each change of anything but the moment and the numbers of open requests.
+    """
+    is_terminal, is_first = sys.stdout.isatty(), True
+    seen: list[str] = []
+    before: Report | None = None
+    while True:
+        report = read_report(ask(port, b"report", wait))
+        new = [] if is_first else dated(before, report)
+        seen = (seen + new)[-MOST_SEEN:]
+        if is_terminal:
+            print(CLEAR + _fitting(draw(report), seen), end="", flush=True)
+        elif is_first or new:
+            print("\n".join(draw(report) + new) + "\n", flush=True)
+        before, is_first = report, False
+        time.sleep(SECONDS)

@@ -1,0 +1,178 @@
+"""Connections to the control port of a switch.
+
+The connections of the control port take turns by lines. A tool opens a connection for one line or a few, and closes it, so it
+takes no place at the port while it sends nothing.
+"""
+import contextlib
+import socket
+import time
+from collections.abc import Sequence
+from types import TracebackType
+
+from bg_switch_tools.switch.lines import was_carried_out
+
+HOST = "127.0.0.1"
+PAUSE = 0.1  # seconds between two tries to connect
+SHORTEST = 0.001  # seconds; a socket takes a timeout of 0 for "do not block"
+LONGEST_LINE = 65536  # bytes without a line end, above which the peer is no switch
+NOT_ALLOWED = "refused NotAllowed"  # what a connection of a user is sent whose orders are not taken, before it is closed
+LONGEST_REPORT = 80  # lines; a report has 7, and one for each of at most 64 revisions
+
+
+class Unreachable(Exception):
+    """The switch did not answer in time. The text says what happened."""
+
+
+def words_of(line: bytes) -> list[bytes]:
+    """The words of a line, as the switch splits it: spaces alone part words, and a CR at the end does not count."""
+    return [word for word in line.removesuffix(b"\r").split(b" ") if word]
+
+
+class Connection:
+    """A connection to the control port. No call waits past the deadline, which `allow` sets."""
+
+    def __init__(self, port: int, wait: float) -> None:
+        """Connects within `wait` seconds, since the switch may be starting. `Unreachable` where that fails."""
+        self.port = port
+        self.wait = wait
+        self.unread = b""
+        self.allow(wait)
+        self.socket = self._connected()
+
+    def __enter__(self) -> "Connection":
+        return self
+
+    def __exit__(self, kind: type[BaseException] | None, error: BaseException | None, trace: TracebackType | None) -> None:
+        self.close()
+
+    def close(self) -> None:
+        self.socket.close()
+
+    def cut(self) -> None:
+        """Ends a wait that another thread has in this connection, which finds it ended."""
+        with contextlib.suppress(OSError):
+            self.socket.shutdown(socket.SHUT_RDWR)
+
+    def allow(self, wait: float) -> None:
+        """Sets the deadline of the calls that follow: `wait` seconds from now."""
+        self.deadline = time.monotonic() + wait
+
+    def _left(self) -> float:
+        return max(self.deadline - time.monotonic(), SHORTEST)
+
+    def _connected(self) -> socket.socket:
+        while True:
+            try:
+                return socket.create_connection((HOST, self.port), timeout=self._left())
+            except TimeoutError:
+                raise Unreachable(f"port {self.port} takes no connection: others wait there already") from None
+            except OSError as error:
+                if time.monotonic() + PAUSE >= self.deadline:
+                    raise Unreachable(f"port {self.port} of {HOST} can't be reached: {error.strerror}") from None
+                time.sleep(PAUSE)
+
+    def send(self, *lines: bytes) -> None:
+        """Sends lines in one piece. `Unreachable` where the switch takes them no more."""
+        self.socket.settimeout(self._left())
+        try:
+            self.socket.sendall(b"".join(line + b"\n" for line in lines))
+        except OSError as error:
+            raise Unreachable(f"port {self.port} takes no line: {error.strerror or 'it is too slow'}") from None
+
+    def receive(self) -> bytes:
+        """The bytes that come next; none where the connection has ended. `TimeoutError` past the deadline."""
+        if time.monotonic() >= self.deadline:
+            raise TimeoutError
+        self.socket.settimeout(self._left())
+        try:
+            return self.socket.recv(65536)
+        except ConnectionError:
+            return b""
+
+    def next_line(self) -> str:
+        """The next line of a reply. `Unreachable` where none comes in time, or the connection has ended."""
+        while b"\n" not in self.unread:
+            try:
+                piece = self.receive()
+            except TimeoutError:
+                raise Unreachable(f"port {self.port} gave no answer in time: the switch is stopped or busy, or takes no "
+                                  "lines any more") from None
+            if not piece:
+                raise Unreachable("the switch has ended the connection")
+            self.unread += piece
+            if len(self.unread) > LONGEST_LINE and b"\n" not in self.unread:
+                raise self._no_switch()
+        line, self.unread = self.unread.split(b"\n", 1)
+        return line.decode("ascii", "replace")
+
+    def _not_allowed(self) -> Unreachable:
+        return Unreachable(f"the switch at port {self.port} takes no orders of this user: its BG_SWITCH_OPERATORS lists others")
+
+    def _no_switch(self) -> Unreachable:
+        return Unreachable(f"what answers at port {self.port} is no switch")
+
+    def reply_to(self, line: bytes) -> list[str]:
+        """The lines of the reply to a line that was sent. A report has several; every other reply has one. `Unreachable` where
+        the switch takes no orders of this user."""
+        replies = [self.next_line()]
+        if replies[0] == NOT_ALLOWED:
+            raise self._not_allowed()
+        if words_of(line) == [b"report"] and was_carried_out(replies[0]):
+            while replies[-1] != "end":
+                if not replies[0].startswith("moment ") or len(replies) > LONGEST_REPORT:
+                    raise self._no_switch()
+                replies.append(self.next_line())
+        return replies
+
+    def answer(self, line: bytes) -> list[str]:
+        """Sends a line, and gives the lines of its reply."""
+        self.send(line)
+        return self.reply_to(line)
+
+    def answers(self, lines: Sequence[bytes]) -> list[list[str]]:
+        """Sends lines in one piece, so that the switch has each at hand after the one before. Gives the reply to each."""
+        self.send(*lines)
+        return [self.reply_to(line) for line in lines]
+
+    def order(self, line: str) -> str:
+        """Sends a line within a new deadline, as long as the constructor's, and gives the first line of its reply."""
+        self.allow(self.wait)
+        return self.answer(line.encode("ascii"))[0]
+
+    def quit(self) -> None:
+        """Sends `quit`, which has no reply, and waits up to the deadline for the switch to end the connection. `Unreachable` where
+        it takes no orders of this user."""
+        self.send(b"quit")
+        got = b""
+        try:
+            while piece := self.receive():
+                got = (got + piece)[:LONGEST_LINE]
+        except TimeoutError:
+            pass
+        if got.startswith(NOT_ALLOWED.encode("ascii")):
+            raise self._not_allowed()
+
+
+def ask(port: int, line: bytes, wait: float) -> list[str]:
+    """Sends a line on a connection of its own, and gives the lines of its reply; none for `quit`.
+
+    The line is sent only once the switch has answered a `report` on this connection. So no line is carried out later that
+    this call gave up. `Unreachable` where the switch does not answer within `wait` seconds.
+    """
+    with Connection(port, wait) as connection:
+        state = connection.answer(b"report")
+        if words_of(line) == [b"report"]:
+            return state
+        return sent(connection, line, wait)
+
+
+def sent(connection: Connection, line: bytes, wait: float) -> list[str]:
+    """Sends a line on a connection that has answered, and gives the lines of its reply; none for `quit`."""
+    connection.allow(max(wait, 1))
+    try:
+        if words_of(line) == [b"quit"]:
+            connection.quit()
+            return []
+        return connection.answer(line)
+    except Unreachable:
+        raise Unreachable("the line was sent and no reply came: a report tells whether it was carried out") from None

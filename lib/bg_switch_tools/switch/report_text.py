@@ -1,0 +1,53 @@
+"""A report as a table, and in one line."""
+from bg_switch_tools.switch.reports import Report, Revision
+
+AWAITED = {
+    "steady": "no attempt runs",
+    "scaling": "waits for endpoints of the newest revision",
+    "preAnalysis": "waits for: verdict pre RESULT",
+    "paused": "waits for: promote",
+    "sizing": "waits for all endpoints of the newest revision",
+    "postAnalysis": "waits for: verdict post RESULT",
+    "aborted": "back at the stable revision; retry begins again",
+}
+NO_BOOK = "no book is open yet"
+
+
+def _scale_down(revision: Revision, moment: int) -> str:
+    """What is to be said of a revision's scale-down."""
+    if revision.desired == 0:
+        return "scaled down"
+    if revision.cut:
+        return "draining: its open requests are given up"
+    if revision.draining:
+        return "draining: waits for its open requests"
+    if revision.deadline is None:
+        return ""
+    return f"in {max(revision.deadline - moment, 0)} s"
+
+
+def _row(report: Report, revision: Revision) -> tuple[str, ...]:
+    services = [service for service, number in report.selected.items() if number == revision.number]
+    return (f"{revision.number} {revision.name}", ", ".join(services), f"{revision.available} of {revision.desired}",
+            str(revision.open), _scale_down(revision, report.moment))
+
+
+def draw(report: Report | None) -> list[str]:
+    """The lines of a report as a tree of its revisions, newest first."""
+    if report is None:
+        return [NO_BOOK]
+    newest_first = sorted(report.revisions.values(), key=lambda revision: -revision.number)
+    rows = [("REVISION", "SERVICES", "AVAILABLE", "OPEN", "SCALE-DOWN"), *(_row(report, each) for each in newest_first)]
+    widths = [max(len(cells[column]) for cells in rows) for column in range(5)]
+    branches = ["   "] + ["├─ "] * (len(rows) - 2) + ["└─ "]
+    table = ["  ".join(cell.ljust(width) for cell, width in zip(cells, widths)) for cells in rows]
+    head = f"phase {report.phase} ({AWAITED[report.phase]})   moment {report.moment}"
+    return [head] + [(branch + line).rstrip() for branch, line in zip(branches, table)]
+
+
+def in_one_line(report: Report | None) -> str:
+    """The state in one line: the phase, what the services select, and the moment."""
+    if report is None:
+        return NO_BOOK
+    selected = ", ".join(f"{service} {report.service(service).name}" for service in report.selected)
+    return f"{report.phase}: {selected}, moment {report.moment}"

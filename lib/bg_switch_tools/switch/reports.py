@@ -1,0 +1,112 @@
+"""The switch's report: its lines, read into values. docs/LINES.md has the form of each line."""
+import dataclasses
+from collections.abc import Mapping, Sequence
+
+from bg_switch_tools.switch.lines import was_carried_out
+
+SERVICES = ("active", "preview", "stable", "newest")
+PHASES = ("steady", "scaling", "preAnalysis", "paused", "sizing", "postAnalysis", "aborted")
+# The phases of an attempt. One attempt passes through them in this order, and may leave some out.
+RUNNING = ("scaling", "preAnalysis", "paused", "sizing", "postAnalysis")
+
+
+class NoReport(ValueError):
+    """These lines have not the form of a report."""
+
+
+@dataclasses.dataclass(frozen=True)
+class Revision:
+    """A line `revision`. `open` is the number of its open requests, `deadline` the moment from which it may be scaled down."""
+    number: int
+    name: str
+    desired: int
+    available: int
+    open: int
+    deadline: int | None
+    draining: bool
+    cut: bool
+
+    def title(self) -> str:
+        return f"revision {self.number} {self.name}"
+
+
+@dataclasses.dataclass(frozen=True)
+class Report:
+    """A whole report. `selected` has the number of the revision of each of `SERVICES`, `revisions` each one by its number."""
+    moment: int
+    phase: str
+    selected: Mapping[str, int]
+    revisions: Mapping[int, Revision]
+
+    def service(self, service: str) -> Revision:
+        """The revision that one of `SERVICES` selects."""
+        return self.revisions[self.selected[service]]
+
+    @property
+    def stable(self) -> Revision:
+        return self.service("stable")
+
+    @property
+    def newest(self) -> Revision:
+        return self.service("newest")
+
+    @property
+    def is_running(self) -> bool:
+        """Whether an attempt runs."""
+        return self.phase in RUNNING
+
+    def named(self, name: str) -> Revision | None:
+        """The revision that has this name, where one exists. No two that exist have one name."""
+        return next((revision for revision in self.revisions.values() if revision.name == name), None)
+
+    def title(self, number: int) -> str:
+        return self.revisions[number].title() if number in self.revisions else f"revision {number}"
+
+
+def _number(word: str) -> int:
+    """A number as a line has it: 1 to 20 digits."""
+    if not (word.isascii() and word.isdigit() and len(word) <= 20):
+        raise NoReport(f"{word[:20]} is no number")
+    return int(word)
+
+
+def _read_revision(words: Sequence[str]) -> Revision:
+    """A line `revision R NAME desired D available A open O deadline T [draining [cut]]`."""
+    if [words[place] for place in (3, 5, 7, 9)] != ["desired", "available", "open", "deadline"]:
+        raise NoReport(" ".join(words))
+    number, desired, available, opened = (_number(words[place]) for place in (1, 4, 6, 8))
+    deadline = None if words[10] == "none" else _number(words[10])
+    return Revision(number, words[2], desired, available, opened, deadline, "draining" in words[11:], "cut" in words[11:])
+
+
+def _read_values(lines: Sequence[str]) -> Report:
+    values: dict[str, str] = {}
+    revisions: dict[int, Revision] = {}
+    for line in lines[:-1]:
+        words = line.split()
+        if words[0] == "revision":
+            revision = _read_revision(words)
+            revisions[revision.number] = revision
+        else:
+            values[words[0]] = words[1]
+    selected = {service: _number(values[service]) for service in SERVICES}
+    if not all(number in revisions for number in selected.values()) or values["phase"] not in PHASES:
+        raise NoReport("a service or the phase is none that a report can have")
+    return Report(_number(values["moment"]), values["phase"], selected, revisions)
+
+
+def read_report(lines: Sequence[str]) -> Report | None:
+    """The report of these lines, or None where they say that no book is open. `NoReport` where they are neither."""
+    if lines and not was_carried_out(lines[0]):
+        return None
+    try:
+        return _read_values(lines)
+    except (IndexError, KeyError, ValueError) as error:
+        raise NoReport(f"this is no report: {error}") from None
+
+
+def as_json(report: Report) -> dict[str, object]:
+    """A report as an object of JSON: `moment`, `phase`, each service with its revision's number and name, `revisions`."""
+    services = {service: {"number": number, "name": report.revisions[number].name} for service, number in report.selected.items()}
+    revisions = [dataclasses.asdict(revision) for revision in report.revisions.values()]
+    return {"moment": report.moment, "phase": report.phase, **services, "revisions": revisions}
