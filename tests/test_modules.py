@@ -1,0 +1,57 @@
+"""The packages of the tools: their imports go one way, no two modules import one another, and docs/TOOLS.md lists each."""
+import graphlib
+import pathlib
+import tempfile
+import unittest
+
+from module_map import BELOW, LIBRARY, PAGE, TABLE, imported, modules, page_with, sentence_of, table, wrong_imports
+
+MEND = "run scripts/module_map.py --write"
+LONGEST_SENTENCE = 200
+
+
+class Imports(unittest.TestCase):
+    def test_they_go_one_way(self) -> None:
+        self.assertEqual(wrong_imports(), [])
+
+    def test_each_package_is_named(self) -> None:
+        packages = {path.parent.name for path in LIBRARY.glob("*/__init__.py")}
+        self.assertEqual(set(BELOW), packages)
+        self.assertEqual([path.name for path in LIBRARY.glob("*.py")], ["__init__.py"])
+
+    def test_what_a_package_imports_stands_before_it(self) -> None:
+        names = list(BELOW)
+        for place, below in enumerate(BELOW.values()):
+            self.assertLessEqual(set(below), set(names[:place]))
+
+    def test_no_two_modules_import_one_another(self) -> None:
+        """A cycle would end `prepare` with a fault."""
+        graph = {f"{package}.{path.stem}": {f"{other}.{module}" for other, module in imported(path) if module}
+                 for package in BELOW for path in modules(package)}
+        graphlib.TopologicalSorter(graph).prepare()
+
+    def test_an_import_that_goes_up_is_found(self) -> None:
+        with tempfile.TemporaryDirectory() as folder:
+            library = pathlib.Path(folder)
+            for package in BELOW:
+                (library / package).mkdir()
+            (library / "switch" / "a.py").write_text("def f() -> None:\n    from bg_switch_tools.bgctl import cli\n", encoding="ascii")
+            (library / "operator" / "b.py").write_text("import bg_switch_tools.switch.a\nfrom bg_switch_tools.analysis.c import D\n",
+                                                       encoding="ascii")
+            self.assertEqual(wrong_imports(library), ["switch/a.py: bgctl", "operator/b.py: analysis"])
+
+
+class Listed(unittest.TestCase):
+    def test_the_page_has_the_table(self) -> None:
+        page = PAGE.read_text(encoding="utf-8")
+        self.assertEqual(len(TABLE.findall(page)), 1)
+        self.assertEqual(page, page_with(page, table()), MEND)
+
+    def test_each_sentence_is_short(self) -> None:
+        for path in LIBRARY.rglob("*.py"):
+            with self.subTest(path.relative_to(LIBRARY)):
+                self.assertLessEqual(len(sentence_of(path)), LONGEST_SENTENCE)
+
+
+if __name__ == "__main__":
+    unittest.main()
