@@ -17,7 +17,7 @@ from typing import Any
 TOP = pathlib.Path(__file__).resolve().parents[1]
 sys.path.insert(0, str(TOP / "lib"))
 
-from bg_switch_tools.bgctl import VERSION  # noqa: E402  (the path stands above)
+from bg_switch_tools import VERSION  # noqa: E402  (the path stands above)
 from bg_switch_tools.bgctl.argument_parser import DESCRIPTION, parser  # noqa: E402
 from bg_switch_tools.bgctl.commands import COMMANDS  # noqa: E402
 

@@ -10,7 +10,6 @@ import select
 import signal
 import subprocess
 import termios
-import threading
 import time
 from collections.abc import Iterator
 

@@ -52,7 +52,7 @@ def imported(path: pathlib.Path) -> Iterator[tuple[str, str]]:
             names = [f"{node.module}.{alias.name}" for alias in node.names]
         for name in names:
             words = name.split(".")
-            if words[0] == NAME and len(words) > 1:
+            if words[0] == NAME and len(words) > 1 and words[1] in BELOW:
                 yield words[1], words[2] if len(words) > 2 else ""
 
 

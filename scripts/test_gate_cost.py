@@ -9,8 +9,8 @@ import unittest
 
 sys.path.insert(0, os.path.dirname(os.path.abspath(__file__)))
 
-import gate_cost
-from gate_cost import EDITS, PROOF, TESTS, Costs, Work
+import gate_cost  # noqa: E402  (the path stands above)
+from gate_cost import EDITS, PROOF, TESTS, Costs, Work  # noqa: E402
 
 CRATES = """# a comment: passed over
 bg_openlist: core

@@ -13,7 +13,8 @@ import zipapp
 from typing import NamedTuple
 from unittest import mock
 
-from bg_switch_tools.bgctl import VERSION, exit_statuses
+from bg_switch_tools import VERSION
+from bg_switch_tools.bgctl import exit_statuses
 from bg_switch_tools.bgctl.argument_parser import long_options, parser, place_of_command
 from bg_switch_tools.bgctl.cli import main
 from bg_switch_tools.bgctl.commands import COMMANDS, FIRST_ONES, NAMES

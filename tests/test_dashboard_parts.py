@@ -9,12 +9,12 @@ from bg_switch_tools.dashboard.alarms import without_endpoint
 from bg_switch_tools.dashboard.board import MOST_HAPPENED, Board
 from bg_switch_tools.dashboard.guard import fault_of, is_token
 from bg_switch_tools.dashboard.page_commands import Moved, Order, WrongOrder, carry_out, read_order
-from bg_switch_tools.dashboard.steps import Attempt, orders, steps
+from bg_switch_tools.dashboard.steps import NAMES, Attempt, orders, steps
 from bg_switch_tools.dashboard.totals import Labels, Tally, Totals, reasons
 from bg_switch_tools.dashboard.traffic import Durations, Traffic
 from bg_switch_tools.switch.access_log import Batch
 from bg_switch_tools.switch.report_text import in_one_line
-from bg_switch_tools.switch.reports import PHASES, Report, read_report
+from bg_switch_tools.switch.reports import PHASES, RUNNING, Report, read_report
 from tests.fake_switch import FakeBook, FakeSwitch
 from tests.synthetic_log import ANSWERED, BEGIN, Part, entries, refused
 
@@ -143,6 +143,9 @@ class Steps(unittest.TestCase):
         report = read_report(book.answer("report") or [])
         assert report is not None
         return [step["state"] for step in steps(report, seen, failed_at)]
+
+    def test_each_phase_of_an_attempt_is_a_step(self) -> None:
+        self.assertLess(set(RUNNING), set(NAMES))
 
     def test_each_phase(self) -> None:
         for phase, place in (("scaling", 0), ("preAnalysis", 1), ("paused", 2), ("sizing", 3), ("postAnalysis", 5)):

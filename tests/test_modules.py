@@ -1,10 +1,12 @@
 """The packages of the tools: their imports go one way, no two modules import one another, and docs/TOOLS.md lists each."""
+import ast
 import graphlib
 import pathlib
 import tempfile
 import unittest
 
 from module_map import BELOW, LIBRARY, PAGE, TABLE, imported, modules, page_with, sentence_of, table, wrong_imports
+from tests.tool_runs import TOP
 
 MEND = "run scripts/module_map.py --write"
 LONGEST_SENTENCE = 200
@@ -39,6 +41,28 @@ class Imports(unittest.TestCase):
             (library / "operator" / "b.py").write_text("import bg_switch_tools.switch.a\nfrom bg_switch_tools.analysis.c import D\n",
                                                        encoding="ascii")
             self.assertEqual(wrong_imports(library), ["switch/a.py: bgctl", "operator/b.py: analysis"])
+
+
+def unfit_statements(path: pathlib.Path) -> list[str]:
+    """The statements of a module that no tool may have: python -O drops an `assert`, and `os._exit` ends without what is left."""
+    found = []
+    for node in ast.walk(ast.parse(path.read_text(encoding="utf-8"))):
+        if isinstance(node, ast.Assert):
+            found.append(f"{path.name}:{node.lineno}: assert")
+        elif isinstance(node, ast.Attribute) and node.attr == "_exit":
+            found.append(f"{path.name}:{node.lineno}: _exit")
+    return found
+
+
+class Statements(unittest.TestCase):
+    def test_no_tool_asserts_or_ends_at_once(self) -> None:
+        self.assertEqual([each for path in (TOP / "lib").rglob("*.py") for each in unfit_statements(path)], [])
+
+    def test_what_is_unfit_is_found(self) -> None:
+        with tempfile.TemporaryDirectory() as folder:
+            path = pathlib.Path(folder, "a.py")
+            path.write_text("import os\nassert os\nos._exit(0)\n", encoding="ascii")
+            self.assertEqual(unfit_statements(path), ["a.py:2: assert", "a.py:3: _exit"])
 
 
 class Listed(unittest.TestCase):

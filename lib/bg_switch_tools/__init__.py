@@ -1,1 +1,2 @@
-"""The tools around a running `bg_switch serve`: the operator's command, the controller, and what both stand on."""
+"""The tools around a running `bg_switch serve`: a package for each tool, and `switch`, on which they stand."""
+VERSION = "0.1.0"  # that of the switch, as `bg_switch --version` prints it

@@ -60,7 +60,7 @@ def subject_of(told: str, control: int | None, variables: Mapping[str, str] = os
         if is_number:
             return Subject("", int(told))
         raise NotJudged(f"the number of {told} is not known: --control tells the port to ask, or --revision the number")
-    return asked_subject(Subject("" if is_number else told, int(told) if is_number else 0, control))
+    return asked_subject(Subject("" if is_number else told, int(told) if is_number else 0, control), control)
 
 
 def control_of(variables: Mapping[str, str]) -> int | None:
@@ -72,12 +72,11 @@ def control_of(variables: Mapping[str, str]) -> int | None:
         raise NotJudged(f"{CONTROL}: {reason}") from None
 
 
-def asked_subject(subject: Subject) -> Subject:
+def asked_subject(subject: Subject, control: int) -> Subject:
     """A revision with the number and name that the switch tells. `NotJudged` where it tells none."""
-    assert subject.control is not None
     told = subject.name or subject.number
     try:
-        report = read_report(ask(subject.control, b"report", FIRST_WAIT))
+        report = read_report(ask(control, b"report", FIRST_WAIT))
     except (Unreachable, NoReport) as reason:
         raise NotJudged(f"the number of {told} is not known: {reason}") from None
     if report is None:

@@ -4,8 +4,8 @@ import re
 from collections.abc import Callable, Sequence
 from typing import NoReturn
 
+from bg_switch_tools import VERSION
 from bg_switch_tools.analysis import cli as analysis_cli
-from bg_switch_tools.bgctl import VERSION
 from bg_switch_tools.bgctl.commands import COMMANDS, END, LINE_WORDS, NAMES, Command
 from bg_switch_tools.bgctl.suggestion import did_you_mean
 from bg_switch_tools.bgctl.target import BEFORE

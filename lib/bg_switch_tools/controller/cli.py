@@ -156,6 +156,7 @@ class Runner:
         if self.has_fault:
             self.controller.launcher.begin_end()
             self.controller.analyses.end_at_last()
+        self.controller.probes.stop()
 
 
 def tell(text: str) -> None:
@@ -201,10 +202,10 @@ def run_locked(file: PlanFile, plan: Plan, as_json: bool) -> int:
     runner.thread.start()
     while runner.thread.is_alive() and not signals:
         time.sleep(LOOK)
+    runner.stop()
     if runner.unfit:
         tell(runner.unfit)
         return 1
-    runner.stop()
     return 70 if runner.has_fault and not runner.thread.is_alive() else 0
 
 

@@ -18,6 +18,7 @@ MOST_WAITING = 256  # events; a later one is dropped
 GRACE = 2.0  # seconds between SIGTERM and SIGKILL
 MINUTE = 60.0  # seconds between two lines of the log that tell of failures
 LAST_WAIT = 0.5  # seconds that the events that wait have where the controller ends
+LAST_JOIN = 0.2  # seconds after that for the threads
 
 
 class Notifier:
@@ -27,7 +28,7 @@ class Notifier:
         self.folder = folder
         self.log = log
         self.commands = commands
-        self.events: "queue.Queue[bytes]" = queue.Queue(MOST_WAITING)
+        self.events: "queue.Queue[bytes | None]" = queue.Queue(MOST_WAITING)  # None ends a thread
         self.lock = threading.Lock()
         self.failures, self.next_told, self.number = 0, 0.0, 0
         self.is_ending = False  # whether no further command may be run
@@ -48,8 +49,7 @@ class Notifier:
             self._fail("too many events wait")
 
     def _work(self) -> None:
-        while True:
-            event = self.events.get()
+        while (event := self.events.get()) is not None:
             try:
                 self._run(event)
             except (OSError, ValueError) as error:
@@ -111,3 +111,15 @@ class Notifier:
             for process in self.processes:
                 with contextlib.suppress(ProcessLookupError, PermissionError):
                     os.killpg(process.pid, signal.SIGKILL)
+        self._end_threads()
+
+    def _end_threads(self) -> None:
+        """Drops the events that still wait, and waits for the threads for a moment."""
+        with contextlib.suppress(queue.Empty):
+            while True:
+                self.events.get_nowait()
+        for _ in self.threads:
+            self.events.put(None)
+        deadline = time.monotonic() + LAST_JOIN
+        for thread in self.threads:
+            thread.join(max(deadline - time.monotonic(), 0))

@@ -1,94 +1,34 @@
-"""Which endpoints are up. One thread runs all probes in an event loop, so that no endpoint delays another's."""
+"""Which endpoints are up. An event loop begins and ends the probes, so that no endpoint delays another's."""
 import asyncio
+import contextlib
 import errno
+import http.client
 import threading
 import time
 from collections.abc import Collection, Iterable, Sequence
 
 from bg_switch_tools.controller.plan import Health
-from bg_switch_tools.switch.connection import HOST
+from bg_switch_tools.controller.probe_request import status_of
 
-LONGEST_FIELD = 65536  # bytes of a line of a response's head
-MOST_FIELDS = 64  # of a head, as in the switch, which answers 502 for a response with more
-PIECE = 65536  # bytes of a body that are read at a time, and dropped
-# Where the controller itself has no descriptor or memory left, a probe says nothing of its endpoint.
-OWN_WANTS = (errno.EMFILE, errno.ENFILE, errno.ENOBUFS, errno.ENOMEM)
-
-
-class Malformed(Exception):
-    """An endpoint's response is none of HTTP/1."""
-
-
-async def _head(reader: asyncio.StreamReader) -> tuple[int, dict[str, str]]:
-    """The status of a response, and its fields by their names in lower case."""
-    words = (await reader.readuntil(b"\n")).split()
-    if len(words) < 2 or not words[0].startswith(b"HTTP/1.") or not words[1].isdigit():
-        raise Malformed
-    fields: dict[str, str] = {}
-    while (line := (await reader.readuntil(b"\n")).strip()):
-        name, _, value = line.decode("latin-1").partition(":")
-        fields[name.lower()] = value.strip()
-        if len(fields) > MOST_FIELDS:
-            raise Malformed
-    return int(words[1]), fields
-
-
-async def _drop(reader: asyncio.StreamReader, count: int) -> None:
-    """Reads so many bytes."""
-    while count > 0:
-        piece = await reader.read(min(count, PIECE))
-        if not piece:
-            raise Malformed
-        count -= len(piece)
-
-
-async def _drop_chunks(reader: asyncio.StreamReader) -> None:
-    """Reads a body in the chunked coding (RFC 9112, section 7.1), up to its last chunk."""
-    while (size := int((await reader.readuntil(b"\n")).split(b";")[0], 16)) != 0:
-        await _drop(reader, size + 2)
-
-
-async def _status(reader: asyncio.StreamReader) -> int:
-    """The status of a whole response: its head and its body have come."""
-    status, fields = await _head(reader)
-    while status < 200:
-        status, fields = await _head(reader)
-    if status in (204, 304):
-        return status
-    if "chunked" in fields.get("transfer-encoding", "").lower():
-        await _drop_chunks(reader)
-    elif "content-length" in fields:
-        await _drop(reader, int(fields["content-length"]))
-    else:
-        while await reader.read(PIECE):
-            pass
-    return status
-
-
-async def _get(port: int, path: str) -> int:
-    """The status that an endpoint answers a GET with."""
-    reader, writer = await asyncio.open_connection(HOST, port, limit=LONGEST_FIELD)
-    try:
-        writer.write(f"GET {path} HTTP/1.1\r\nHost: {HOST}:{port}\r\nUser-Agent: bg-switch-controller\r\n"
-                     "Accept: */*\r\nConnection: close\r\n\r\n".encode("ascii"))
-        return await _status(reader)
-    finally:
-        writer.transport.abort()
+# Where the system refuses the controller itself a descriptor or memory, a probe says nothing of its endpoint.
+OWN_FAULTS = (errno.EMFILE, errno.ENFILE, errno.ENOBUFS, errno.ENOMEM)
+END = 1.0  # seconds within which the probes that run are cut
 
 
 async def is_up(port: int, health: Health) -> bool | None:
     """Whether an endpoint answers whole, with a status from 200 to 399, within the limit; None where no probe could be made."""
     try:
-        async with asyncio.timeout(health.timeout):
-            return 200 <= await _get(port, health.path) < 400
+        return 200 <= await status_of(port, health) < 400
     except OSError as error:
-        return None if error.errno in OWN_WANTS else False
-    except (Malformed, EOFError, ValueError, asyncio.LimitOverrunError):
+        return None if error.errno in OWN_FAULTS else False
+    except (http.client.HTTPException, ValueError):
         return False
+    except RuntimeError:
+        return None  # the system has no thread left, or the controller ends
 
 
 class Probes:
-    """Probes the endpoints that `watch` names, each every `interval` seconds, for as long as the process runs."""
+    """Probes the endpoints that `watch` names, each every `interval` seconds, up to `stop`."""
 
     def __init__(self) -> None:
         self.health = Health()
@@ -98,14 +38,30 @@ class Probes:
         self.tasks: dict[int, asyncio.Task[None]] = {}
         self.watched: frozenset[int] = frozenset()
         self.loop = asyncio.new_event_loop()
-        threading.Thread(target=self.loop.run_forever, daemon=True).start()
+        self.thread = threading.Thread(target=self._run, daemon=True)
+        self.thread.start()
+
+    def _run(self) -> None:
+        self.loop.run_forever()
+        self.loop.close()
+
+    def stop(self) -> None:
+        """Ends the probes, and cuts those that run. Any thread may call this."""
+        with contextlib.suppress(RuntimeError):  # they have ended before
+            self.loop.call_soon_threadsafe(self._end)
+        self.thread.join(END)
+
+    def _end(self) -> None:
+        self._set(frozenset())
+        self.loop.call_soon(self.loop.stop)  # after the tasks, which are cancelled by then
 
     def watch(self, ports: Collection[int], health: Health) -> None:
         """Probes these endpoints from now on, and no others. Any thread may call this."""
         self.health = health
         if frozenset(ports) != self.watched:
             self.watched = frozenset(ports)
-            self.loop.call_soon_threadsafe(self._set, self.watched)
+            with contextlib.suppress(RuntimeError):  # the probes have ended
+                self.loop.call_soon_threadsafe(self._set, self.watched)
 
     def _set(self, ports: frozenset[int]) -> None:
         for port in set(self.tasks) - ports:

@@ -1,0 +1,76 @@
+"""The tools by their names: bin/NAME, the one file that `make tools` makes, and the commands of an installed package start them."""
+import contextlib
+import io
+import os
+import sys
+from collections.abc import Callable, Sequence
+
+from bg_switch_tools.analysis import cli as analysis_cli
+from bg_switch_tools.bgctl import cli as bgctl_cli
+from bg_switch_tools.controller import cli as controller_cli
+from bg_switch_tools.dashboard import cli as dashboard_cli
+from bg_switch_tools.operator import cli as operator_cli
+
+TOOLS: dict[str, Callable[[Sequence[str]], int]] = {
+    "bgctl": bgctl_cli.main, "operator": operator_cli.main, "controller": controller_cli.main, "analysis": analysis_cli.main,
+    "dashboard": dashboard_cli.main}
+
+
+def prepare_streams() -> None:
+    """Opens each standard stream that was closed, so that no file or socket takes its place. A path that is not UTF-8 can be
+    printed."""
+    while (opened := os.open(os.devnull, os.O_RDWR)) <= 2:
+        pass
+    os.close(opened)
+    sys.stdin = sys.stdin or open(os.devnull, encoding="utf-8")
+    sys.stdout = sys.stdout or open(os.devnull, "w", encoding="utf-8")
+    sys.stderr = sys.stderr or open(os.devnull, "w", encoding="utf-8")
+    if isinstance(sys.stdout, io.TextIOWrapper) and sys.stdout.errors == "strict":
+        sys.stdout.reconfigure(errors="backslashreplace")
+
+
+def finish_streams() -> None:
+    """Writes what is left of the output. Where nobody takes it, it is dropped: the exit status still tells the result."""
+    for stream in (sys.stdout, sys.stderr):
+        try:
+            stream.flush()
+        except OSError:
+            with contextlib.suppress(OSError):
+                os.dup2(os.open(os.devnull, os.O_WRONLY), stream.fileno())
+
+
+def run(name: str, words: Sequence[str]) -> int:
+    """Runs a tool. Gives the exit status."""
+    prepare_streams()
+    status = TOOLS[name](words)
+    finish_streams()
+    return status
+
+
+def main(words: Sequence[str]) -> int:
+    """Runs the tool that the first word names. Gives the exit status."""
+    if not words or words[0] not in TOOLS:
+        prepare_streams()
+        print("name a tool first: bgctl, operator, controller, analysis or dashboard; its own words follow", file=sys.stderr)
+        return 2
+    return run(words[0], words[1:])
+
+
+def bgctl() -> int:
+    return run("bgctl", sys.argv[1:])
+
+
+def operator() -> int:
+    return run("operator", sys.argv[1:])
+
+
+def controller() -> int:
+    return run("controller", sys.argv[1:])
+
+
+def analysis() -> int:
+    return run("analysis", sys.argv[1:])
+
+
+def dashboard() -> int:
+    return run("dashboard", sys.argv[1:])
