@@ -61,6 +61,7 @@ put_tools() {
         put_tool "$tool" "bg-$tool"
     done
     put_tool bgctl bgctl
+    put 644 share/plan.schema.json usr/share/bg-switch/plan.schema.json
 }
 
 # The units, the users, the rotation of the access log, and the Rollout with which the switch starts.

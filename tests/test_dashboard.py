@@ -17,6 +17,7 @@ import zipapp
 from collections.abc import Iterator, Sequence
 from typing import NamedTuple
 
+from bg_switch_tools import VERSION
 from bg_switch_tools.switch.access_log import Entry
 from tests.fake_port import free_port
 from tests.fake_switch import FakeSwitch
@@ -382,6 +383,16 @@ class Started(Dashboard):
         zipapp.create_archive(TOP / "lib", archive, PYTHON)
         self.start([PYTHON, archive, "dashboard"])
         self.assertEqual(self.get("/dashboard.js").status, 200)
+
+
+class OldNames(unittest.TestCase):
+    def test_the_pages_name_the_version_that_drops_them(self) -> None:
+        """It is not released yet: with that version the old names and this test go."""
+        source = (TOP / "lib" / "bg_switch_tools" / "dashboard" / "metrics.py").read_text(encoding="utf-8")
+        dropped = re.findall(r'^DROPPED_IN = "(.*)"', source, re.M)[0]
+        self.assertLess([int(part) for part in VERSION.split(".")], [int(part) for part in dropped.split(".")])
+        for page in ("docs/DASHBOARD.md", "CHANGELOG.md"):
+            self.assertIn(f"version {dropped} drops them", (TOP / page).read_text(encoding="utf-8"), page)
 
 
 class Libraries(unittest.TestCase):

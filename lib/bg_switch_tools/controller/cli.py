@@ -58,7 +58,8 @@ A plan:
 What "health" and "progress" leave out is as above; an analysis that is left out waits for a verdict by hand; other keys that
 are left out do nothing. A command finds the name, the number and the ports of the revision that it judges in BG_REVISION,
 BG_REVISION_NUMBER and BG_PORTS; bin/analysis is one that judges by the access log. A plan may be in YAML where python3-yaml is
-installed. docs/OPERATING.md says what each line of the log means.
+installed. The key "$schema" can name the JSON schema of plans for editors: share/plan.schema.json. docs/OPERATING.md says what each
+line of the log means.
 
 Exit status: 0 after SIGTERM or ctrl-C, and for a plan in which `check` finds nothing wrong; 1 where the plan is wrong when it
 starts, by `check` or after `deploy`, where the switch can't be opened with it, and where another controller runs it; 2 where the

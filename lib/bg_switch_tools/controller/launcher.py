@@ -148,8 +148,8 @@ class Launcher:
                     if endpoint.done != "stop" and time.monotonic() >= endpoint.next:
                         self._run(plan, key, endpoint)
             if all(self.endpoints[key].is_stopped() for key in keys):
-                self.log.say("command", f"{revision.name} is stopped")
                 self._forget(revision)
+                self.log.say("command", f"{revision.name} is stopped")
 
     def _forget(self, revision: PlannedRevision) -> None:
         """The revision has no endpoint any more that is to be stopped."""

@@ -6,11 +6,12 @@ from bg_switch_tools.switch.json_values import GREATEST_PORT, JsonObject, Judge
 
 LARGEST = 1 << 20  # bytes of a plan
 MOST_REVISIONS = 64
-LONGEST = 86400  # seconds: above each interval and limit of a plan stands a day
+LEAST_SECONDS, LONGEST = 0.1, 86400  # of each interval and limit of a plan
 MOST_FAILURES = 1000
-COMMANDS = ("start", "stop", "notify")
-SERVICES = ("active", "preview")
-KEYS = ("control", *SERVICES, "health", "analyses", "progress", "redispatch", *COMMANDS, "timeout", "revisions")
+COMMAND_KEYS = ("start", "stop", "notify")
+SERVICE_KEYS = ("active", "preview")
+SCHEMA = "$schema"  # the place of the schema by which an editor judges the plan: share/plan.schema.json
+KEYS = ("control", *SERVICE_KEYS, "health", "analyses", "progress", "redispatch", *COMMAND_KEYS, "timeout", "revisions", SCHEMA)
 
 
 class WrongPlan(Exception):
@@ -22,7 +23,7 @@ class WrongPlan(Exception):
 
 
 def seconds(judge: Judge, told: JsonObject, key: str, place: str, default: float) -> float:
-    return judge.member(told, key, place, lambda value, at: judge.number(value, at, 0.1, LONGEST), default)
+    return judge.member(told, key, place, lambda value, at: judge.number(value, at, LEAST_SECONDS, LONGEST), default)
 
 
 def read_health(judge: Judge, told: object, place: str) -> Health:
@@ -50,7 +51,7 @@ def read_progress(judge: Judge, told: object, place: str) -> Progress:
 
 def read_commands(judge: Judge, members: JsonObject) -> Commands:
     none: tuple[str, ...] = ()
-    start, stop, notify = (judge.member(members, key, "", judge.command, none) for key in COMMANDS)
+    start, stop, notify = (judge.member(members, key, "", judge.command, none) for key in COMMAND_KEYS)
     return Commands(start, stop, notify, seconds(judge, members, "timeout", "", Commands.timeout))
 
 
@@ -109,6 +110,7 @@ def read_plan(text: bytes) -> Plan:
     except ValueError as error:
         raise WrongPlan([str(error)]) from None
     members = judge.members(told, "", KEYS, ("control", "revisions"))
+    judge.member(members, SCHEMA, "", judge.text, "")
 
     def port(value: object, place: str) -> int:
         return judge.whole_number(value, place, 1, GREATEST_PORT)
@@ -120,7 +122,7 @@ def read_plan(text: bytes) -> Plan:
         judge.member(members, "revisions", "", lambda value, at: read_revisions(judge, value, at), ()),
         read_commands(judge, members),
         judge.member(members, "redispatch", "", judge.flag, True),
-        {key: port(members[key], key) for key in SERVICES if key in members})
+        {key: port(members[key], key) for key in SERVICE_KEYS if key in members})
     if not judge.problems:
         compare_ports(judge, plan)
         judge_limits(judge, plan)

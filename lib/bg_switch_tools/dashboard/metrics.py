@@ -13,6 +13,7 @@ CONTENT_TYPE = prometheus_client.CONTENT_TYPE_LATEST
 # The phases of Argo Rollouts.
 ARGO_PHASES = {"steady": "Healthy", "aborted": "Degraded", "paused": "Paused"}
 LABELS = list(Labels._fields)
+DROPPED_IN = "0.2.0"  # the version that no longer has the old names
 # The names that metrics had before, which are those of exporters that can run beside the dashboard.
 OLD_NAMES = {
     "bg_switch_rollout_info": "rollout_info",
@@ -119,7 +120,7 @@ def _of_board(board: Board) -> Iterator[Metric]:
 
 def _renamed(metric: Metric, name: str) -> Metric:
     """The same metric by its old name."""
-    text = f"The old name of {metric.name}, which goes with the next version."
+    text = f"Deprecated: the old name of {metric.name}. Version {DROPPED_IN} drops it."
     made = Metric(name, text, metric.type)
     made.samples = [sample._replace(name=name + sample.name.removeprefix(metric.name)) for sample in metric.samples]
     return made

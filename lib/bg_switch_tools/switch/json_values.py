@@ -103,6 +103,12 @@ class Judge:
             self.note(place, f"{shown(told)} is neither true nor false")
         return told is True
 
+    def text(self, told: object, place: str) -> str:
+        if isinstance(told, str):
+            return told
+        self.note(place, f"{shown(told)} is not a text")
+        return ""
+
     def path(self, told: object, place: str) -> str:
         """The path of a request: printable ASCII that begins with a slash."""
         if isinstance(told, str) and PATH.fullmatch(told):

@@ -1,0 +1,109 @@
+#!/usr/bin/env python3
+"""Makes the JSON schema of a controller's plan, which editors use, from the limits and defaults of its reader.
+
+usage: scripts/plan_schema.py             prints the schema
+       scripts/plan_schema.py --write     writes it into share/plan.schema.json
+
+The schema says what one value can be. That names and ports stand once, that revisions have equally many ports, and that the limits
+of an analysis fit together, only `bin/controller check` judges.
+"""
+import json
+import pathlib
+import sys
+
+TOP = pathlib.Path(__file__).resolve().parents[1]
+sys.path.insert(0, str(TOP / "lib"))
+
+from bg_switch_tools.controller.plan import Analyses, Commands, Health, Progress  # noqa: E402  (the path stands above)
+from bg_switch_tools.controller.plan_reader import LEAST_SECONDS, LONGEST, MOST_FAILURES, MOST_REVISIONS  # noqa: E402
+from bg_switch_tools.switch.json_values import GREATEST_PORT, MOST_PORTS, NAME, PATH  # noqa: E402
+
+FILE = TOP / "share" / "plan.schema.json"
+DRAFT = "http://json-schema.org/draft-07/schema#"  # which editors know best
+Schema = dict[str, object]
+WORD: Schema = {"type": "string", "pattern": "^[^\\u0000]*$"}
+
+
+def told(text: str, schema: Schema, default: object = None) -> Schema:
+    """A schema with what it is about, and the value of a key that is left out."""
+    return {"description": text, **schema, **({} if default is None else {"default": default})}
+
+
+def seconds(default: float) -> Schema:
+    return {"type": "number", "minimum": LEAST_SECONDS, "maximum": LONGEST, "default": default}
+
+
+def an_object(properties: Schema, required: tuple[str, ...] = ()) -> Schema:
+    made: Schema = {"type": "object", "additionalProperties": False, "properties": properties}
+    return {**made, "required": list(required)} if required else made
+
+
+def port() -> Schema:
+    return {"type": "integer", "minimum": 1, "maximum": GREATEST_PORT}
+
+
+def command() -> Schema:
+    return {"type": "array", "minItems": 1, "items": [{**WORD, "minLength": 1}], "additionalItems": WORD}
+
+
+def text_of(pattern: str) -> Schema:
+    """A whole text of this pattern. In some languages `$` also matches before a line end, which is no part of it."""
+    return {"type": "string", "pattern": rf"^{pattern}(?!\n)$"}
+
+
+def schema() -> Schema:
+    health, progress, commands = Health(), Progress(), Commands()
+    places = "{revision}, {port} and {number}, the place of the port from 1, are replaced in its words"
+    revision = an_object({
+        "name": told("Lower-case letters, digits and hyphens, with no hyphen at either end.", text_of(NAME.pattern)),
+        "ports": told("The port of each endpoint on 127.0.0.1: one for each replica.",
+                      {"type": "array", "minItems": 1, "maxItems": MOST_PORTS, "uniqueItems": True, "items": port()})},
+        ("name", "ports"))
+    properties: Schema = {
+        "$schema": told("The place of this schema, for editors. The controller does not read it.", {"type": "string"}),
+        "control": told("The control port of the switch.", port()),
+        "active": told("The port of the active service, which no revision may have.", port()),
+        "preview": told("The port of the preview service, which no revision may have.", port()),
+        "health": told("How each endpoint is probed.", an_object({
+            "path": told("The path of the GET request. A status from 200 to 399 is a success.", text_of(PATH.pattern), health.path),
+            "interval": told("Seconds between two probes of an endpoint.", seconds(health.interval)),
+            "timeout": told("Seconds within which the whole response has to come.", seconds(health.timeout)),
+            "failures": told("So many failed probes in a row, and the endpoint is down.",
+                             {"type": "integer", "minimum": 1, "maximum": MOST_FAILURES}, health.failures)})),
+        "analyses": told("The commands of the analyses, which run in the folder of the plan: status 0 is successful, 1 is failed, and "
+                         "any other status, or a timeout, is an error.", an_object({
+                             "pre": told("The command of the analysis before the switch.", command()),
+                             "post": told("The command of the analysis after the switch.", command()),
+                             "seconds": told("Seconds within which an analysis has to end.", seconds(Analyses.seconds))})),
+        "progress": told("Limits on an attempt that makes no progress.", an_object({
+            "seconds": told("Seconds within which a further endpoint has to be up.", seconds(progress.seconds)),
+            "abort": told("Whether the attempt is aborted after that.", {"type": "boolean"}, progress.abort),
+            "outage": told("Seconds without an endpoint that is up, after which an attempt that has switched ends.",
+                           seconds(progress.outage))})),
+        "redispatch": told("false for a switch that was started without --redispatch.", {"type": "boolean"}, True),
+        "start": told(f"The command that starts an endpoint; {places}.", command()),
+        "stop": told(f"The command that stops an endpoint; {places}.", command()),
+        "notify": told("The command that gets each line of the log on its standard input, as a JSON object.", command()),
+        "timeout": told("Seconds within which start, stop and notify each have to end.", seconds(commands.timeout)),
+        "revisions": told("The revisions, from the first one to the one that is to be live.",
+                          {"type": "array", "minItems": 1, "maxItems": MOST_REVISIONS, "items": revision})}
+    return {"$schema": DRAFT, "title": "Plan of a controller of bg_switch", **an_object(properties, ("control", "revisions"))}
+
+
+def text() -> str:
+    return json.dumps(schema(), indent=2) + "\n"
+
+
+def main() -> int:
+    if sys.argv[1:] == ["--write"]:
+        FILE.write_text(text(), encoding="utf-8")
+    elif sys.argv[1:]:
+        print(__doc__, file=sys.stderr)
+        return 2
+    else:
+        print(text(), end="")
+    return 0
+
+
+if __name__ == "__main__":
+    sys.exit(main())
