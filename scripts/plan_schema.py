@@ -43,7 +43,8 @@ def port() -> Schema:
 
 
 def command() -> Schema:
-    return {"type": "array", "minItems": 1, "items": [{**WORD, "minLength": 1}], "additionalItems": WORD}
+    first: Schema = {**WORD, "minLength": 1}
+    return {"type": "array", "minItems": 1, "items": [first], "additionalItems": WORD}
 
 
 def text_of(pattern: str) -> Schema:
