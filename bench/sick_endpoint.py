@@ -34,14 +34,14 @@ MOST_RATIO, SLACK = 2.0, 0.002
 STRATEGY = {"spec": {"replicas": 2, "strategy": {"blueGreen": {"activeService": "web"}}}}
 
 
-class Ended(NamedTuple):
+class Answered(NamedTuple):
     """A request: whether it was answered 200, and the seconds that it took."""
 
     is_good: bool
     seconds: float
 
 
-async def ask(port: int) -> Ended:
+async def ask(port: int) -> Answered:
     begun = time.monotonic()
     try:
         reader, writer = await asyncio.open_connection("127.0.0.1", port)
@@ -50,10 +50,10 @@ async def ask(port: int) -> Ended:
         writer.close()
     except (OSError, asyncio.TimeoutError):
         told = b""
-    return Ended(told.startswith(b"HTTP/1.1 200"), time.monotonic() - begun)
+    return Answered(told.startswith(b"HTTP/1.1 200"), time.monotonic() - begun)
 
 
-async def load(port: int, seconds: float, rate: int, sick: subprocess.Popen[bytes], fault: signal.Signals) -> list[Ended]:
+async def load(port: int, seconds: float, rate: int, sick: subprocess.Popen[bytes], fault: signal.Signals) -> list[Answered]:
     """Sends so many requests a second, and lets the fault happen after a third of the time."""
     tasks, begun, has_failed = [], time.monotonic(), False
     for number in range(int(seconds * rate)):
@@ -79,7 +79,7 @@ server {{ listen 127.0.0.1:{NGINX} backlog=4096; keepalive_timeout 0; location /
 proxy_connect_timeout {TIMEOUT}s; proxy_read_timeout {TIMEOUT}s; proxy_next_upstream error timeout; }} }} }}"""
 
 
-def order(*lines: str) -> None:
+def send(*lines: str) -> None:
     with socket.create_connection(("127.0.0.1", CONTROL)) as operator:
         operator.sendall("".join(f"{line}\n" for line in lines).encode())
         operator.shutdown(socket.SHUT_WR)
@@ -87,7 +87,7 @@ def order(*lines: str) -> None:
             pass
 
 
-class Scene:
+class Proxies:
     """Two endpoints, nginx and a switch before them."""
 
     def __init__(self, folder: str) -> None:
@@ -103,7 +103,7 @@ class Scene:
         self.switch.stdin.write(json.dumps(STRATEGY).encode())
         self.switch.stdin.close()
         self.switch.stdout.readline()
-        order(f"open v1 {ENDPOINTS[0]} {ENDPOINTS[1]}", "available 1 2")
+        send(f"open v1 {ENDPOINTS[0]} {ENDPOINTS[1]}", "available 1 2")
         time.sleep(0.5)
 
     def end(self) -> None:
@@ -114,15 +114,15 @@ class Scene:
             process.wait()
 
 
-def measured(folder: str, port: int, seconds: float, rate: int, fault: signal.Signals) -> list[Ended]:
-    scene = Scene(folder)
+def measured(folder: str, port: int, seconds: float, rate: int, fault: signal.Signals) -> list[Answered]:
+    proxies = Proxies(folder)
     try:
-        return asyncio.run(load(port, seconds, rate, scene.endpoints[0], fault))
+        return asyncio.run(load(port, seconds, rate, proxies.endpoints[0], fault))
     finally:
-        scene.end()
+        proxies.end()
 
 
-def judge(name: str, ended: list[Ended]) -> float:
+def judge(name: str, ended: list[Answered]) -> float:
     """Prints what came of a load, and gives the percentile of the requests that were not at the sick endpoint."""
     others = [one for one in ended if one.seconds < HELD * TIMEOUT]
     bad = sum(not one.is_good for one in others)

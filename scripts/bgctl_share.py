@@ -19,7 +19,7 @@ sys.path.insert(0, str(TOP / "lib"))
 
 from bg_switch_tools import VERSION  # noqa: E402  (the path stands above)
 from bg_switch_tools.bgctl.argument_parser import DESCRIPTION, parser  # noqa: E402
-from bg_switch_tools.bgctl.commands import COMMANDS  # noqa: E402
+from bg_switch_tools.bgctl.commands import BGCTL_COMMANDS  # noqa: E402
 
 PACKAGES = {"shtab": "python3-shtab", "argcomplete": "python3-argcomplete"}
 COLUMNS = "500"  # so that no line of a help is wrapped: man(1) fills the lines
@@ -66,7 +66,7 @@ def pages() -> dict[str, str]:
     about = DESCRIPTION[0].lower() + DESCRIPTION[1:].rstrip(".")
     with tempfile.TemporaryDirectory() as folder:
         made = {"man/man1/bgctl.1": page(pathlib.Path(folder), "", about)}
-        for command in COMMANDS:
+        for command in BGCTL_COMMANDS:
             made[f"man/man1/bgctl-{command.name}.1"] = page(pathlib.Path(folder), command.name, command.meaning)
     return made
 

@@ -67,14 +67,14 @@ def strategy_of(settings: str) -> Strategy:
 Analysis: TypeAlias = Literal["pre", "post"]
 Result: TypeAlias = Literal["successful", "failed", "error"]
 Service: TypeAlias = Literal["active", "preview"]
-OrderWord: TypeAlias = Literal["promote", "promote_full", "abort", "retry"]
+CommandWord: TypeAlias = Literal["promote", "promote_full", "abort", "retry"]
 StepWord: TypeAlias = Literal["ready", "resumed", "switched", "promoted"]
 CleanupWord: TypeAlias = Literal["scaled_down", "removed"]
 
 ANALYSES: tuple[Analysis, ...] = ("pre", "post")
 RESULTS: tuple[Result, ...] = ("successful", "failed", "error")
 SERVICES: tuple[Service, ...] = ("active", "preview")
-ORDERS: tuple[OrderWord, ...] = ("promote", "promote_full", "abort", "retry")
+COMMANDS: tuple[CommandWord, ...] = ("promote", "promote_full", "abort", "retry")
 STEPS: tuple[StepWord, ...] = ("ready", "resumed", "switched", "promoted")
 CLEANUPS: tuple[CleanupWord, ...] = ("scaled_down", "removed")
 
@@ -103,8 +103,8 @@ class Verdict(NamedTuple):
     result: Result
 
 
-class Order(NamedTuple):
-    word: OrderWord
+class Command(NamedTuple):
+    word: CommandWord
 
 
 class Enter(NamedTuple):
@@ -128,7 +128,7 @@ class Outcome(NamedTuple):
     revision: int
 
 
-Entry: TypeAlias = Tick | Deploy | Available | Verdict | Order | Enter | Leave | Outcome
+Entry: TypeAlias = Tick | Deploy | Available | Verdict | Command | Enter | Leave | Outcome
 History: TypeAlias = tuple[Entry, ...]
 # An entry, and the history before it.
 Placed: TypeAlias = tuple[Entry, History]
@@ -152,7 +152,7 @@ def stops(entry: Entry) -> bool:
     return entry.word == "abort" or is_failing(entry)
 
 
-def is_turn(entry: Entry) -> bool:
+def begins_attempt(entry: Entry) -> bool:
     return entry.word in ("deploy", "retry", "promoted") or stops(entry)
 
 
@@ -168,34 +168,34 @@ def newest(h: History) -> int:
     return next((e.revision for e in reversed(h) if e.word == "deploy"), 1)
 
 
-def last_turn(h: History) -> int | None:
-    """The place of the last turn."""
-    turns = [place for place, entry in enumerate(h) if is_turn(entry)]
-    return turns[-1] if turns else None
+def begin_of_attempt(h: History) -> int | None:
+    """The place of the entry with which the last attempt begins."""
+    begins_found = [place for place, entry in enumerate(h) if begins_attempt(entry)]
+    return begins_found[-1] if begins_found else None
 
 
 def is_running(h: History) -> bool:
-    turn = last_turn(h)
-    if turn is None:
+    begin = begin_of_attempt(h)
+    if begin is None:
         return False
-    entry = h[turn]
-    return entry.word == "retry" or (entry.word == "deploy" and entry.revision != stable(h[:turn]))
+    entry = h[begin]
+    return entry.word == "retry" or (entry.word == "deploy" and entry.revision != stable(h[:begin]))
 
 
 def is_halted(h: History) -> bool:
-    turn = last_turn(h)
-    return turn is not None and stops(h[turn])
+    begin = begin_of_attempt(h)
+    return begin is not None and stops(h[begin])
 
 
 def attempt(h: History) -> list[Placed]:
-    """The entries after the last turn, each with the history before it; none where no attempt runs."""
-    turn = last_turn(h)
-    if turn is None or not is_running(h):
+    """The entries after the begin of the last attempt, each with the history before it; none where no attempt runs."""
+    begin = begin_of_attempt(h)
+    if begin is None or not is_running(h):
         return []
-    return [(h[place], h[:place]) for place in range(turn + 1, len(h))]
+    return [(h[place], h[:place]) for place in range(begin + 1, len(h))]
 
 
-def stands(h: History, word: OrderWord | StepWord) -> bool:
+def stands(h: History, word: CommandWord | StepWord) -> bool:
     """Whether an entry with this word stands in the running attempt."""
     return any(e.word == word for e, _ in attempt(h))
 
@@ -241,7 +241,7 @@ def greatest(h: History) -> int:
     return max([1] + [e.revision for e in h if e.word == "deploy"])
 
 
-def owner(h: History, name: str) -> int | None:
+def revision_of_name(h: History, name: str) -> int | None:
     """The first of the existing revisions with this name."""
     return next((r for r in revisions(h) if template(h, r).name == name), None)
 
@@ -417,7 +417,7 @@ def may_deploy(s: Strategy, h: History, asked: Deploy) -> bool:
     new = Template(asked.name, asked.ports)
     if not is_label(new.name) or not are_ports(s, new.ports) or template(h, newest(h)) == new:
         return False
-    r = owner(h, new.name)
+    r = revision_of_name(h, new.name)
     if r is not None:
         return r == asked.revision and template(h, r).ports == new.ports
     return asked.revision == greatest(h) + 1 and len(revisions(h)) < 64
@@ -447,7 +447,7 @@ def may_leave(h: History, asked: Leave) -> bool:
     return request is not None and (request.number, request.revision) == (asked.number, asked.revision)
 
 
-def may_order(s: Strategy, h: History, word: OrderWord) -> bool:
+def may_command(s: Strategy, h: History, word: CommandWord) -> bool:
     if word == "promote":
         return phase(s, h) == "paused"
     if word == "promote_full":
@@ -476,8 +476,8 @@ def is_allowed(s: Strategy, h: History, entry: Entry) -> bool:
             return entry.revision in revisions(h) and entry.size <= desired(s, h, entry.revision)
         case Verdict():
             return phase(s, h) == entry.analysis
-        case Order():
-            return may_order(s, h, entry.word)
+        case Command():
+            return may_command(s, h, entry.word)
         case Enter():
             return may_enter(s, h, entry)
         case Leave():
@@ -516,7 +516,7 @@ def one_of(known: tuple[Word, ...], word: str) -> Word:
 
 
 def deploy_of(h: History, new: Template) -> Deploy:
-    r = owner(h, new.name)
+    r = revision_of_name(h, new.name)
     return Deploy("deploy", greatest(h) + 1 if r is None else r, new.name, new.ports)
 
 
@@ -539,7 +539,7 @@ def event_of(s: Strategy, h: History, line: str) -> Entry | None:
         case ["report"]:
             return None
         case ["promote", "full"]:
-            return Order("promote_full")
+            return Command("promote_full")
         case ["deploy", name, *ports]:
             return deploy_of(h, Template(name, tuple(ports)))
         case ["enter", seat, service]:
@@ -552,7 +552,7 @@ def event_of(s: Strategy, h: History, line: str) -> Entry | None:
             return Available("available", int(r), int(size))
         case ["verdict", analysis, result]:
             return Verdict("verdict", one_of(ANALYSES, analysis), one_of(RESULTS, result))
-    return Order(one_of(ORDERS, line))
+    return Command(one_of(COMMANDS, line))
 
 
 def step(s: Strategy, h: History, event: Entry | None) -> History:
@@ -631,8 +631,8 @@ def changed_entry(entry: Entry, chance: random.Random) -> Entry:
     """The entry with one part changed, mostly by little."""
     if isinstance(entry, Outcome) and chance.random() < 0.5:
         return entry._replace(word=chance.choice(STEPS + CLEANUPS))
-    if isinstance(entry, Order):
-        return Order(chance.choice(ORDERS))
+    if isinstance(entry, Command):
+        return Command(chance.choice(COMMANDS))
     place = chance.randrange(len(parts_of(entry)))
     match entry:
         case Tick():

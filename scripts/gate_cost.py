@@ -47,7 +47,7 @@ class Work(NamedTuple):
     kind: str
 
 
-class Seen(NamedTuple):
+class ProcessTime(NamedTuple):
     """A process as /proc shows it: when it began tells it from a later one of the same number."""
 
     number: int
@@ -104,7 +104,7 @@ def work_of(words: Sequence[str], folder: str) -> Work | None:
     return Work(crate, PROOF if folder.endswith(f"/crates/{crate}") else EDITS)
 
 
-def processes() -> Iterator[Seen]:
+def processes() -> Iterator[ProcessTime]:
     """All processes."""
     for each in os.listdir("/proc"):
         if each.isdigit():
@@ -114,12 +114,12 @@ def processes() -> Iterator[Seen]:
                     parts = file.read().rpartition(")")[2].split()
             except OSError:
                 continue
-            yield Seen(int(each), int(parts[1]), int(parts[19]), (int(parts[11]) + int(parts[12])) / TICKS)
+            yield ProcessTime(int(each), int(parts[1]), int(parts[19]), (int(parts[11]) + int(parts[12])) / TICKS)
 
 
-def below(root: int, every: Iterable[Seen]) -> Iterator[Seen]:
+def below(root: int, every: Iterable[ProcessTime]) -> Iterator[ProcessTime]:
     """The processes that a process has begun, and those that these have."""
-    children: dict[int, list[Seen]] = {}
+    children: dict[int, list[ProcessTime]] = {}
     for each in every:
         children.setdefault(each.parent, []).append(each)
     left = [root]

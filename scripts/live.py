@@ -146,7 +146,7 @@ def check_last_report(session: Session, operator: Operator) -> None:
     # a request leaves after its client was answered
     check("all requests have left", comes(lambda: not any(operator.open_requests())), True)
     told = operator.report()
-    operator.order_quit()
+    operator.send_quit()
     ended = session.switch.end()
     check("status", ended.status, 0)
     check("the operator's report", ended.printed.startswith(told) and told != "", True)

@@ -18,7 +18,7 @@ from support.switch import Switch
 from support.traffic import ACCESS_LOG
 
 # isort: split; `support` tells where the tools' package is
-from bg_switch_tools.switch.access_log import Entry, read_lines
+from bg_switch_tools.switch.access_log import LogEntry, read_lines
 
 CLIENTS, REQUESTS = 8, 2000
 TIMEOUT = 2  # seconds for which an endpoint may be silent
@@ -48,7 +48,7 @@ class Log:
     def __init__(self, path: pathlib.Path) -> None:
         self.path = path
 
-    def entries(self) -> list[Entry]:
+    def entries(self) -> list[LogEntry]:
         """What stands in it; each line can be read."""
         if not self.path.exists():
             return []
@@ -56,7 +56,7 @@ class Log:
         check("lines that can't be read", (batch.unreadable, batch.lost), (0, 0))
         return batch.entries
 
-    def awaited(self, count: int) -> list[Entry]:
+    def awaited(self, count: int) -> list[LogEntry]:
         """The entries, once there are so many."""
         comes(lambda: self.path.exists() and self.path.read_bytes().count(b"\n") >= count)
         return self.entries()
@@ -67,7 +67,7 @@ def logging(path: pathlib.Path, workers: int = 1, prepare: Callable[[], object] 
     """A switch that logs to this path, and the endpoint of its first revision. `prepare` is called in the switch's process."""
     endpoint = Endpoint(by_target(b"one"))
     switch = Switch(NO_PREVIEW, workers=workers, timeout=TIMEOUT, variables={ACCESS_LOG: str(path)}, prepare=prepare)
-    check("open", (switch.order(f"open one {endpoint.port}"), switch.order("available 1 1")), ("ok 0", "ok 0"))
+    check("open", (switch.answer_to(f"open one {endpoint.port}"), switch.answer_to("available 1 1")), ("ok 0", "ok 0"))
     try:
         yield switch, endpoint
     finally:
@@ -81,7 +81,7 @@ def folder() -> Iterator[pathlib.Path]:
         yield pathlib.Path(name)
 
 
-def told(entry: Entry) -> tuple[object, ...]:
+def told(entry: LogEntry) -> tuple[object, ...]:
     return entry.service, entry.status, entry.end, entry.reason, entry.method, entry.target
 
 
@@ -104,12 +104,12 @@ def kinds_of_ends() -> None:
         ]
         for _, text, _ in refused:
             switch.raw(port, text)
-        for (name, _, wanted), entry in zip(refused, Log(there / "log").awaited(len(refused)), strict=True):
-            check(f"the log of {name}", told(entry), wanted)
+        for (name, _, expected), entry in zip(refused, Log(there / "log").awaited(len(refused)), strict=True):
+            check(f"the log of {name}", told(entry), expected)
         later = ends_of_others(switch, endpoint)
         entries = Log(there / "log").awaited(len(refused) + len(later))[len(refused):]
-        for (name, wanted), entry in zip(later, entries, strict=True):
-            check(f"the log of {name}", told(entry), wanted)
+        for (name, expected), entry in zip(later, entries, strict=True):
+            check(f"the log of {name}", told(entry), expected)
 
 
 def ends_of_others(switch: Switch, endpoint: Endpoint) -> list[tuple[str, tuple[object, ...]]]:
@@ -123,9 +123,9 @@ def ends_of_others(switch: Switch, endpoint: Endpoint) -> list[tuple[str, tuple[
         reset(client)
         check("a client that has gone frees its worker", comes(lambda: switch.open_requests() == [0]), True)
     switch.raw(switch.preview or 0, request(b"/preview"))
-    switch.order("available 1 0")
+    switch.answer_to("available 1 0")
     switch.raw(switch.active, request(b"/nowhere"))
-    switch.order("available 1 1")
+    switch.answer_to("available 1 1")
     endpoint.stop()
     switch.raw(switch.active, request(b"/down"))
     return [
@@ -344,14 +344,14 @@ def unread_fifo() -> None:
             reader = os.open(path, os.O_RDONLY | os.O_NONBLOCK)
             endpoint = Endpoint(by_target(b"one"))
             switch = Switch(NO_PREVIEW, preview=False, variables={ACCESS_LOG: str(path)})
-            check("an opening", [switch.order(f"open one {endpoint.port}"), switch.order("available 1 1")], ["ok 0", "ok 0"])
+            check("an opening", [switch.answer_to(f"open one {endpoint.port}"), switch.answer_to("available 1 1")], ["ok 0", "ok 0"])
             if has_gone:
                 os.close(reader)
                 time.sleep(REOPENED)
             answers = {timed(switch.active, [request(b"/" + b"a" * 1000)]).answer for _ in range(120)}
             check("answers beside a log that nobody reads", answers, {answer(b"one")})
             with contextlib.closing(switch.operator()) as operator:
-                operator.order_quit()
+                operator.send_quit()
             check(f"an end with a reader that {'has gone' if has_gone else 'stands still'}",
                   comes(partial(has_ended, switch)), True)
             switch.kill()
@@ -376,12 +376,12 @@ def no_text() -> None:
     check("a variable that isn't UTF-8", switch.tells(why), True)
 
 
-def none_ordered() -> None:
+def no_log_is_named() -> None:
     """Without the variable nothing is logged."""
     endpoint = Endpoint(by_target(b"one"))
     switch = Switch(NO_PREVIEW, preview=False)
-    switch.order(f"open one {endpoint.port}")
-    switch.order("available 1 1")
+    switch.answer_to(f"open one {endpoint.port}")
+    switch.answer_to("available 1 1")
     check("an answer without a log", get(switch.active), (200, b"one"))
     switch.stop()
     check("nothing is told", switch.told, [])
@@ -390,4 +390,4 @@ def none_ordered() -> None:
 
 if __name__ == "__main__":
     run("live_access_log", (kinds_of_ends, each_field, as_many_lines, renamed_file, full_disk, slow_disk, line_over_rotation,
-                            full_disk_ends_whole_lines, starts_after_a_part, unread_fifo, no_file, no_text, none_ordered), at_once=3)
+                            full_disk_ends_whole_lines, starts_after_a_part, unread_fifo, no_file, no_text, no_log_is_named), at_once=3)

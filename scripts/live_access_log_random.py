@@ -22,7 +22,7 @@ from support.switch import Switch
 from support.traffic import ACCESS_LOG
 
 # isort: split; `support` tells where the tools' package is
-from bg_switch_tools.switch.access_log import Entry, read_lines
+from bg_switch_tools.switch.access_log import LogEntry, read_lines
 
 SEED = 7
 CONNECTIONS, CLIENTS, WORKERS = 2000, 32, 7
@@ -54,7 +54,7 @@ BODY_FAULTS = (
 MALFORMED = (b"/closes", b"/head", b"/cut", b"/chunk", b"/lengths", b"/status", b"/upgrade")
 
 
-class Asked(NamedTuple):
+class Sent(NamedTuple):
     """What a client sends, and what it does then."""
     number: int
     kind: str
@@ -66,9 +66,9 @@ class Asked(NamedTuple):
     status: int = 0  # of a refusal before an endpoint
 
 
-class Seen(NamedTuple):
+class Answered(NamedTuple):
     """What a client saw, and when: the moments before its connect and after the connection's end."""
-    asked: Asked
+    asked: Sent
     answer: bytes
     was_cut: bool
     begun: float
@@ -122,7 +122,7 @@ def answer_to(name: bytes, method: bytes) -> bytes:
     return b"HTTP/1.1 200 OK\r\nContent-Length: 2\r\n\r\n" + (b"" if method == b"HEAD" else b"ok")
 
 
-def asked_at_random(rng: random.Random, number: int) -> Asked:
+def asked_at_random(rng: random.Random, number: int) -> Sent:
     """A connection of a kind that is drawn."""
     kind = rng.choices(list(KINDS), [weight for weight, _ in KINDS.values()])[0]
     is_second = rng.random() < 0.5
@@ -135,15 +135,15 @@ def asked_at_random(rng: random.Random, number: int) -> Asked:
     return asked._replace(number=number, kind=kind, is_second=is_second, service=service)
 
 
-def whole(rng: random.Random, target: bytes) -> Asked:
+def whole(rng: random.Random, target: bytes) -> Sent:
     """A request for a target, with a body or without one."""
     method = rng.choice((b"GET", b"GET", b"HEAD", b"POST", b"DELETE"))
     body = rng.randbytes(rng.choice((1, 100, 3000))) if method == b"POST" else None
     text = request(target, method, body, chunked=rng.random() < 0.5)
-    return Asked(0, "", False, "", method, target, text)
+    return Sent(0, "", False, "", method, target, text)
 
 
-def answered(rng: random.Random, number: int) -> Asked:
+def answered(rng: random.Random, number: int) -> Sent:
     """A request that is answered in one of several statuses; some targets have to be escaped or cut."""
     place = rng.randrange(len(STATUSES) + 2)
     name = b"/status/%d" % place if place < len(STATUSES) else rng.choice((b"/slow", b"/plain"))
@@ -151,71 +151,71 @@ def answered(rng: random.Random, number: int) -> Asked:
     return whole(rng, b"%s?%d&%s" % (name, number, more))
 
 
-def by_get(*names: bytes) -> Callable[[random.Random, int], Asked]:
+def by_get(*names: bytes) -> Callable[[random.Random, int], Sent]:
     """A request for one of these names, whose answer has a body."""
 
-    def asked(rng: random.Random, number: int) -> Asked:
+    def asked(rng: random.Random, number: int) -> Sent:
         target = b"%s?%d" % (rng.choice(names), number)
-        return Asked(0, "", False, "", b"GET", target, request(target))
+        return Sent(0, "", False, "", b"GET", target, request(target))
 
     return asked
 
 
-def faulty(faults: Sequence[tuple[bytes, int]]) -> Callable[[random.Random, int], Asked]:
+def faulty(faults: Sequence[tuple[bytes, int]]) -> Callable[[random.Random, int], Sent]:
     """A request that is refused before it enters."""
 
-    def asked(rng: random.Random, number: int) -> Asked:
-        form, status = rng.choice(faults)
+    def asked(rng: random.Random, number: int) -> Sent:
+        template, status = rng.choice(faults)
         target = b"/faulty?%d" % number
-        text = form.replace(b"%s", target)
-        return Asked(0, "", False, "", text.lstrip().partition(b" ")[0], target, text, status)
+        text = template.replace(b"%s", target)
+        return Sent(0, "", False, "", text.lstrip().partition(b" ")[0], target, text, status)
 
     return asked
 
 
-def part(rng: random.Random, number: int) -> Asked:
+def part(rng: random.Random, number: int) -> Sent:
     """A request that isn't sent whole: its head is cut, or its body."""
     target = b"/part?%d" % number
     text = request(target, b"POST", rng.randbytes(300), chunked=rng.random() < 0.5)
-    return Asked(0, "", False, "", b"POST", target, text[:rng.randrange(1, len(text) - 5)])
+    return Sent(0, "", False, "", b"POST", target, text[:rng.randrange(1, len(text) - 5)])
 
 
-def nothing(_: random.Random, __: int) -> Asked:
-    return Asked(0, "", False, "", b"", b"", b"")
+def nothing(_: random.Random, __: int) -> Sent:
+    return Sent(0, "", False, "", b"", b"", b"")
 
 
 # How often a kind comes, and what its client sends.
-KINDS: dict[str, tuple[int, Callable[[random.Random, int], Asked]]] = {
+KINDS: dict[str, tuple[int, Callable[[random.Random, int], Sent]]] = {
     "answered": (1000, answered), "elsewhere": (160, nothing), "malformed": (140, by_get(*MALFORMED)), "too_large": (60, by_get(b"/large")),
     "timeout": (24, by_get(b"/hangs")), "given_up": (24, by_get(b"/hangs")), "cut_in_answer": (60, by_get(b"/big")),
     "head": (160, faulty(HEAD_FAULTS)), "body": (160, faulty(BODY_FAULTS)), "silent": (60, nothing), "part": (80, part),
     "silent_reset": (40, nothing), "part_reset": (60, part)}
 
 
-def exchange(asked: Asked, port: int, endpoints: Endpoints) -> Seen:
+def answered_request(asked: Sent, port: int, endpoints: Endpoints) -> Answered:
     """Makes a connection, and gives what its client saw."""
     begun = time.time()
     with connect(port) as client:
         with contextlib.suppress(ConnectionError):
             client.sendall(asked.text)
         was_cut, answer = ENDS.get(asked.kind, to_the_end)(client, asked, endpoints)
-    return Seen(asked, answer, was_cut, begun, time.time())
+    return Answered(asked, answer, was_cut, begun, time.time())
 
 
-def to_the_end(client: socket.socket, _: Asked, __: Endpoints) -> tuple[bool, bytes]:
+def to_the_end(client: socket.socket, _: Sent, __: Endpoints) -> tuple[bool, bytes]:
     return False, received(client)
 
 
-def close(_: socket.socket, __: Asked, ___: Endpoints) -> tuple[bool, bytes]:
+def close(_: socket.socket, __: Sent, ___: Endpoints) -> tuple[bool, bytes]:
     return True, b""
 
 
-def cut(client: socket.socket, _: Asked, __: Endpoints) -> tuple[bool, bytes]:
+def cut(client: socket.socket, _: Sent, __: Endpoints) -> tuple[bool, bytes]:
     reset(client)
     return True, b""
 
 
-def give_up(client: socket.socket, asked: Asked, endpoints: Endpoints) -> tuple[bool, bytes]:
+def give_up(client: socket.socket, asked: Sent, endpoints: Endpoints) -> tuple[bool, bytes]:
     """Goes once its endpoint has the request."""
     has_come = endpoints.has_come(asked.target)
     client.settimeout(0.02)
@@ -230,7 +230,7 @@ def give_up(client: socket.socket, asked: Asked, endpoints: Endpoints) -> tuple[
     raise TimeoutError("a request that reached no endpoint")
 
 
-def cut_in_answer(client: socket.socket, _: Asked, __: Endpoints) -> tuple[bool, bytes]:
+def cut_in_answer(client: socket.socket, _: Sent, __: Endpoints) -> tuple[bool, bytes]:
     """Goes once a part of the answer has come."""
     first = client.recv(1000)
     if first.startswith(b"HTTP/1.1 200 "):
@@ -242,12 +242,12 @@ def cut_in_answer(client: socket.socket, _: Asked, __: Endpoints) -> tuple[bool,
 ENDS = {"silent": close, "part": close, "silent_reset": cut, "part_reset": cut, "given_up": give_up, "cut_in_answer": cut_in_answer}
 
 
-def without_times(entry: Entry) -> Entry:
+def without_times(entry: LogEntry) -> LogEntry:
     """The entry without times and without the number of its request, which a client can't tell."""
     return entry._replace(time=0, request=None, duration_ms=0, upstream_ms=None)
 
 
-def shown(asked: Asked) -> tuple[str | None, str | None]:
+def shown(asked: Sent) -> tuple[str | None, str | None]:
     """The method and the target of what was sent, where it has both."""
     words = asked.text.partition(b"\r\n")[0].split(b" ") if asked.kind.startswith("part") else [b"", b"", b""]
     if not asked.text or len(words) < 3:
@@ -258,11 +258,11 @@ def shown(asked: Asked) -> tuple[str | None, str | None]:
 REASONS = {"malformed": "response_malformed", "too_large": "response_too_large", "timeout": "response_timeout"}
 
 
-def wanted_entry(seen: Seen, served: Served | None, dead: int) -> Entry:
+def expected_entry(seen: Answered, served: Served | None, dead: int) -> LogEntry:
     """What the log has to say of a connection, without times and numbers."""
     asked, answer = seen.asked, seen.answer
     method, target = shown(asked)
-    entry = Entry(time=0, service=asked.service, revision=None, request=None, port=None, method=method, target=target,
+    entry = LogEntry(time=0, service=asked.service, revision=None, request=None, port=None, method=method, target=target,
                   status=status_of(answer), end="refused", reason=None, request_bytes=len(asked.text),
                   response_bytes=len(answer), duration_ms=0, upstream_ms=None)
     if asked.kind.startswith(("silent", "part")):
@@ -288,20 +288,20 @@ def status_of(answer: bytes) -> int | None:
     return int(answer[9:12]) if answer else None
 
 
-def fits(entry: Entry, wanted: Entry, kind: str) -> bool:
+def fits(entry: LogEntry, expected: LogEntry, kind: str) -> bool:
     """Whether an entry says what it has to. How far a request with a fault was read isn't fixed, nor whether an answer was handed over
     before its client went, nor whether the system has taken the 503 to a client that was given up and had gone."""
-    if wanted.reason in ("head", "body"):
-        most, count = wanted.request_bytes or 0, entry.request_bytes or 0
-        return 0 < count <= most and entry._replace(request_bytes=most) == wanted
+    if expected.reason in ("head", "body"):
+        most, count = expected.request_bytes or 0, entry.request_bytes or 0
+        return 0 < count <= most and entry._replace(request_bytes=most) == expected
     if kind == "cut_in_answer" and entry.end == "write_failed":
-        return entry == wanted._replace(status=None, end="write_failed", response_bytes=entry.response_bytes)
+        return entry == expected._replace(status=None, end="write_failed", response_bytes=entry.response_bytes)
     if kind == "given_up" and not entry.response_bytes:
-        return entry == wanted._replace(response_bytes=0)
-    return entry == wanted
+        return entry == expected._replace(response_bytes=0)
+    return entry == expected
 
 
-def fits_times(entry: Entry, seen: Seen, served: Served | None) -> bool:
+def fits_times(entry: LogEntry, seen: Answered, served: Served | None) -> bool:
     """Whether the times of a line lie within what the client and the endpoint measured."""
     millis = (seen.ended - seen.begun) * 1000 + SLACK
     if not seen.was_cut and not (seen.begun - SLACK / 1000 <= entry.time <= seen.ended and entry.duration_ms <= millis):
@@ -314,18 +314,18 @@ def fits_times(entry: Entry, seen: Seen, served: Served | None) -> bool:
     return least <= (entry.upstream_ms or 0) <= entry.duration_ms + SLACK
 
 
-class Scene(NamedTuple):
+class LoggedSwitches(NamedTuple):
     """Two switches with a log each, whose endpoints keep what came; the third port of each refuses."""
     switches: list[Switch]
     logs: list[pathlib.Path]
     endpoints: Endpoints
     dead: int
 
-    def port(self, asked: Asked) -> int:
+    def port(self, asked: Sent) -> int:
         switch = self.switches[asked.is_second]
         return switch.active if asked.service == "active" else switch.preview
 
-    def entries(self, number: int, count: int) -> list[Entry]:
+    def entries(self, number: int, count: int) -> list[LogEntry]:
         """What stands in a log, once there is so much and no more comes."""
         log = self.logs[number]
         check("as many lines as connections", comes(lambda: log.read_bytes().count(b"\n") >= count), True)
@@ -336,7 +336,7 @@ class Scene(NamedTuple):
 
 
 @contextlib.contextmanager
-def scene() -> Iterator[Scene]:
+def logged_switches() -> Iterator[LoggedSwitches]:
     """A scene, of which nothing is left after the block."""
     with contextlib.ExitStack() as stack:
         folder = pathlib.Path(stack.enter_context(tempfile.TemporaryDirectory()))
@@ -350,15 +350,15 @@ def scene() -> Iterator[Scene]:
                     for rollout, log in zip((WITH_PREVIEW, WITHOUT_PREVIEW), logs)]
         for switch in switches:
             stack.callback(switch.stop)
-            check("open", [switch.order(f"open one {ports[0]} {ports[1]} {dead}"), switch.order("available 1 3")], ["ok 0", "ok 0"])
+            check("open", [switch.answer_to(f"open one {ports[0]} {ports[1]} {dead}"), switch.answer_to("available 1 3")], ["ok 0", "ok 0"])
         lines = ["deploy two {} {} {}".format(*free_ports(3)), "available 2 3", "available 2 0"]
-        check("a preview with no endpoint", [switches[0].order(line) for line in lines], ["ok 0", "ok 1", "ok 0"])
-        yield Scene(switches, logs, endpoints, dead)
+        check("a preview with no endpoint", [switches[0].answer_to(line) for line in lines], ["ok 0", "ok 1", "ok 0"])
+        yield LoggedSwitches(switches, logs, endpoints, dead)
 
 
-def check_log(the_scene: Scene, number: int, seen: Sequence[Seen]) -> None:
+def check_log(setup: LoggedSwitches, number: int, seen: Sequence[Answered]) -> None:
     """A check that a log has exactly the lines of what was seen, each with its right members."""
-    entries = the_scene.entries(number, len(seen))
+    entries = setup.entries(number, len(seen))
     check("a line for each connection", len(entries), len(seen))
     numbers = sorted(entry.request for entry in entries if entry.request is not None)
     check("the numbers of the requests", numbers, list(range(1, len(numbers) + 1)))
@@ -367,13 +367,13 @@ def check_log(the_scene: Scene, number: int, seen: Sequence[Seen]) -> None:
     rest = collections.Counter(without_times(entry) for entry in entries if entry.target is None)
     faults: dict[str, list[object]] = {"lines": [], "times": []}
     for one in seen:
-        served = the_scene.endpoints.served.get(one.asked.target)
-        wanted = wanted_entry(one, served, the_scene.dead)
-        entry = by_target.pop(wanted.target, None) if wanted.target is not None else None
-        if wanted.target is None:
-            rest[wanted] -= 1
-        elif entry is None or not fits(without_times(entry), wanted, one.asked.kind):
-            faults["lines"].append((one.asked.kind, entry and without_times(entry), wanted))
+        served = setup.endpoints.served.get(one.asked.target)
+        expected = expected_entry(one, served, setup.dead)
+        entry = by_target.pop(expected.target, None) if expected.target is not None else None
+        if expected.target is None:
+            rest[expected] -= 1
+        elif entry is None or not fits(without_times(entry), expected, one.asked.kind):
+            faults["lines"].append((one.asked.kind, entry and without_times(entry), expected))
         elif not fits_times(entry, one, served):
             faults["times"].append((one.asked.kind, entry, one.ended - one.begun, served))
     for name, found in faults.items():
@@ -385,11 +385,11 @@ def check_log(the_scene: Scene, number: int, seen: Sequence[Seen]) -> None:
 def two_thousand_connections() -> None:
     rng = random.Random(SEED)
     plan = [asked_at_random(rng, number) for number in range(CONNECTIONS)]
-    with scene() as the_scene:
+    with logged_switches() as setup:
         with concurrent.futures.ThreadPoolExecutor(CLIENTS) as pool:
-            seen = list(pool.map(lambda asked: exchange(asked, the_scene.port(asked), the_scene.endpoints), plan))
+            seen = list(pool.map(lambda asked: answered_request(asked, setup.port(asked), setup.endpoints), plan))
         for number in (0, 1):
-            check_log(the_scene, number, [one for one in seen if one.asked.is_second == bool(number)])
+            check_log(setup, number, [one for one in seen if one.asked.is_second == bool(number)])
         counts = collections.Counter(one.asked.kind for one in seen)
         check("kinds that came", set(counts), {*KINDS, "no_preview", "no_endpoint"} - {"elsewhere"})
 

@@ -33,7 +33,7 @@ SHARE = ("sum(rate(bg_switch_http_requests_total{revision='{{args.revision}}',st
          "sum(rate(bg_switch_http_requests_total{revision='{{args.revision}}'}[5s]))")
 
 
-class Scene:
+class LoggedSwitch:
     """A switch with web-v1 and web-v2, of an endpoint each, traffic, and the folder of an access log and a plan."""
 
     def __init__(self, folder: str) -> None:
@@ -44,22 +44,22 @@ class Scene:
         self.switch = Switch(ROLLOUT, workers=4, preview=False, variables=prepared_log(self.log))
         self.traffic = Traffic(self.switch.active, CLIENTS, PAUSE)
 
-    def order(self, *lines: str) -> None:
+    def send(self, *lines: str) -> None:
         with contextlib.closing(Operator(self.switch.control)) as operator:
             for line in lines:
-                check(f"{line} is carried out", operator.order(line)[:3], "ok ")
+                check(f"{line} is carried out", operator.answer_to(line)[:3], "ok ")
 
     def open_and_switch(self) -> None:
         """web-v2 is active, and waits for its analysis."""
-        self.order(f"open web-v1 {self.ports['web-v1']}", "available 1 1")
+        self.send(f"open web-v1 {self.ports['web-v1']}", "available 1 1")
         self.traffic.start()
-        self.order(f"deploy web-v2 {self.ports['web-v2']}", "available 2 1")
+        self.send(f"deploy web-v2 {self.ports['web-v2']}", "available 2 1")
         check("web-v2 is live", ask(self.switch.active).revision, "web-v2")
 
     def fail(self) -> None:
         """The endpoint of web-v2 is gone, and an operator reports it."""
         self.endpoints["web-v2"].stop()
-        self.order("available 2 0")
+        self.send("available 2 0")
 
     def report(self) -> str:
         with contextlib.closing(Operator(self.switch.control)) as operator:
@@ -71,9 +71,9 @@ class Scene:
 
 
 @contextlib.contextmanager
-def scene() -> Iterator[Scene]:
+def logged_switch() -> Iterator[LoggedSwitch]:
     with tempfile.TemporaryDirectory(ignore_cleanup_errors=True) as folder:
-        played = Scene(folder)
+        played = LoggedSwitch(folder)
         try:
             yield played
         finally:
@@ -114,7 +114,7 @@ def running(path: pathlib.Path, *words: str) -> Iterator[Running]:
 
 def in_a_plan() -> None:
     """The only endpoint of the new revision goes away after the switch: the controller reports it, and the analysis fails."""
-    with scene() as played:
+    with logged_switch() as played:
         plan = Plan(str(played.folder), played.switch.control, health={"path": "/", "interval": 0.3, "failures": 2},
                     analyses={"post": [ANALYSIS, "--log", str(played.log), *LIMITS]})
         plan.write([("web-v1", [played.ports["web-v1"]])])
@@ -132,7 +132,7 @@ def in_a_plan() -> None:
 
 def by_reports() -> None:
     """No endpoint was ever up, so no request names the revision: the reports tell it."""
-    with scene() as played:
+    with logged_switch() as played:
         played.open_and_switch()
         played.fail()
         words = ("--log", str(played.log), "--revision", "web-v2", "--control", str(played.switch.control), *LIMITS)
@@ -147,7 +147,7 @@ def by_prometheus() -> None:
     if why or program is None:
         print(f"live_analysis: no analysis by Prometheus is tried: {why}")
         return
-    with scene() as played:
+    with logged_switch() as played:
         played.open_and_switch()
         listen = free_port()
         with showing(played.switch.control, listen, "--log", str(played.log)), \

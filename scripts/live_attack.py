@@ -138,7 +138,7 @@ def vanishing_operator(how: str, leave: Callable[[socket.socket], None]) -> None
     leave(gone)
     switch.process.send_signal(signal.SIGCONT)
     operator = switch.operator()
-    check(f"the next after an operator that {how}", operator.order("open two 1"), "refused AlreadyOpen")
+    check(f"the next after an operator that {how}", operator.answer_to("open two 1"), "refused AlreadyOpen")
     operator.check("available 1 1", "ok 0")
     check(f"a client after an operator that {how}", switch.get(switch.active), (200, b"one"))
     switch.check_end_after(operator, f"the end after an operator that {how}", 2)

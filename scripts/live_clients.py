@@ -117,7 +117,7 @@ def ended_early(port: int, text: bytes) -> bytes | None:
     with connect(port) as client:
         client.settimeout(2 * POLITE)
         try:
-            return clients.exchanged(client, text)
+            return clients.answer_of(client, text)
         except TimeoutError:
             return b"no end"
 
@@ -127,7 +127,7 @@ def served_once() -> None:
     and the run ends with the last connection."""
     counting = Counting()
     switch, operator = opened(Endpoint(counting).port, workers=6, count=50, timeout=3)
-    port, calls, wanted = switch.active, list[Callable[[], bytes | None]](), list[bytes]()
+    port, calls, expected = switch.active, list[Callable[[], bytes | None]](), list[bytes]()
     for number in range(60):
         target, body = b"/%d" % number, b"%d" % number
         text = request(target, b"POST", body * 400, chunked=number % 2 == 0)
@@ -135,11 +135,11 @@ def served_once() -> None:
         calls += [partial(answered, port, [text], 0.0), partial(answered, port, in_pieces(text, 300), 0.02),
                   partial(ended_early, port, cut), partial(sent_and_reset, port, cut),
                   partial(answered, port, [cut[:40], cut[40:]], 0.02)]
-        wanted += [answer(body * 400)] * 2 + [b""] * 3
-    check("what each client of 300 is answered", at_once(calls) == wanted, True)
+        expected += [answer(body * 400)] * 2 + [b""] * 3
+    check("what each client of 300 is answered", at_once(calls) == expected, True)
     check("each request is forwarded once", counting.targets, Counter({b"/%d" % number: 2 for number in range(60)}))
     check("the port is closed with its last connection", is_refused(port), True)
-    operator.order_quit()
+    operator.send_quit()
     for _ in range(50):
         connect(switch.preview).close()
     check("each connection is given to a worker", comes(lambda: switch.process.poll() is not None), True)
@@ -189,9 +189,9 @@ def continues() -> None:
     }
     with serving(Endpoint(by_target(b"one")).port, workers=2, timeout=TIMEOUT) as switch:
         got = at_once([partial(answered, switch.active, pieces, 0.1) for pieces, _ in cases.values()])
-    for (what, (_, wanted)), found in zip(cases.items(), got):
-        check(f"100 Continue is written once: {what}", (found.count(CONTINUE), found == wanted),
-              (wanted.count(CONTINUE), True))
+    for (what, (_, expected)), found in zip(cases.items(), got):
+        check(f"100 Continue is written once: {what}", (found.count(CONTINUE), found == expected),
+              (expected.count(CONTINUE), True))
 
 
 def slow_readers() -> None:
@@ -367,7 +367,7 @@ def room_is_noticed() -> None:
             check_within("a client that waited for room while a worker is free", time.monotonic() - start, POLITE)
 
 
-def memory_of_waiting_requests() -> None:
+def memory_of_pending_requests() -> None:
     """Requests that came whole and wait for a worker count: beyond the bound no further large request is read."""
     held = Held(b"held")
     with serving(Endpoint(held).port, timeout=TIMEOUT) as switch, contextlib.ExitStack() as stack:
@@ -453,7 +453,7 @@ def all_workers_busy() -> None:
                 check("a late request is answered nothing while all workers wait", received(late), b"")
             check_within("a request past its time is ended while all workers wait", time.monotonic() - start,
                          timeout + timeout / 4 - 0.1)
-            check("all workers have waited meanwhile", (held.waiting, held.closed), (2, 0))
+            check("all workers have waited meanwhile", (held.pending, held.closed), (2, 0))
         check("the request that was read meanwhile", received(expecting), answer(b"oneabc"))
 
 
@@ -466,7 +466,7 @@ def leave_by(way: Callable[[socket.socket], None]) -> None:
             gone = [connect(switch.active) for _ in range(2)]
             for client in gone:
                 client.sendall(request(b"/held", b"POST", b"body"))
-            check("requests of clients that go", comes(lambda: held.waiting == number), True)
+            check("requests of clients that go", comes(lambda: held.pending == number), True)
             for client in gone:
                 way(client)
             start = time.monotonic()
@@ -608,7 +608,7 @@ def gone_while_answered() -> None:
 if __name__ == "__main__":
     checks.run("live_clients", (
         stalled_reader, drips, refusals, long_chunks, served_once, late_requests, continues, slow_readers, many_answers,
-        steady_readers, large_bodies, endless_bodies, uploads, few_descriptors, full_port, room_is_noticed, memory_of_waiting_requests, steady_clients,
+        steady_readers, large_bodies, endless_bodies, uploads, few_descriptors, full_port, room_is_noticed, memory_of_pending_requests, steady_clients,
         all_workers_busy, clients_that_close, clients_that_reset, half_closed_client, dual_stack_clients, stuck_uploads,
         paused_uploads, gone_while_answered), 4, by_hand=(
             two_thousand_uploads, many_steady_clients, ten_thousand_left_open))

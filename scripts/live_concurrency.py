@@ -62,8 +62,8 @@ def serving(gate: Gate, descriptors: tuple[int, int], *words: str, preview: bool
     its soft and its hard limit."""
     switch = Switch(BY_HAND, instead_of_workers=words, preview=preview, descriptors=descriptors)
     try:
-        check("opened", switch.order(f"open one {gate.endpoint.port}"), "ok 0")
-        check("available", switch.order("available 1 1"), "ok 0")
+        check("opened", switch.answer_to(f"open one {gate.endpoint.port}"), "ok 0")
+        check("available", switch.answer_to("available 1 1"), "ok 0")
         yield switch
     finally:
         switch.stop()
@@ -72,12 +72,12 @@ def serving(gate: Gate, descriptors: tuple[int, int], *words: str, preview: bool
 def hundreds_at_a_time() -> None:
     """300 requests are open at once, a further one is served beside them, and all are answered."""
     gate = Gate()
-    with serving(gate, MANY, "--concurrency", "301") as switch, held(switch.active, 300) as waiting:
+    with serving(gate, MANY, "--concurrency", "301") as switch, held(switch.active, 300) as pending:
         check("300 requests at the endpoint", comes(lambda: gate.held == 300), True)
         check("300 open requests", switch.open_requests(), [300])
         check("a request beside them", clients.asked(switch.active, request()), answer(b"ok"))
         gate.opening.set()
-        check("their answers", {clients.received(client) for client in waiting}, {answer(b"ok")})
+        check("their answers", {clients.received(client) for client in pending}, {answer(b"ok")})
         check("no open request", comes(lambda: switch.open_requests() == [0]), True)
 
 
@@ -93,25 +93,25 @@ def most_at_a_time() -> None:
 
 
 def check_most_at_a_time(gate: Gate, port: int, most: int, name: str) -> None:
-    with held(port, most + 1) as waiting:
+    with held(port, most + 1) as pending:
         check(f"{name}: {most} at the endpoint", comes(lambda: gate.held == most), True)
         time.sleep(SEEN)
         check(f"{name}: no more than {most}", gate.held, most)
         gate.opening.set()
-        check(f"{name}: answers", [clients.received(client) for client in waiting], [answer(b"ok")] * (most + 1))
+        check(f"{name}: answers", [clients.received(client) for client in pending], [answer(b"ok")] * (most + 1))
 
 
 def a_slow_route_beside_a_fast_one() -> None:
     """100 clients wait for a slow route; the requests of a fast one don't wait for them."""
     gate = Gate()
-    with serving(gate, MANY, "--concurrency", "128") as switch, held(switch.active, 100) as waiting:
+    with serving(gate, MANY, "--concurrency", "128") as switch, held(switch.active, 100) as pending:
         check("100 requests at the slow route", comes(lambda: gate.held == 100), True)
         began = time.monotonic()
         for _ in range(50):
             check("the fast route", clients.asked(switch.active, request()), answer(b"ok"))
         check_within("50 requests of the fast route", time.monotonic() - began, 5)
         gate.opening.set()
-        check("the slow route", {clients.received(client) for client in waiting}, {answer(b"ok")})
+        check("the slow route", {clients.received(client) for client in pending}, {answer(b"ok")})
 
 
 def calls_of_idle_workers() -> None:
@@ -205,7 +205,7 @@ class Soak:
             if line == "tick 1":
                 moment += rng.randrange(3)
                 line = f"tick {moment}"
-            self.switch.order(line)
+            self.switch.answer_to(line)
 
     def crash_endpoints(self) -> None:
         rng = random.Random(SEED + 2)
@@ -217,8 +217,8 @@ class Soak:
 
     def run(self, at_once: int) -> None:
         first = self.endpoints[0].port
-        check("opened", self.switch.order(f"open one {first}"), "ok 0")
-        check("available", self.switch.order("available 1 1"), "ok 0")
+        check("opened", self.switch.answer_to(f"open one {first}"), "ok 0")
+        check("available", self.switch.answer_to("available 1 1"), "ok 0")
         before = None
         with concurrent.futures.ThreadPoolExecutor(2) as helpers:
             helpers.submit(self.operate)
@@ -249,7 +249,7 @@ class Soak:
         check("no open request", comes(lambda: not any(self.switch.open_requests()), SOON), True)
         check("descriptors and threads", self.footprint(), before)
         with contextlib.closing(self.switch.operator()) as operator:
-            operator.order_quit()
+            operator.send_quit()
             ended = self.switch.wait()
         check("the status", ended.status, 0)
         opens = [line.split(" open ")[1].split()[0] for line in ended.printed.splitlines() if " open " in line]

@@ -45,10 +45,10 @@ FAULTS = {b"jump": "UnknownWord", b"": "Empty", b"tick x": "BadNumber", b"tick\t
           b"GET / HTTP": "UnknownWord", b": x": "UnknownWord", b"a b: c": "UnknownWord"}
 
 
-def check_order(name: str, switch: Switch, line: str, most: float = SOON) -> None:
+def check_line(name: str, switch: Switch, line: str, most: float = SOON) -> None:
     """Checks that a line of another operator is carried out, and how long that takes at most."""
     start = time.monotonic()
-    check(f"an order beside {name}", switch.order(line), "ok 0")
+    check(f"an order beside {name}", switch.answer_to(line), "ok 0")
     check_within(f"the wait of an order beside {name}", time.monotonic() - start, most)
 
 
@@ -59,13 +59,13 @@ def idle_connections() -> None:
             idle = stack.enter_context(connect(switch.control))
             idle.sendall(b"quit"[:number % 5])
         start = time.monotonic()
-        check("open beside idle connections", switch.order("open one 9"), "ok 0")
+        check("open beside idle connections", switch.answer_to("open one 9"), "ok 0")
         check_within("the wait of open beside idle connections", time.monotonic() - start, SOON)
-        check_order("idle connections", switch, "tick 1")
-        check_order("idle connections", switch, "tick 2")
+        check_line("idle connections", switch, "tick 1")
+        check_line("idle connections", switch, "tick 2")
     with book() as switch, connect(switch.control) as idle:
         idle.sendall(b"tick 3")
-        check_order("a connection with a part of a line", switch, "tick 2")
+        check_line("a connection with a part of a line", switch, "tick 2")
         idle.sendall(b"\n")
         check("the line of a connection that was idle", idle.recv(100), b"ok 0\n")
 
@@ -77,7 +77,7 @@ def lasting_connections() -> None:
         silent.socket.sendall(b"tick 2\ntick 30")
         check("a line before a part of a line", silent.next_line(), "ok 0")
         for _ in range(3):
-            check_order("a silent connection", switch, "tick 2", PROMPT)
+            check_line("a silent connection", switch, "tick 2", PROMPT)
             time.sleep(1)
         check("a part of a line isn't carried out", switch_moment(switch), 2)
         silent.check("", "ok 0")
@@ -154,12 +154,12 @@ def abort_beside_watchers() -> None:
     with Load(switch.control, 200) as load:
         check("watchers and pipelines are answered", comes(load.is_at_work, 10), True)
         for number in range(20):
-            line, wanted = ("verdict pre failed", "refused NoAnalysis") if number % 2 else (
+            line, expected = ("verdict pre failed", "refused NoAnalysis") if number % 2 else (
                 "abort", "refused AlreadyAborted" if number else "ok 0")
             start = time.monotonic()
-            got = switch.order(line)
+            got = switch.answer_to(line)
             seconds = time.monotonic() - start
-            check(f"{line} beside 1,000 connections", got, wanted)
+            check(f"{line} beside 1,000 connections", got, expected)
             check_within(f"the wait of {line} beside 1,000 connections", seconds, AT_ONCE)
             time.sleep(0.1)
         start = time.monotonic()
@@ -202,14 +202,14 @@ def lines_take_turns() -> None:
               [operator.next_line() for operator in (first, fourth, second, third)],
               ["refused NoAnalysis", "ok 0", "refused Aborted", "ok 0"])
         first.socket.sendall(b"tick 6\n" + b"report\n" * 5000 + b"tick 7\n")
-        check_order("a connection with 5,000 lines", switch, "tick 8", PROMPT)
+        check_line("a connection with 5,000 lines", switch, "tick 8", PROMPT)
         first.socket.shutdown(socket.SHUT_WR)
         lines = received(first.socket).splitlines()
         check("the last line of a connection with 5,000 lines", (lines[0], lines[-1]), (b"ok 0", b"refused MomentBack"))
         check("each report of a connection with 5,000 lines", lines.count(b"end"), 5000)
 
 
-def order_within_a_connection() -> None:
+def sequence_within_a_connection() -> None:
     """The lines of a connection are answered in their order, an abort too, one between those of other connections."""
     with book() as switch, contextlib.closing(switch.operator()) as one, contextlib.closing(switch.operator()) as other:
         one.check("tick 0", "ok 0")
@@ -233,7 +233,7 @@ def replies_not_taken_hold_nobody() -> None:
     with book(rollout=MANY_REVISIONS) as switch, contextlib.ExitStack() as stack:
         with contextlib.closing(switch.operator()) as operator:
             for number in range(60):
-                operator.order(f"deploy {'a' * 60}{number} {number + 1}")
+                operator.answer_to(f"deploy {'a' * 60}{number} {number + 1}")
             length = len(operator.report())
             check("a report is long", length > 6_000, True)
         before = switch.count_descriptors()
@@ -242,7 +242,7 @@ def replies_not_taken_hold_nobody() -> None:
         for client in (*clients, late):
             client.sendall(b"report\n" * count)
         for _ in range(4):
-            check_order("connections that read no replies", switch, "tick 0")
+            check_line("connections that read no replies", switch, "tick 0")
             time.sleep(0.5)
         got = b""
         while len(got) < count * length and (piece := late.recv(1 << 20)):
@@ -252,7 +252,7 @@ def replies_not_taken_hold_nobody() -> None:
         late.close()
         check("connections that read no replies are ended",
               comes(lambda: switch.count_descriptors() <= before, 3 * NOT_TAKEN), True)
-        check_order("connections that were ended", switch, "tick 1", PROMPT)
+        check_line("connections that were ended", switch, "tick 1", PROMPT)
 
 
 def urgent_lines() -> None:
@@ -263,19 +263,19 @@ def urgent_lines() -> None:
             threading.Thread(target=send_in_pieces, args=(client, [b"abort\n" * 100_000], 0), daemon=True).start()
         time.sleep(BETWEEN_LINES)
         for moment in range(1, 6):
-            check_order("aborts without end", switch, f"tick {moment}", PROMPT)
+            check_line("aborts without end", switch, f"tick {moment}", PROMPT)
 
 
 def full_port() -> None:
     """Where the port is full, the connection goes that is silent for the longest, so a new operator always gets in."""
     switch = Switch(BY_HAND, descriptors=4 * 16)
-    check("open", switch.order("open one 1"), "ok 0")
+    check("open", switch.answer_to("open one 1"), "ok 0")
     with contextlib.closing(switch.operator()) as busy, contextlib.ExitStack() as stack:
         silent = []
         for moment in range(1, 101):
             silent.append(stack.enter_context(connect(switch.control)))
             busy.check(f"tick {moment}", "ok 0")
-        check_order("silent connections at a full port", switch, "tick 101", PROMPT)
+        check_line("silent connections at a full port", switch, "tick 101", PROMPT)
         busy.check("tick 102", "ok 0")
         check("the connections that were silent for the longest are ended", received(silent[0]), b"")
         silent[-1].sendall(b"tick 103\n")
@@ -286,18 +286,18 @@ def full_port() -> None:
 def lines_that_are_too_long() -> None:
     """A line that is too long has its fault once it ends, and holds nobody up before."""
     with book() as switch:
-        for length, wanted in ((4096, "NotAscii"), (4097, "TooLong"), (4098, "TooLong"), (4099, "TooLong"), (100_000, "TooLong")):
+        for length, expected in ((4096, "NotAscii"), (4097, "TooLong"), (4098, "TooLong"), (4099, "TooLong"), (100_000, "TooLong")):
             for ending in b"\n", b"\r\n":
                 with contextlib.closing(switch.operator()) as operator:
-                    got = operator.answer(b"\t" * length + ending[:-1]), operator.order("tick 0")
-                    check(f"a line of {length} bytes", got, ([f"fault {wanted}"], "ok 0"))
+                    got = operator.answer(b"\t" * length + ending[:-1]), operator.answer_to("tick 0")
+                    check(f"a line of {length} bytes", got, ([f"fault {expected}"], "ok 0"))
             got_at_end = timed_for(switch.control, SLACK, [b"tick 0\n" + b"\t" * length])
             check("a line that has not ended has no reply", got_at_end.answer, b"")
             with connect(switch.control) as client:
                 client.sendall(b"\t" * length)
-                check_order("a line that has not ended", switch, "tick 0", PROMPT)
+                check_line("a line that has not ended", switch, "tick 0", PROMPT)
                 client.shutdown(socket.SHUT_WR)
-                check(f"a line of {length} bytes at the end", received(client), b"fault %s\n" % wanted.encode())
+                check(f"a line of {length} bytes at the end", received(client), b"fault %s\n" % expected.encode())
 
 
 def lines_of_the_gone() -> None:
@@ -324,7 +324,7 @@ def http_before_open() -> None:
         for what, text in BROWSERS.items():
             got = sent_by_browser(switch, text + b"open evil 9\r\nquit\r\n")
             check(f"{what} before a book is open", is_one_fault(got), True)
-        check("no browser has opened a book", switch.order("open one 9"), "ok 0")
+        check("no browser has opened a book", switch.answer_to("open one 9"), "ok 0")
 
 
 def sent_by_browser(switch: Switch, *pieces: bytes) -> bytes:
@@ -341,13 +341,13 @@ def http() -> None:
     carried out."""
     with book() as switch:
         for what, text in BROWSERS.items():
-            before = switch.order("tick 1"), report(switch)
+            before = switch.answer_to("tick 1"), report(switch)
             got = sent_by_browser(switch, text + b"deploy evil 22402\r\navailable 2 1\r\npromote full\r\n")
             check(f"{what} is answered one fault, and ends the connection", is_one_fault(got), True)
-            check(f"no line behind {what} is carried out", (switch.order("tick 1"), report(switch)), before)
+            check(f"no line behind {what} is carried out", (switch.answer_to("tick 1"), report(switch)), before)
         for text in BROWSERS.values():
             sent_by_browser(switch, text + b"quit\r\n")
-        check("no quit behind a line of HTTP is carried out", switch.order("tick 2"), "ok 0")
+        check("no quit behind a line of HTTP is carried out", switch.answer_to("tick 2"), "ok 0")
 
 
 def http_in_pieces() -> None:
@@ -382,18 +382,18 @@ def accepts_that_fail() -> None:
         limit = processes.DescriptorLimit(switch.process.pid)
         limit.leave(0)
         with contextlib.ExitStack() as stack:
-            waiting = [stack.enter_context(connect(switch.control)) for _ in range(3)]
-            for client in waiting:
+            pending = [stack.enter_context(connect(switch.control)) for _ in range(3)]
+            for client in pending:
                 client.sendall(b"report\n")
             check_told_once("accepts that fail at the control port are told", switch, accepts_fail("control"))
             for moment in range(2, 5):
                 operator.check(f"tick {moment}", "ok 0")
                 time.sleep(1)
             limit.lift()
-            for client in waiting:
+            for client in pending:
                 client.settimeout(SLACK)
                 check("a connection once there are descriptors again", client.recv(9), b"moment 4\n")
-        check_order("accepts that have failed", switch, "tick 5")
+        check_line("accepts that have failed", switch, "tick 5")
         check("accepts that fail are told once", len(told(switch, accepts_fail("control"))), 1)
 
 
@@ -406,7 +406,7 @@ def notices_without_room() -> None:
             os.write(writer, bytes(4096))
     os.set_blocking(writer, True)
     switch = Switch(prepare=lambda: os.dup2(writer, 2))
-    check("an opening beside a full standard error", switch.order("open one 1"), "ok 0")
+    check("an opening beside a full standard error", switch.answer_to("open one 1"), "ok 0")
     limit = processes.DescriptorLimit(switch.process.pid)
     limit.refuse()
     with connect(switch.control):
@@ -422,6 +422,6 @@ def notices_without_room() -> None:
 
 if __name__ == "__main__":
     checks.run("live_control", (
-        replies_not_taken_hold_nobody, abort_beside_watchers, lines_take_turns, order_within_a_connection, urgent_lines,
+        replies_not_taken_hold_nobody, abort_beside_watchers, lines_take_turns, sequence_within_a_connection, urgent_lines,
         full_port, idle_connections, lasting_connections, lines_that_are_too_long, lines_of_the_gone, http_before_open, http,
         http_in_pieces, other_faults, accepts_that_fail, notices_without_room), 5)

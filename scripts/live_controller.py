@@ -34,7 +34,7 @@ ROLLOUT = """{"spec": {"replicas": 2, "strategy": {"blueGreen": {"activeService"
 "scaleDownDelaySeconds": 1}}}}"""
 
 
-class Scene:
+class ControlledSwitch:
     """A switch, endpoints of three revisions, and the folder of a plan whose analyses are the scripts `pre` and
     `post`."""
 
@@ -62,66 +62,66 @@ class Scene:
         with contextlib.closing(Operator(self.switch.control)) as operator:
             return operator.report()
 
-    def await_report(self, name: str, *wanted: str) -> None:
+    def await_report(self, name: str, *expected: str) -> None:
         """A check that in time the report has each of these texts."""
-        comes(lambda: all(text in self.report() for text in wanted), WAIT)
+        comes(lambda: all(text in self.report() for text in expected), WAIT)
         report = self.report()
-        check(name, [text for text in wanted if text not in report], [])
+        check(name, [text for text in expected if text not in report], [])
 
-    def order(self, line: str, wanted: str) -> None:
+    def send(self, line: str, expected: str) -> None:
         with contextlib.closing(Operator(self.switch.control)) as operator:
-            operator.check(line, wanted)
+            operator.check(line, expected)
 
-    def check_active(self, name: str, wanted: tuple[int, bytes], count: int = 1) -> None:
+    def check_active(self, name: str, expected: tuple[int, bytes], count: int = 1) -> None:
         """A check of what the active service answers so many clients."""
-        check(name, [self.switch.get(self.switch.active) for _ in range(count)], [wanted] * count)
+        check(name, [self.switch.get(self.switch.active) for _ in range(count)], [expected] * count)
 
 
-def deploys(scene: Scene) -> None:
-    scene.await_report("the first revision is opened", "revision 1 one desired 2 available 2 open 0 deadline none\n")
-    scene.write_plan("one", "two")
-    scene.await_report("a deploy", "phase steady\n", "active 2\n", "stable 2\n",
+def deploys(setup: ControlledSwitch) -> None:
+    setup.await_report("the first revision is opened", "revision 1 one desired 2 available 2 open 0 deadline none\n")
+    setup.write_plan("one", "two")
+    setup.await_report("a deploy", "phase steady\n", "active 2\n", "stable 2\n",
                        "revision 2 two desired 2 available 2 ")
-    scene.check_active("live traffic has moved", (200, b"two"))
-    scene.await_report("the old one is scaled down", "revision 1 one desired 0 available 0 open 0 deadline none\n")
+    setup.check_active("live traffic has moved", (200, b"two"))
+    setup.await_report("the old one is scaled down", "revision 1 one desired 0 available 0 open 0 deadline none\n")
 
 
-def endpoints_die(scene: Scene) -> None:
-    first, second = (scene.endpoints[port] for port in scene.ports["two"])
+def endpoints_die(setup: ControlledSwitch) -> None:
+    first, second = (setup.endpoints[port] for port in setup.ports["two"])
     second.stop()
-    scene.await_report("the second endpoint was killed", "revision 2 two desired 2 available 1 ")
-    scene.check_active("the first one answers", (200, b"two"), 4)
+    setup.await_report("the second endpoint was killed", "revision 2 two desired 2 available 1 ")
+    setup.check_active("the first one answers", (200, b"two"), 4)
     second.start()
-    scene.await_report("it is up again", "revision 2 two desired 2 available 2 ")
+    setup.await_report("it is up again", "revision 2 two desired 2 available 2 ")
     first.stop()
-    scene.await_report("the first endpoint was killed", "revision 2 two desired 2 available 0 ")
-    scene.check_active("none of the first ones is up", (503, b""))
+    setup.await_report("the first endpoint was killed", "revision 2 two desired 2 available 0 ")
+    setup.check_active("none of the first ones is up", (503, b""))
     first.start()
-    scene.await_report("both are up again", "revision 2 two desired 2 available 2 ")
+    setup.await_report("both are up again", "revision 2 two desired 2 available 2 ")
 
 
-def analysis_fails(scene: Scene) -> None:
-    scene.write("post", BAD)
-    scene.write_plan("one", "two", "three")
-    scene.await_report("an analysis that failed", "phase aborted\n", "active 2\n", "newest 3\n")
-    scene.check_active("live traffic is back", (200, b"two"))
-    scene.write("post", GOOD)
-    scene.order("retry", "ok 1")
-    scene.await_report("a retry", "phase steady\n", "active 3\n", "stable 3\n")
-    scene.check_active("live traffic is at the newest", (200, b"three"))
+def analysis_fails(setup: ControlledSwitch) -> None:
+    setup.write("post", BAD)
+    setup.write_plan("one", "two", "three")
+    setup.await_report("an analysis that failed", "phase aborted\n", "active 2\n", "newest 3\n")
+    setup.check_active("live traffic is back", (200, b"two"))
+    setup.write("post", GOOD)
+    setup.send("retry", "ok 1")
+    setup.await_report("a retry", "phase steady\n", "active 3\n", "stable 3\n")
+    setup.check_active("live traffic is at the newest", (200, b"three"))
 
 
-def operator_steps_in(scene: Scene) -> None:
+def operator_steps_in(setup: ControlledSwitch) -> None:
     """An undo by hand stands, and an abort ends the analysis that runs."""
-    scene.write("pre", ENDLESS)
-    scene.order("deploy one {} {}".format(*scene.ports["one"]), "ok 0")
-    scene.await_report("an undo by hand", "phase preAnalysis\n", "newest 1\n")
+    setup.write("pre", ENDLESS)
+    setup.send("deploy one {} {}".format(*setup.ports["one"]), "ok 0")
+    setup.await_report("an undo by hand", "phase preAnalysis\n", "newest 1\n")
     time.sleep(1.5)
-    scene.order("abort", "ok 0")
+    setup.send("abort", "ok 0")
     time.sleep(1.5)
-    scene.write("pre", GOOD)
-    scene.order("retry", "ok 1")
-    scene.await_report("an undo that was tried again", "phase steady\n", "active 1\n", "stable 1\n")
+    setup.write("pre", GOOD)
+    setup.send("retry", "ok 1")
+    setup.await_report("an undo that was tried again", "phase steady\n", "active 1\n", "stable 1\n")
 
 
 def check_log(log: str) -> None:
@@ -129,9 +129,9 @@ def check_log(log: str) -> None:
     lines = [LINE.fullmatch(line) for line in log.rstrip("\n").split("\n")]
     check("each line has a time with its zone, and a moment once a book is open", None in lines, False)
     told = [line["text"] for line in lines if line]
-    orders = [text for text in told if " => " in text]
-    check("nothing was refused", [order for order in orders if "refused" in order or "fault" in order], [])
-    check("verdicts", [order.split(" => ")[0] for order in orders if order.startswith("verdict")],
+    replies = [text for text in told if " => " in text]
+    check("nothing was refused", [reply for reply in replies if "refused" in reply or "fault" in reply], [])
+    check("verdicts", [reply.split(" => ")[0] for reply in replies if reply.startswith("verdict")],
           ["verdict pre successful", "verdict post successful", "verdict pre successful", "verdict post failed",
            "verdict pre successful", "verdict post successful", "verdict pre successful", "verdict post successful"])
     moments = [int(line["moment"]) for line in lines if line and line["moment"]]
@@ -142,16 +142,16 @@ def check_log(log: str) -> None:
 
 def whole_run() -> None:
     with tempfile.TemporaryDirectory() as folder:
-        scene = Scene(folder)
-        scene.write_plan("one")
-        controller = subprocess.Popen([CONTROLLER, scene.plan.path], stdout=subprocess.PIPE, text=True)
+        setup = ControlledSwitch(folder)
+        setup.write_plan("one")
+        controller = subprocess.Popen([CONTROLLER, setup.plan.path], stdout=subprocess.PIPE, text=True)
         try:
             for part in (deploys, endpoints_die, analysis_fails, operator_steps_in):
-                part(scene)
+                part(setup)
         finally:
             controller.send_signal(signal.SIGTERM)
             log = controller.communicate(timeout=WAIT)[0]
-            scene.switch.kill()
+            setup.switch.kill()
         check("the controller's status", controller.returncode, 0)
         check_log(log)
 
@@ -160,25 +160,25 @@ def outage_after_the_switch() -> None:
     """All endpoints of the revision that has just gone live are killed while its analysis runs: live traffic goes back within
     ten seconds, with the defaults of the plan."""
     with tempfile.TemporaryDirectory() as folder:
-        scene = Scene(folder)
-        scene.plan.told.pop("health")
-        scene.write("post", ENDLESS)
-        scene.write_plan("one")
-        controller = subprocess.Popen([CONTROLLER, scene.plan.path], stdout=subprocess.PIPE, text=True)
+        setup = ControlledSwitch(folder)
+        setup.plan.told.pop("health")
+        setup.write("post", ENDLESS)
+        setup.write_plan("one")
+        controller = subprocess.Popen([CONTROLLER, setup.plan.path], stdout=subprocess.PIPE, text=True)
         try:
-            scene.await_report("it is open", "available 2 open 0 deadline none\n")
-            scene.write_plan("one", "two")
-            scene.await_report("it is live", "phase postAnalysis\n", "active 2\n")
-            for port in scene.ports["two"]:
-                scene.endpoints[port].stop()
+            setup.await_report("it is open", "available 2 open 0 deadline none\n")
+            setup.write_plan("one", "two")
+            setup.await_report("it is live", "phase postAnalysis\n", "active 2\n")
+            for port in setup.ports["two"]:
+                setup.endpoints[port].stop()
             begun = time.monotonic()
-            comes(lambda: "active 1\n" in scene.report(), WAIT)
+            comes(lambda: "active 1\n" in setup.report(), WAIT)
             check_within("live traffic is back", time.monotonic() - begun, 10)
-            scene.check_active("the stable revision answers", (200, b"one"), 4)
+            setup.check_active("the stable revision answers", (200, b"one"), 4)
         finally:
             controller.send_signal(signal.SIGTERM)
             log = controller.communicate(timeout=WAIT)[0]
-            scene.switch.kill()
+            setup.switch.kill()
         check("it is told", ("no endpoint is up of revision 2 two, which is active" in log, "verdict post error => ok" in log), (True, True))
 
 
@@ -186,65 +186,65 @@ def endpoints_die_one_by_one() -> None:
     """The first of two endpoints is killed, then the second, then both, by a switch that passes over those that are down: a
     request fails only while both are gone."""
     with tempfile.TemporaryDirectory() as folder:
-        scene = Scene(folder, redispatch=True)
-        scene.write_plan("two")
-        controller = subprocess.Popen([CONTROLLER, scene.plan.path], stdout=subprocess.PIPE, text=True)
-        first, second = (scene.endpoints[port] for port in scene.ports["two"])
+        setup = ControlledSwitch(folder, redispatch=True)
+        setup.write_plan("two")
+        controller = subprocess.Popen([CONTROLLER, setup.plan.path], stdout=subprocess.PIPE, text=True)
+        first, second = (setup.endpoints[port] for port in setup.ports["two"])
         try:
-            scene.await_report("it is open", "revision 1 two desired 2 available 2 ")
+            setup.await_report("it is open", "revision 1 two desired 2 available 2 ")
             for killed, name in ((first, "first"), (second, "second")):
                 killed.stop()
-                scene.check_active(f"the {name} endpoint was killed just now", (200, b"two"), 20)
-                scene.await_report(f"the {name} endpoint was killed", "revision 1 two desired 2 available 1 ")
-                scene.check_active(f"the {name} endpoint is known to be down", (200, b"two"), 20)
+                setup.check_active(f"the {name} endpoint was killed just now", (200, b"two"), 20)
+                setup.await_report(f"the {name} endpoint was killed", "revision 1 two desired 2 available 1 ")
+                setup.check_active(f"the {name} endpoint is known to be down", (200, b"two"), 20)
                 killed.start()
-                scene.await_report(f"the {name} endpoint is up again", "revision 1 two desired 2 available 2 ")
+                setup.await_report(f"the {name} endpoint is up again", "revision 1 two desired 2 available 2 ")
             first.stop()
             second.stop()
-            scene.await_report("both are down", "revision 1 two desired 2 available 0 ")
-            scene.check_active("none is up", (503, b""))
+            setup.await_report("both are down", "revision 1 two desired 2 available 0 ")
+            setup.check_active("none is up", (503, b""))
             first.start()
-            scene.await_report("one is up again", "revision 1 two desired 2 available 1 ")
-            scene.check_active("the one that is up answers", (200, b"two"), 20)
+            setup.await_report("one is up again", "revision 1 two desired 2 available 1 ")
+            setup.check_active("the one that is up answers", (200, b"two"), 20)
         finally:
             controller.send_signal(signal.SIGTERM)
             controller.communicate(timeout=WAIT)
-            scene.switch.kill()
+            setup.switch.kill()
 
 
 def launched_rollout() -> None:
     """One edit of the plan, from no process to the end of the old ones: no request fails, though the controller is killed."""
     with tempfile.TemporaryDirectory() as folder:
-        scene = Launched(folder, SEED)
+        setup = Launched(folder, SEED)
         try:
-            scene.await_settled("web-v1")
-            traffic = Traffic(scene.active)
-            scene.name_last("web-v2")
-            scene.kill_at_random(3, scene.kill_controller)
-            scene.await_settled("web-v2")
+            setup.await_settled("web-v1")
+            traffic = Traffic(setup.active)
+            setup.name_last("web-v2")
+            setup.kill_at_random(3, setup.kill_controller)
+            setup.await_settled("web-v2")
             traffic.stop()
-            scene.check_traffic(traffic)
-            scene.check_calls()
+            setup.check_traffic(traffic)
+            setup.check_calls()
         finally:
-            scene.end()
+            setup.end()
 
 
 def launched_under_kills(rounds: int, kills: int) -> None:
     """Rollout after rollout, while the controller and the switch are killed."""
     with tempfile.TemporaryDirectory() as folder:
-        scene = Launched(folder, SEED + rounds)
+        setup = Launched(folder, SEED + rounds)
         try:
-            scene.await_settled("web-v1")
-            traffic = Traffic(scene.active)
+            setup.await_settled("web-v1")
+            traffic = Traffic(setup.active)
             for number in range(2, 2 + rounds):
-                scene.name_last(f"web-v{number}")
-                scene.kill_at_random(kills, scene.kill_controller, scene.kill_switch, scene.kill_both)
-                scene.await_settled(f"web-v{number}")
+                setup.name_last(f"web-v{number}")
+                setup.kill_at_random(kills, setup.kill_controller, setup.kill_switch, setup.kill_both)
+                setup.await_settled(f"web-v{number}")
             traffic.stop()
-            scene.check_traffic(traffic)
-            scene.check_calls()
+            setup.check_traffic(traffic)
+            setup.check_calls()
         finally:
-            scene.end()
+            setup.end()
 
 
 def launched_with_kills() -> None:

@@ -71,7 +71,7 @@ class Process:
         processes.stop(self.process)
 
 
-class Scene:
+class Machine:
     """A switch, a controller, endpoints of three revisions, and the plan that names them."""
 
     def __init__(self, folder: str) -> None:
@@ -143,68 +143,68 @@ class Scene:
             endpoint.stop()
 
 
-def switch_is_killed(scene: Scene) -> None:
-    scene.switch.kill()
-    scene.switch.start()
-    scene.check_answers("the switch is killed")
-    check("it is told", (scene.controller.says("no book is open: it is opened with web-v2, which was stable"),
-                         scene.controller.says("the attempt of web-v3, which ran, is begun again")), (True, True))
+def switch_is_killed(machine: Machine) -> None:
+    machine.switch.kill()
+    machine.switch.start()
+    machine.check_answers("the switch is killed")
+    check("it is told", (machine.controller.says("no book is open: it is opened with web-v2, which was stable"),
+                         machine.controller.says("the attempt of web-v3, which ran, is begun again")), (True, True))
 
 
-def switch_is_killed_after_a_promote(scene: Scene) -> None:
+def switch_is_killed_after_a_promote(machine: Machine) -> None:
     """The promote was answered ok within the second before, and holds."""
-    check("a promotion", ask(scene.control, b"promote", WAIT)[0].startswith("ok "), True)
+    check("a promotion", ask(machine.control, b"promote", WAIT)[0].startswith("ok "), True)
     time.sleep(KNOWN)
-    scene.switch.kill()
-    scene.switch.start()
-    check("web-v3 is stable", comes(lambda: scene.is_at("steady", "web-v3", "web-v3"), WAIT), True)
-    check("the first answers", [clients.get(scene.active) for _ in range(5)], [(200, b"web-v3")] * 5)
-    check("it is told", scene.controller.says("no book is open: it is opened with web-v3, which was stable"), True)
+    machine.switch.kill()
+    machine.switch.start()
+    check("web-v3 is stable", comes(lambda: machine.is_at("steady", "web-v3", "web-v3"), WAIT), True)
+    check("the first answers", [clients.get(machine.active) for _ in range(5)], [(200, b"web-v3")] * 5)
+    check("it is told", machine.controller.says("no book is open: it is opened with web-v3, which was stable"), True)
 
 
-def controller_is_killed(scene: Scene) -> None:
-    scene.controller.kill()
-    scene.controller.lines.clear()
-    scene.controller.start()
-    scene.check_answers("the controller is killed")
-    check("it goes on", comes(lambda: scene.controller.says("goes on from the state file"), WAIT), True)
-    check("nothing is deployed", scene.controller.says("deploy "), False)
+def controller_is_killed(machine: Machine) -> None:
+    machine.controller.kill()
+    machine.controller.lines.clear()
+    machine.controller.start()
+    machine.check_answers("the controller is killed")
+    check("it goes on", comes(lambda: machine.controller.says("goes on from the state file"), WAIT), True)
+    check("nothing is deployed", machine.controller.says("deploy "), False)
 
 
-def both_are_killed(scene: Scene) -> None:
-    scene.switch.kill()
-    scene.controller.kill()
-    scene.controller.start()
-    scene.switch.start()
-    scene.check_answers("both are killed")
+def both_are_killed(machine: Machine) -> None:
+    machine.switch.kill()
+    machine.controller.kill()
+    machine.controller.start()
+    machine.switch.start()
+    machine.check_answers("both are killed")
 
 
-def state_is_cut(scene: Scene) -> None:
-    scene.switch.kill()
-    scene.cut_state()
-    scene.switch.start()
-    scene.check_answers("the switch is killed, and the state file cut")
-    scene.switch.kill()
-    scene.controller.kill()
-    scene.cut_state()
-    scene.controller.lines.clear()
-    scene.controller.start()
-    scene.switch.start()
-    scene.check_answers("both are killed, and the state file cut")
-    check("the cut is told", scene.controller.says("is cut, so its copy is used"), True)
+def state_is_cut(machine: Machine) -> None:
+    machine.switch.kill()
+    machine.cut_state()
+    machine.switch.start()
+    machine.check_answers("the switch is killed, and the state file cut")
+    machine.switch.kill()
+    machine.controller.kill()
+    machine.cut_state()
+    machine.controller.lines.clear()
+    machine.controller.start()
+    machine.switch.start()
+    machine.check_answers("both are killed, and the state file cut")
+    check("the cut is told", machine.controller.says("is cut, so its copy is used"), True)
 
 
-def run_drill(kill: Callable[[Scene], None]) -> Callable[[], None]:
+def run_drill(kill: Callable[[Machine], None]) -> Callable[[], None]:
     """The drill with what is killed, in a scene of its own."""
 
     def part() -> None:
         with tempfile.TemporaryDirectory() as folder:
-            scene = Scene(folder)
+            machine = Machine(folder)
             try:
-                scene.bring_v3_to_its_pause()
-                kill(scene)
+                machine.bring_v3_to_its_pause()
+                kill(machine)
             finally:
-                scene.end()
+                machine.end()
 
     part.__name__ = kill.__name__
     return part

@@ -44,7 +44,7 @@ OUTLIER = 20_000.0  # milliseconds of one request, of which the others take 4
 PICTURES = pathlib.Path(os.environ.get("BG_DASHBOARD_PICTURES") or tempfile.mkdtemp(prefix="bg_dashboard_"))
 
 
-class Scene(NamedTuple):
+class ShownSwitch(NamedTuple):
     """A switch with web-v1 open, whose traffic is logged, and its dashboard."""
     switch: Switch
     operator: Operator
@@ -52,26 +52,26 @@ class Scene(NamedTuple):
     address: str
     ports: dict[str, list[int]]
 
-    def order(self, line: str, wanted: str) -> None:
+    def send(self, line: str, expected: str) -> None:
         with contextlib.closing(Operator(self.switch.control)) as operator:
-            operator.check(line, wanted)
+            operator.check(line, expected)
 
     def phase(self) -> str:
         with contextlib.closing(Operator(self.switch.control)) as operator:
             return operator.state().phase
 
     def deploy(self) -> None:
-        self.order("deploy web-v2 {} {}".format(*self.ports["web-v2"]), "ok 0")
+        self.send("deploy web-v2 {} {}".format(*self.ports["web-v2"]), "ok 0")
 
     def pause(self) -> None:
         """web-v2 waits for its promotion."""
         self.deploy()
-        self.order("available 2 2", "ok 1")
-        self.order("verdict pre successful", "ok 0")
+        self.send("available 2 2", "ok 1")
+        self.send("verdict pre successful", "ok 0")
 
 
 @contextlib.contextmanager
-def scene(*words: str) -> Iterator[Scene]:
+def shown_switch(*words: str) -> Iterator[ShownSwitch]:
     """A scene, of which nothing is left after the block."""
     with tempfile.TemporaryDirectory() as folder:
         log = pathlib.Path(folder) / "access.log"
@@ -87,7 +87,7 @@ def scene(*words: str) -> Iterator[Scene]:
                 operator.check("open web-v1 {} {}".format(*ports["web-v1"]), "ok 0")
                 operator.check("available 1 2", "ok 0")
             with showing(switch.control, free_port(), "--log", str(log), *words) as address:
-                yield Scene(switch, operator, traffic, address, ports)
+                yield ShownSwitch(switch, operator, traffic, address, ports)
         finally:
             traffic.ended.set()
             switch.kill()
@@ -135,7 +135,7 @@ def open_page(browser: Browser, address: str) -> None:
     browser.open(f"{address}#minutes=1")
 
 
-def looks_at_a_deploy(browser: Browser, played: Scene) -> None:
+def looks_at_a_deploy(browser: Browser, played: ShownSwitch) -> None:
     check_shown("the first revision", browser, "#services", "active service", "web-v1")
     check_shown("a steady phase", browser, "#phase", "Steady", "no attempt runs")
     check("no order makes sense", browser.text("#orders button:enabled"), "")
@@ -146,19 +146,19 @@ def looks_at_a_deploy(browser: Browser, played: Scene) -> None:
     played.deploy()
     await_step(browser, "scaling")
     check_shown("a revision without endpoints", browser, "[data-revision=web-v2]", "web-v2", "newest", "0 of 2")
-    played.order("available 2 1", "ok 0")
+    played.send("available 2 1", "ok 0")
     check_shown("one endpoint of two", browser, "[data-revision=web-v2]", "1 of 2")
     picture(browser, "1-scaling")
-    played.order("available 2 2", "ok 1")
+    played.send("available 2 2", "ok 1")
     await_step(browser, "preAnalysis")
     check_shown("what is waited for", browser, "#waits-for", "verdict pre RESULT")
-    played.order("verdict pre successful", "ok 0")
+    played.send("verdict pre successful", "ok 0")
     await_step(browser, "paused")
     check_shown("the preview service", browser, "[data-service=preview]", "web-v2")
     picture(browser, "2-paused")
 
 
-def promotes_by_its_button(browser: Browser, played: Scene) -> None:
+def promotes_by_its_button(browser: Browser, played: ShownSwitch) -> None:
     browser.click("[data-order=promote]")
     check("a question comes first", browser.text("#question-title"), "Promote web-v2?")
     check("and does nothing at a mere Enter", browser.run("return document.activeElement.id"), "cancel")
@@ -182,14 +182,14 @@ def promotes_by_its_button(browser: Browser, played: Scene) -> None:
     check_shown("the scale-down of the old one", browser, "[data-revision=web-v1]", "in ")
 
 
-def shows_hostile_text(browser: Browser, played: Scene) -> None:
+def shows_hostile_text(browser: Browser, played: ShownSwitch) -> None:
     ask(played.switch.active, HOSTILE)
     check_shown("a target with a script, as text", browser, "#failed .target", "<script>window.taken=1</script>")
     check_no_element(browser)
     picture(browser, "4-errors")
 
 
-def aborts_by_its_button(browser: Browser, played: Scene) -> None:
+def aborts_by_its_button(browser: Browser, played: ShownSwitch) -> None:
     browser.click("[data-order=abort]")
     check("the question of an abort", "back to web-v1, the stable revision" in browser.text("#question-text"), True)
     browser.click("#confirm")
@@ -202,7 +202,7 @@ def aborts_by_its_button(browser: Browser, played: Scene) -> None:
     picture(browser, "5-aborted")
 
 
-def by_keyboard(browser: Browser, played: Scene) -> None:
+def by_keyboard(browser: Browser, played: ShownSwitch) -> None:
     browser.run("document.querySelector('[data-order=retry]').focus()")
     browser.press("\ue007")  # Enter
     check("a question by keyboard", browser.text("#question-title"), "Try web-v2 again?")
@@ -227,7 +227,7 @@ def in_other_windows(browser: Browser) -> None:
     browser.scheme("light")
 
 
-def when_the_switch_ends(browser: Browser, played: Scene) -> None:
+def when_the_switch_ends(browser: Browser, played: ShownSwitch) -> None:
     check("faults that the browser tells", browser.complaints(), [])
     played.traffic.end()
     check("requests that failed by the switch", played.traffic.failed, 0)
@@ -239,7 +239,7 @@ def when_the_switch_ends(browser: Browser, played: Scene) -> None:
 
 def rollout(browser: Browser) -> None:
     """A rollout that the page shows and moves."""
-    with scene() as played:
+    with shown_switch() as played:
         open_page(browser, played.address)
         for step in (looks_at_a_deploy, promotes_by_its_button, shows_hostile_text, aborts_by_its_button, by_keyboard):
             step(browser, played)
@@ -249,11 +249,11 @@ def rollout(browser: Browser) -> None:
 
 def outage(browser: Browser) -> None:
     """No endpoint of the active revision is up: the page says so, and does not look well."""
-    with scene() as played:
+    with shown_switch() as played:
         open_page(browser, played.address)
         played.traffic.start()
         check("a chart of requests moves", comes(lambda: bars(browser, ".r0") != ""), True)
-        played.order("available 1 0", "ok 0")
+        played.send("available 1 0", "ok 0")
         check_shown("an alarm in words", browser, "#alarm", "No endpoint of web-v1 is up", "answered 503")
         check_shown("beside the phase", browser, "#phase-name", "Steady, and no endpoint is up")
         good = browser.run("return getComputedStyle(document.documentElement).getPropertyValue('--good')")
@@ -265,7 +265,7 @@ def outage(browser: Browser) -> None:
         check("errors of the revision", comes(lambda: browser.text("[data-revision=web-v1] .bad").count("%") > 0), True)
         time.sleep(4)  # so that the picture has slots without an answer
         picture(browser, "10-no-endpoint")
-        played.order("available 1 2", "ok 0")
+        played.send("available 1 2", "ok 0")
         check("the alarm ends", comes(lambda: browser.is_true("return document.getElementById('alarm').hidden")), True)
         check_shown("a steady phase", browser, "#phase-name", "Steady")
         check_shown("each endpoint's requests", browser, "[data-revision=web-v1] .ports", *map(str, played.ports["web-v1"]))
@@ -355,7 +355,7 @@ def tricks(browser: Browser) -> None:
     """Neither a page of another site nor one whose name was led to this machine reads or orders anything."""
     other = http.server.ThreadingHTTPServer((HOST, free_port()), QuietHandler)
     threading.Thread(target=other.serve_forever, daemon=True).start()
-    with scene() as played:
+    with shown_switch() as played:
         played.pause()
         browser.open(f"http://{HOST}:{other.server_port}/#{played.address}")
         check("a page of another site", browser.run_later(ATTACK), ["refused"] * 5)
@@ -405,7 +405,7 @@ def over_http() -> None:
     """What needs no browser: metrics of a running switch, and orders that are refused."""
     if missing():
         return
-    with scene("--read-only") as played:
+    with shown_switch("--read-only") as played:
         played.traffic.start()
         port = int(played.address.rsplit(":", 1)[1].strip("/"))
 
@@ -415,8 +415,8 @@ def over_http() -> None:
                 connection.request(method, path, headers={"Origin": f"http://{HOST}:{port}", "X-Token": "x"})
                 answer = connection.getresponse()
                 return answer.status, answer.read().decode()
-        wanted = 'bg_switch_http_requests_total{revision="web-v1",service="active",status="2xx"}'
-        check("metrics of traffic", comes(lambda: wanted in asked("/metrics")[1]), True)
+        expected = 'bg_switch_http_requests_total{revision="web-v1",service="active",status="2xx"}'
+        check("metrics of traffic", comes(lambda: expected in asked("/metrics")[1]), True)
         check("metrics of the report", 'bg_switch_replicas_available{revision="web-v1"} 2.0' in asked("/metrics")[1], True)
         report = json.loads(asked("/api/state")[1])["report"]
         check("the state", (report["phase"], report["revisions"][0]["available"]), ("steady", 2))

@@ -86,8 +86,8 @@ def own_ports() -> None:
         switch = Switch(ROLLOUT, workers=3, timeout=40)
         check("listening", switch.first, LISTENING)
         port = {"active": switch.active, "preview": switch.preview, "control": switch.control}[name]
-        check(f"open with the {name} port", switch.order(f"open one {port}"), "ok 0")
-        check("available", switch.order("available 1 1"), "ok 0")
+        check(f"open with the {name} port", switch.answer_to(f"open one {port}"), "ok 0")
+        check("available", switch.answer_to("available 1 1"), "ok 0")
         lines = b"\ndeploy evil 22402\navailable 2 1\n"
         for client_port in (switch.active, switch.preview):
             got = timed(client_port, [request(b"/", b"POST", lines)])
@@ -205,7 +205,7 @@ def serving_two(ports: Sequence[int], options: Sequence[str] = REDISPATCH,
                     variables=variables)
     check("listening", switch.first, LISTENING)
     for line in (f"open one {ports[0]} {ports[1]}", "available 1 2"):
-        check(line, switch.order(line), "ok 0")
+        check(line, switch.answer_to(line), "ok 0")
     try:
         yield switch
     finally:
@@ -358,7 +358,7 @@ def port_of_two_revisions() -> None:
     first.stop()
     with serving_two([first.port, second.port]) as switch:
         for line in (f"deploy two {first.port} {third.port}", "available 2 1"):
-            check(line, switch.order(line).split()[0], "ok")
+            check(line, switch.answer_to(line).split()[0], "ok")
         got = {timed(switch.active).answer for _ in range(6)}
     check("a port of two revisions", BAD_GATEWAY in got, True)
 
@@ -396,9 +396,9 @@ def down() -> None:
     """An endpoint that is down by a line of the operator gets no request while another one takes them."""
     first, second = Endpoint(by_target(b"one")), Endpoint(by_target(b"two"))
     with serving_two([first.port, second.port]) as switch:
-        check("down", switch.order(f"down {first.port}").split()[0], "ok")
+        check("down", switch.answer_to(f"down {first.port}").split()[0], "ok")
         check("an endpoint that is down", {timed(switch.active).answer for _ in range(6)}, {OTHER})
-        check("the other is down", switch.order(f"down {second.port}").split()[0], "ok")
+        check("the other is down", switch.answer_to(f"down {second.port}").split()[0], "ok")
         check("the other one is down in its place", {timed(switch.active).answer for _ in range(6)}, {ONE})
 
 

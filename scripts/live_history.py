@@ -46,12 +46,12 @@ class Filled:
         self.port = Endpoint(held_at(b"/held", self.held, by_target(b"one"))).port
         self.switch = Switch(ROLLOUT, workers=WORKERS, preview=False)
         check("listening", self.switch.first, LISTENING)
-        check("open", self.switch.order(f"open v1 {self.port}"), "ok 0")
+        check("open", self.switch.answer_to(f"open v1 {self.port}"), "ok 0")
         self.entries = 0
 
     def carry_out(self, line: str) -> int:
         """Orders a line that is carried out. Gives how many outcomes followed it."""
-        reply = self.switch.order(line)
+        reply = self.switch.answer_to(line)
         check(f"{line} is carried out", reply[:3], "ok ")
         self.entries += 1 + int(reply[3:])
         return int(reply[3:])
@@ -69,17 +69,17 @@ class Filled:
 
     def hold(self, count: int) -> list[socket.socket]:
         """So many clients whose requests wait at the endpoint."""
-        before = self.held.waiting
-        waiting = [self.stack.enter_context(clients.connect(self.switch.active)) for _ in range(count)]
-        for client in waiting:
+        before = self.held.pending
+        pending = [self.stack.enter_context(clients.connect(self.switch.active)) for _ in range(count)]
+        for client in pending:
             client.sendall(request(b"/held"))
         check("requests that wait at the endpoint", self.held.holds(before + count), True)
-        return waiting
+        return pending
 
-    def let_go(self, waiting: list[socket.socket]) -> None:
+    def let_go(self, pending: list[socket.socket]) -> None:
         """Has the endpoint answer these clients, and hold later ones."""
         self.held.is_free.set()
-        check("clients that waited", {received(client) for client in waiting}, {answer(b"held")})
+        check("clients that waited", {received(client) for client in pending}, {answer(b"held")})
         check("no request is open", comes(lambda: sum(self.switch.open_requests()) == 0), True)
         self.held.is_free.clear()
 
@@ -87,7 +87,7 @@ class Filled:
         check("requests are answered", {timed(self.switch.active).answer for _ in range(count)}, {answer(b"one")})
 
     def check_refused_line(self) -> None:
-        check("a line that finds no place", self.switch.order(LINE), FULL)
+        check("a line that finds no place", self.switch.answer_to(LINE), FULL)
 
     def refused(self) -> tuple[int, int]:
         """How many lines and requests were refused, by what was told."""
@@ -126,12 +126,12 @@ def check_lines(filled: Filled) -> None:
     filled.fill(MOST - OF_EVENT - OF_REQUEST * waits)
     filled.check_answered(ANSWERED)
     check("nothing was refused", filled.refused(), (0, 0))
-    waiting = filled.hold(waits)
+    pending = filled.hold(waits)
     filled.check_refused_line()
     check("a refused line is told", comes(lambda: filled.refused() == (1, 0)) or filled.switch.told, True)
     check("a report", filled.switch.open_requests(), [0] * (REVISIONS - 2) + [waits])
-    check("a compaction, where nothing can be dropped", filled.switch.order("compact"), "compacted 0")
-    filled.let_go(waiting)
+    check("a compaction, where nothing can be dropped", filled.switch.answer_to("compact"), "compacted 0")
+    filled.let_go(pending)
     filled.check_answered(ANSWERED)
     filled.carry_out(LINE)
 
@@ -142,14 +142,14 @@ def check_requests(filled: Filled) -> None:
     outcomes = filled.carry_out(f"tick {DELAY}")
     check("the old revisions are scaled down and removed", outcomes, 2 * (REVISIONS - 2))
     filled.check_refused_line()
-    waiting = filled.hold((MOST - filled.entries) // (1 + OF_REQUEST))
+    pending = filled.hold((MOST - filled.entries) // (1 + OF_REQUEST))
     told_before, start = len(told(filled.switch, full())), time.monotonic()
     for _ in range(FLOOD):
         check("a request that finds no place", timed(filled.switch.active).answer, UNAVAILABLE)
     check("refused requests are told", comes(lambda: filled.refused() == (2, FLOOD)) or filled.switch.told, True)
     most = math.ceil(time.monotonic() - start) + 1
     check("at most once a second", len(told(filled.switch, full())) - told_before <= most or filled.switch.told, True)
-    filled.let_go(waiting)
+    filled.let_go(pending)
     filled.check_answered(ANSWERED)
 
 
@@ -165,7 +165,7 @@ def full_history() -> None:
         check_told_once("that it is nearly full was told once", filled.switch, nearly_full())
         filled.check_refused_line()
         with contextlib.closing(filled.switch.operator()) as operator:
-            operator.order_quit()
+            operator.send_quit()
             ended = filled.switch.wait()
         check("the end", (ended.printed.splitlines()[-2], ended.status), ("end", 0))
         check("what is refused last is told at the end", filled.refused(), (3, FLOOD))

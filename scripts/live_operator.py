@@ -97,10 +97,10 @@ def given_up() -> None:
         check("no answer", outcome(switch, "--wait", "1", "tick", "50"), ("", 2))
         check("no answer to lines", outcome(switch, "--wait", "0.5", lines="tick 51\ntick 52\n"), ("", 2))
         check("no answer to a watcher", outcome(switch, "--wait", "0.5", "watch"), ("", 2))
-        waiting = started(switch, "tick", "7")
+        pending = started(switch, "tick", "7")
         time.sleep(0.5)
         switch.process.send_signal(signal.SIGCONT)
-        check("an order that waited", (waiting.communicate(timeout=WAIT)[0], waiting.returncode), ("ok 0\n", 0))
+        check("an order that waited", (pending.communicate(timeout=WAIT)[0], pending.returncode), ("ok 0\n", 0))
         check("no order that was given up", moment(switch), "moment 7")
 
 
@@ -222,13 +222,13 @@ def meanings() -> None:
     """Each refusal and fault of docs/LINES.md has its meaning."""
     text = pathlib.Path("docs/LINES.md").read_text(encoding="utf-8")
     told = text.split("What the refusals mean:")[1].split("\n## ")[0]
-    names = {name for row in re.findall(r"^\| (.*?) \|", told, re.M) for name in re.findall(r"`(\w+)`", row)}
+    names = {name for cells in re.findall(r"^\| (.*?) \|", told, re.M) for name in re.findall(r"`(\w+)`", cells)}
     check("refusals without a meaning", (sorted(names - set(REFUSALS)), len(names) > 20), ([], True))
     faults = text.split("## How a line is read")[1].split("`BadWord` and `BadNumber` are judged")[0]
     names = set(re.findall(r"^\| `(\w+)` \|", faults, re.M))
     check("faults without a meaning", sorted(names ^ set(FAULTS)), [])
     lines = set(re.findall(r"^\| `(\w+)", text.split("\n## The lines\n")[1].split("What the refusals mean:")[0], re.M))
-    check("lines of the help", sorted({line.form.split()[0] for line in LINES} ^ (lines - {"enter", "leave"})), [])
+    check("lines of the help", sorted({line.syntax.split()[0] for line in LINES} ^ (lines - {"enter", "leave"})), [])
 
 
 if __name__ == "__main__":

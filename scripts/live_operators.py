@@ -18,7 +18,7 @@ from support.endpoints import Endpoint, by_target
 from support.messages import BY_HAND
 from support.ports import LOCAL, STATE, TABLE, free_ports
 from support.processes import Run
-from support.stderr_lines import orders_told, told, turned_away
+from support.stderr_lines import line_of_user, refused_connections, told
 from support.switch import LISTENING, PROGRAM, Switch, book, words_of_serve
 from support.users import NOBODY, connect_as, is_root
 
@@ -62,12 +62,12 @@ def others_are_turned_away() -> None:
         for text in lines:
             check(f"another user that sends {text[:20]!r}", asked_as(NOBODY, switch, text), NOT_ALLOWED)
         check("the report after the lines of another user", report_of(switch), before)
-        check("an order of a listed user", switch.order("tick 1"), "ok 0")
-        counted = comes(lambda: sum(int(match[1]) for match in told(switch, turned_away())) == len(lines))
+        check("an order of a listed user", switch.answer_to("tick 1"), "ok 0")
+        counted = comes(lambda: sum(int(match[1]) for match in told(switch, refused_connections())) == len(lines))
         check("the connections that were turned away are told", counted or switch.told, True)
     with switch_of("root", is_open=False) as switch:
         check("an open of another user", asked_as(NOBODY, switch, b"open one 1\n"), NOT_ALLOWED)
-        check("an open of a listed user", switch.order("open one 1"), "ok 0")
+        check("an open of a listed user", switch.answer_to("open one 1"), "ok 0")
 
 
 def without_the_variable() -> None:
@@ -75,7 +75,7 @@ def without_the_variable() -> None:
     switch = Switch(BY_HAND, workers=2)
     check("listening for all", switch.first, LISTENING)
     check("an open of another user", asked_as(NOBODY, switch, b"open one 1\n"), b"ok 0\n")
-    check("a moment of root", switch.order("tick 1"), "ok 0")
+    check("a moment of root", switch.answer_to("tick 1"), "ok 0")
     time.sleep(1.5)
     check("nothing is told", switch.told, [])
     switch.stop()
@@ -110,8 +110,8 @@ def lists_that_cannot_be_used() -> None:
 
 def is_listed_as_root(port: int) -> bool:
     """Whether the system lists a socket at this port that has ended its output, as one of root."""
-    rows = [line.split() for line in TABLE.read_text(encoding="ascii").splitlines() if f":{port:04X} " in line]
-    return any(row[LOCAL].endswith(f":{port:04X}") and row[STATE] == ENDED and row[USER] == str(ROOT) for row in rows)
+    sockets = [line.split() for line in TABLE.read_text(encoding="ascii").splitlines() if f":{port:04X} " in line]
+    return any(fields[LOCAL].endswith(f":{port:04X}") and fields[STATE] == ENDED and fields[USER] == str(ROOT) for fields in sockets)
 
 
 def gone_before_it_is_looked_at() -> None:
@@ -128,7 +128,7 @@ def gone_before_it_is_looked_at() -> None:
             check("the system lists its socket as one of root", comes(partial(is_listed_as_root, port)), True)
         os.kill(switch.process.pid, signal.SIGCONT)
         check("the lines of a user that has gone", report_of(switch), before)
-        gone = comes(lambda: sum(int(match[1]) for match in told(switch, turned_away())) == 2)
+        gone = comes(lambda: sum(int(match[1]) for match in told(switch, refused_connections())) == 2)
         check("connections whose user isn't known are turned away", gone or switch.told, True)
 
 
@@ -143,23 +143,23 @@ def half_closed() -> None:
             check("a listed user that has shut its writing side", received(connection), b"ok 0\n")
 
 
-def orders_are_told() -> None:
+def lines_are_told() -> None:
     """Each order that is carried out is told with its user; a moment, a report and a refused line aren't."""
     nobody = pwd.getpwuid(NOBODY).pw_name
     switch = Switch(BY_HAND, workers=2, variables={VARIABLE: f"root,{nobody}"})
     check("listening", switch.first, LISTENING)
     one, two = (Endpoint(by_target(name)).port for name in (b"one", b"two"))
-    check("open", switch.order(f"open one {one}"), "ok 0")
+    check("open", switch.answer_to(f"open one {one}"), "ok 0")
     for line, reply in ((f"deploy two {two}", b"ok 0\n"), ("available 2 1", b"ok 1\n"), ("tick 1", b"ok 0\n"),
                         ("retry", b"refused NotAborted\n"), ("jump", b"fault UnknownWord\n"), ("abort", b"ok 0\n")):
         check(f"the reply to {line}", asked_as(NOBODY, switch, f"{line}\n".encode("ascii")), reply)
     with contextlib.closing(switch.operator()) as operator:
         operator.check("promote", "refused Aborted")
-        operator.order_quit()
+        operator.send_quit()
         check("the status after quit", switch.wait().status, 0)
-    orders = [(int(match[1]), match[2]) for match in told(switch, orders_told())]
-    wanted = [(ROOT, f"open one {one}"), (NOBODY, f"deploy two {two}"), (NOBODY, "abort"), (ROOT, "quit")]
-    check("the orders", orders, wanted)
+    lines = [(int(match[1]), match[2]) for match in told(switch, line_of_user())]
+    expected = [(ROOT, f"open one {one}"), (NOBODY, f"deploy two {two}"), (NOBODY, "abort"), (ROOT, "quit")]
+    check("the orders", lines, expected)
 
 
 def strangers_hold_up_nobody() -> None:
@@ -170,13 +170,13 @@ def strangers_hold_up_nobody() -> None:
         callers = [threading.Thread(target=call_again, args=(switch, ends), daemon=True) for _ in range(CALLERS)]
         for caller in callers:
             caller.start()
-        check("others call", comes(lambda: sum(int(match[1]) for match in told(switch, turned_away())) > STRANGERS), True)
+        check("others call", comes(lambda: sum(int(match[1]) for match in told(switch, refused_connections())) > STRANGERS), True)
         for moment in range(2, 12):
             start = time.monotonic()
             operator.check(f"tick {moment}", "ok 0")
             check_within("an order while others connect", time.monotonic() - start, AT_ONCE)
         start = time.monotonic()
-        check("an order of a new connection", switch.order("tick 20"), "ok 0")
+        check("an order of a new connection", switch.answer_to("tick 20"), "ok 0")
         check_within("a new connection while others connect", time.monotonic() - start, PROMPT)
         ends.set()
         for caller in callers:
@@ -197,4 +197,4 @@ if __name__ == "__main__":
         sys.exit(0)
     checks.run("live_operators", (
         others_are_turned_away, without_the_variable, names_and_numbers, lists_that_cannot_be_used,
-        gone_before_it_is_looked_at, half_closed, orders_are_told, strangers_hold_up_nobody), 4)
+        gone_before_it_is_looked_at, half_closed, lines_are_told, strangers_hold_up_nobody), 4)

@@ -119,7 +119,7 @@ class Nginx:
         self.process.wait(SOON)
 
 
-class Site:
+class NginxSetup:
     """An endpoint, the switch before it, and nginx before the switch and, to compare, before the endpoint itself."""
 
     def __init__(self, folder: pathlib.Path) -> None:
@@ -135,7 +135,7 @@ class Site:
             Nginx(folder, "front", self.front_text(self.front, self.switch.active, self.switch.preview)),
             Nginx(folder, "plain", self.front_text(self.plain_front, self.endpoint, self.endpoint))]
         for line in (f"open one {self.endpoint}", "available 1 1"):
-            check(line, self.switch.order(line), "ok 0")
+            check(line, self.switch.answer_to(line), "ok 0")
         for port in (self.endpoint, self.front, self.plain_front):
             check("nginx listens", comes(partial(is_open, port)), True)
         self.context = ssl.create_default_context(cafile=folder / "web.pem")
@@ -192,10 +192,10 @@ def told_fields(reply: Reply) -> Reply:
     return reply._replace(body=b"\n".join(lines))
 
 
-def compare(site: Site) -> None:
+def compare(setup: NginxSetup) -> None:
     """Each request is answered as without the switch."""
     for name, case in CASES.items():
-        got, without = site.ask(site.front, case), site.ask(site.plain_front, case)
+        got, without = setup.ask(setup.front, case), setup.ask(setup.plain_front, case)
         if case.target == "/all-fields":
             got, without = told_fields(got), told_fields(without)
             check("no forged field reaches the endpoint", b"10.0.0.1" in got.body, False)
@@ -203,9 +203,9 @@ def compare(site: Site) -> None:
         check(f"{name}: as without the switch", got == without or (got[:2], without[:2]), True)
         if "Accept-Encoding" in case.fields:
             check(f"{name}: it is compressed", got.fields.get("content-encoding"), "gzip")
-    check("the preview service", site.ask(site.front, CASES["a page"], PREVIEW_NAME).status, 200)
+    check("the preview service", setup.ask(setup.front, CASES["a page"], PREVIEW_NAME).status, 200)
     with contextlib.suppress(ssl.SSLError):
-        site.ask(site.front, CASES["a page"], UNKNOWN_NAME)
+        setup.ask(setup.front, CASES["a page"], UNKNOWN_NAME)
         checks.fail("a name that isn't listed", "it got a connection")
 
 
@@ -234,21 +234,21 @@ def start_as_another_user(command: str) -> "subprocess.Popen[str]":
     return process
 
 
-def stop_by_unit(site: Site) -> None:
+def stop_by_unit(setup: NginxSetup) -> None:
     """The unit's commands: that of the start has the words of `serve`, and those of the stop end the switch."""
     unit = placed("bg-switch.service", {})
     start, = values(unit, "ExecStart")
     check("the start of the unit", sorted(start.split()),
           sorted(["/usr/bin/bg_switch", *words_of_serve(ACTIVE, CONTROL, PREVIEW, 0, None, CONCURRENCY)]))
     check("the descriptors of the unit", values(unit, "LimitNOFILE"), [str(DESCRIPTORS)])
-    archive = make_tools(site.folder)
+    archive = make_tools(setup.folder)
     shutdown, wait = values(unit.replace("/usr/bin/bg-operator", f"{archive} operator").replace(
-        str(CONTROL), str(site.switch.control)).replace("${MAINPID}", str(site.switch.process.pid)), "ExecStop")
-    waiting, asking = start_as_another_user(wait), start_as_another_user(shutdown)
+        str(CONTROL), str(setup.switch.control)).replace("${MAINPID}", str(setup.switch.process.pid)), "ExecStop")
+    pending, asking = start_as_another_user(wait), start_as_another_user(shutdown)
     check("the first command of the stop", (*asking.communicate(timeout=SOON), asking.returncode), ("", "", 0))
-    ended = site.switch.wait()
+    ended = setup.switch.wait()
     check("the switch has ended by itself", (ended.printed.splitlines()[-1][:6], ended.status), ("calls ", 0))
-    check("the second command of the stop", (*waiting.communicate(timeout=SOON), waiting.returncode), ("", "", 0))
+    check("the second command of the stop", (*pending.communicate(timeout=SOON), pending.returncode), ("", "", 0))
 
 
 def exposure(unit: pathlib.Path) -> float:
@@ -275,12 +275,12 @@ def verify_units(folder: pathlib.Path) -> None:
 def production() -> None:
     with tempfile.TemporaryDirectory() as name:
         folder = pathlib.Path(name)
-        site = Site(folder)
+        setup = NginxSetup(folder)
         try:
-            compare(site)
-            stop_by_unit(site)
+            compare(setup)
+            stop_by_unit(setup)
         finally:
-            site.end()
+            setup.end()
         verify_units(folder)
 
 

@@ -46,7 +46,7 @@ end
 """
 
 
-class Exchange(NamedTuple):
+class ClientRequest(NamedTuple):
     """What a client sends at a port, whether it resets the connection then and hears nothing, what it is answered else,
     and whether its request enters."""
     port: int
@@ -55,7 +55,7 @@ class Exchange(NamedTuple):
     answer: bytes
     enters: bool
 
-    def is_as_wanted(self) -> bool:
+    def is_as_expected(self) -> bool:
         if not self.resets:
             return clients.asked(self.port, self.text) == self.answer
         client = clients.connect(self.port)
@@ -88,18 +88,18 @@ def random_request(rng: random.Random, name: bytes) -> tuple[bytes, bytes]:
         (request(rng.choice(list(BROKEN))), BAD_GATEWAY)))
 
 
-def random_exchange(rng: random.Random, port: int, name: bytes | None) -> Exchange:
-    """An exchange at a port whose endpoint has this name; None where there is no endpoint."""
-    text, wanted = random_request(rng, name or b"none")
+def random_client_request(rng: random.Random, port: int, name: bytes | None) -> ClientRequest:
+    """A request at a port whose endpoint has this name; None where there is no endpoint."""
+    text, expected = random_request(rng, name or b"none")
     kind = rng.randrange(10)
     if kind == 0:
-        text, wanted = rng.choice(REFUSED)
-        return Exchange(port, text, False, wanted, False)
+        text, expected = rng.choice(REFUSED)
+        return ClientRequest(port, text, False, expected, False)
     if kind <= 2:
-        return Exchange(port, text[:rng.randrange(len(text))], kind == 1, b"", False)
+        return ClientRequest(port, text[:rng.randrange(len(text))], kind == 1, b"", False)
     if name is None:
-        return Exchange(port, text, False, UNAVAILABLE, False)
-    return Exchange(port, text, kind == 3, wanted, True)
+        return ClientRequest(port, text, False, UNAVAILABLE, False)
+    return ClientRequest(port, text, kind == 3, expected, True)
 
 
 class RandomRun:
@@ -122,24 +122,24 @@ class RandomRun:
         check("all that entered have reached an endpoint and left", comes(self.has_settled), True)
         return self.operator.report()
 
-    def order(self, step: Step) -> None:
-        for line, wanted in step.lines.items():
-            self.operator.check(line, wanted)
+    def send(self, step: Step) -> None:
+        for line, expected in step.lines.items():
+            self.operator.check(line, expected)
 
-    def exchange(self, count: int, step: Step) -> int:
-        """So many exchanges at once with the active and the preview port; each eighth is one with the preview port.
+    def send_requests(self, count: int, step: Step) -> int:
+        """So many requests at once with the active and the preview port; each eighth is one with the preview port.
         Gives how many entered."""
         switch = self.switch
         active, preview = (switch.active, step.active), (switch.preview, step.preview)
         ports = [preview if place % 8 == 0 else active for place in range(count)]
         self.rng.shuffle(ports)
-        exchanges = [random_exchange(self.rng, *port) for port in ports]
+        requests = [random_client_request(self.rng, *port) for port in ports]
         for port, _ in ports:
             switch.take(port)
         with concurrent.futures.ThreadPoolExecutor(CLIENTS) as pool:
-            results = pool.map(Exchange.is_as_wanted, exchanges)
-            check("exchanges at random", [one for one, as_wanted in zip(exchanges, results) if not as_wanted][:3], [])
-        entered = sum(one.enters for one in exchanges)
+            results = pool.map(ClientRequest.is_as_expected, requests)
+            check("requests at random", [one for one, as_expected in zip(requests, results) if not as_expected][:3], [])
+        entered = sum(one.enters for one in requests)
         self.entered += entered
         self.settled_report()
         return entered
@@ -179,10 +179,10 @@ def steps_of(one: int, two: int, three: int) -> Sequence[Step]:
 
 def first_marks(run: RandomRun, step: Step) -> tuple[Footprint, Footprint]:
     """The first step; gives what the program has after the first hundred exchanges, and after the first thousand."""
-    run.order(step)
-    entered = run.exchange(FIRST_MARK, step)
+    run.send(step)
+    entered = run.send_requests(FIRST_MARK, step)
     hundred = run.footprint()
-    entered += run.exchange(EACH_STEP - FIRST_MARK, step)
+    entered += run.send_requests(EACH_STEP - FIRST_MARK, step)
     thousand = run.footprint()
     run.compact(entered)
     return hundred, thousand
@@ -202,11 +202,11 @@ def ten_thousand_exchanges() -> None:
     first, *others = steps_of(*(endpoint.port for endpoint in run.endpoints))
     hundred, thousand = first_marks(run, first)
     for step in others:
-        run.order(step)
-        run.compact(run.exchange(EACH_STEP, step))
+        run.send(step)
+        run.compact(run.send_requests(EACH_STEP, step))
     check_footprint(run.footprint(), hundred, thousand)
     told = run.settled_report()
-    run.operator.order_quit()
+    run.operator.send_quit()
     check("the end of ten thousand exchanges", run.switch.end(), (f"{told}calls {2 * run.entered}\n", 0))
     check("their last report", told, LAST_REPORT)
     run.operator.close()

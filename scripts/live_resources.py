@@ -36,12 +36,12 @@ def connections_used_up() -> None:
         last.sendall(REQUEST[9:])
         check("the last connection", clients.received(last), ANSWER)
     check("the other port", is_open(switch.preview), True)
-    check("the operators' side", operator.order("tick 1"), "ok 0")
+    check("the operators' side", operator.answer_to("tick 1"), "ok 0")
     for _ in range(2):
         switch.take(switch.preview)
         check("an answer at the preview port", clients.timed(switch.preview).answer, ANSWER)
     check("the preview port once its connections are used up", is_refused(switch.preview), True)
-    check("the operators' side then", operator.order("tick 2"), "ok 0")
+    check("the operators' side then", operator.answer_to("tick 2"), "ok 0")
     switch.check_end_after(operator, "the end of a run whose ports are closed", 12)
 
 
@@ -49,11 +49,11 @@ def a_client_too_many() -> None:
     """A client that was still waiting as the port is closed doesn't hang."""
     switch, operator = opened(Endpoint(in_pieces([b"", RESPONSE], 0.5)).port, count=2)
     with contextlib.ExitStack() as stack:
-        waiting = [stack.enter_context(clients.connect(switch.active)) for _ in range(3)]
+        pending = [stack.enter_context(clients.connect(switch.active)) for _ in range(3)]
         switch.take(switch.active, 2)
-        for client in waiting:
+        for client in pending:
             client.sendall(REQUEST)
-        got = [clients.received(client) for client in waiting]
+        got = [clients.received(client) for client in pending]
     check("clients, one too many", got, [ANSWER, ANSWER, b""])
     switch.check_end_after(operator, "the end after a client too many", 4)
 
@@ -79,10 +79,10 @@ def without_descriptors() -> None:
     limit = DescriptorLimit(switch.process.pid)
     check_no_dial("no descriptor for an endpoint", switch, limit, before)
     with concurrent.futures.ThreadPoolExecutor(1) as pool:
-        waiting = pool.submit(switch.get, switch.active)
+        pending = pool.submit(switch.get, switch.active)
         time.sleep(SEEN)
         limit.lift()
-        check("an accept that is tried again", waiting.result(), (200, b"one"))
+        check("an accept that is tried again", pending.result(), (200, b"one"))
     check_no_dial("no descriptor once more", switch, limit, before)
     start = time.monotonic()
     check("accepts that fail use the connections up", is_refused(switch.active), True)
@@ -137,7 +137,7 @@ def without_threads() -> None:
         time.sleep(SEEN)
         check("none is answered beside the operator", [get.done() for get in gets], [False] * 6)
         operator.check("available 1 1", "ok 0")
-        operator.order_quit()
+        operator.send_quit()
         check("each is answered after it", [get.result() for get in gets], [(200, b"one")] * 6)
     switch.check_end("calls, without threads", 12)
     operator.close()

@@ -57,7 +57,7 @@ def check_ends_soon(name: str, switch: Switch, calls: int, most: float = SOON) -
     check_within(f"{name}: until the program has ended", time.monotonic() - start, most)
 
 
-class Scene:
+class EndlessSwitch:
     """A switch that serves for ever, an operator, and connections in each state."""
 
     def __init__(self, stack: contextlib.ExitStack, workers: int) -> None:
@@ -74,24 +74,24 @@ class Scene:
 
     def hold(self, port: int, count: int) -> list[socket.socket]:
         """So many clients more, whose requests wait at the endpoint."""
-        before = self.held.waiting
-        waiting = [self.client(port, request(b"/held")) for _ in range(count)]
+        before = self.held.pending
+        pending = [self.client(port, request(b"/held")) for _ in range(count)]
         check("requests that wait at the endpoint", self.held.holds(before + count), True)
-        return waiting
+        return pending
 
 
 def graceful() -> None:
     """Requests that are served, that arrive, and that wait for a worker are answered; pending answers are written."""
     with contextlib.ExitStack() as stack:
-        scene = Scene(stack, 3)
-        switch = scene.switch
-        silent = [scene.client(port, b"") for port in (switch.active, switch.preview)]
-        arriving = [scene.client(port, request()[:-1]) for port in (switch.active, switch.preview)]
-        reader = scene.client(switch.active, request(b"/big"))
+        endless = EndlessSwitch(stack, 3)
+        switch = endless.switch
+        silent = [endless.client(port, b"") for port in (switch.active, switch.preview)]
+        arriving = [endless.client(port, request()[:-1]) for port in (switch.active, switch.preview)]
+        reader = endless.client(switch.active, request(b"/big"))
         check("an answer is pending",
-              comes(lambda: scene.endpoint.served == 1 and scene.operator.open_requests() == [0]), True)
-        served = [*scene.hold(switch.active, 2), *scene.hold(switch.preview, 1)]
-        scene.operator.order_quit()
+              comes(lambda: endless.endpoint.served == 1 and endless.operator.open_requests() == [0]), True)
+        served = [*endless.hold(switch.active, 2), *endless.hold(switch.preview, 1)]
+        endless.operator.send_quit()
         check_ports_closed("a graceful shutdown", switch)
         start = time.monotonic()
         for client in silent:
@@ -104,27 +104,27 @@ def graceful() -> None:
         check("a request that is arriving at quit is answered", received(arriving[0]), answer(b"one"))
         check("the program waits for what is open", switch.process.poll(), None)
         check("the pending answer of a slow reader at quit is written", received(reader) == answer(BIG), True)
-        scene.held.is_free.set()
+        endless.held.is_free.set()
         check("requests that are served at quit are answered", [received(client) for client in served],
               [answer(b"held")] * 3)
         check("a request that waits for a worker at quit is answered", received(arriving[1]), answer(b"one"))
         check_ends_soon("a graceful shutdown", switch, 12)
 
 
-def waiting_for_workers() -> None:
+def pending_for_workers() -> None:
     """All workers are busy at quit: requests that were accepted before are answered by them."""
     with contextlib.ExitStack() as stack:
-        scene = Scene(stack, 1)
-        switch = scene.switch
-        arriving = [scene.client(switch.active, request()[:-1]) for _ in range(5)]
+        endless = EndlessSwitch(stack, 1)
+        switch = endless.switch
+        arriving = [endless.client(switch.active, request()[:-1]) for _ in range(5)]
         time.sleep(0.5)
-        served = scene.hold(switch.active, 1)
+        served = endless.hold(switch.active, 1)
         for client in arriving:
             client.sendall(b"\n")
-        scene.operator.order_quit()
+        endless.operator.send_quit()
         check_ports_closed("a shutdown while all workers are busy", switch)
         time.sleep(1.5)
-        scene.held.is_free.set()
+        endless.held.is_free.set()
         check("requests that wait for a worker at quit are answered", [received(client) for client in arriving],
               [answer(b"one")] * 5)
         check("the request of the busy worker", received(served[0]), answer(b"held"))
@@ -140,7 +140,7 @@ def backlog_at_quit() -> None:
         client.sendall(request())
     held.holds(2)
     time.sleep(0.5)
-    operator.order_quit()
+    operator.send_quit()
     check_ports_closed("a shutdown with clients in the backlog", switch)
     held.is_free.set()
     check("requests in the backlog at quit", [received(client) for client in clients], [answer(b"held")] * 22)
@@ -164,7 +164,7 @@ def quit_of_the_opener() -> None:
     check_ends_soon("a quit of the opener", switch, 2)
 
 
-def waiting_at_the_end() -> None:
+def pending_at_the_end() -> None:
     """Sixty seconds after quit, requests that wait for a worker are dropped: one response's timeout later all is over."""
     timeout = 15
     switch, operator = opened(Endpoint(lambda *_: time.sleep(150)).port, timeout=timeout)
@@ -175,7 +175,7 @@ def waiting_at_the_end() -> None:
     for client in clients:
         client.sendall(b"\n")
     time.sleep(1)
-    operator.order_quit()
+    operator.send_quit()
     start = time.monotonic()
     switch.wait()
     check_within("a shutdown with requests that wait for a worker", time.monotonic() - start, 60 + timeout + SOON)
@@ -198,7 +198,7 @@ def before_open() -> None:
     switch = Switch(workers=2)
     check("listening", switch.first, LISTENING)
     with connect(switch.active), contextlib.closing(switch.operator()) as operator:
-        operator.order_quit()
+        operator.send_quit()
         check("quit before a book is open", switch.wait(), Ended("", 0))
 
 
@@ -207,13 +207,13 @@ def late_at_quit() -> None:
     time."""
     timeout, held = 4, Held(b"held")
     switch, operator = opened(Endpoint(held).port, workers=2, timeout=timeout)
-    with connect(switch.active) as late, connect(switch.active) as waiting:
+    with connect(switch.active) as late, connect(switch.active) as pending:
         late.sendall(request()[:-1])
-        waiting.sendall(request())
+        pending.sendall(request())
         check("the endpoint is silent", held.holds(1), True)
-        operator.order_quit()
+        operator.send_quit()
         check("a late request at quit", received(late), b"")
-        check("a silent endpoint at quit", received(waiting)[:12], b"HTTP/1.1 502")
+        check("a silent endpoint at quit", received(pending)[:12], b"HTTP/1.1 502")
         check_ends_soon("a shutdown beside a late request", switch, 2, timeout + SOON)
 
 
@@ -222,7 +222,7 @@ def sixty_seconds() -> None:
     switch, operator = opened(Endpoint(by_target(b"one")).port, workers=2, timeout=300)
     with dripping(switch.active, 3, b"GET /"):
         time.sleep(1)
-        operator.order_quit()
+        operator.send_quit()
         start = time.monotonic()
         check_ends_soon("a shutdown beside requests that drip", switch, 0, 60 + SOON)
         check("requests that drip keep a shutdown for up to 60 seconds", time.monotonic() - start > 50, True)
@@ -232,7 +232,7 @@ def counted() -> None:
     """With `--count`, `quit` ends the operators' side alone: clients are served until the connections are used up."""
     switch, operator = opened(Endpoint(by_target(b"one")).port, workers=2, count=10)
     check("answers before quit", set(polite(switch.active, 5).answers), {answer(b"one")})
-    operator.order_quit()
+    operator.send_quit()
     check("the control port is refused after quit", is_refused(switch.control), True)
     with connect(switch.active) as client:
         check("answers after quit", set(polite(switch.active, 14).answers), {answer(b"one")})
@@ -254,7 +254,7 @@ def connections_used_up() -> None:
     operator.check("tick 0", "ok 0")
     time.sleep(2.5)
     check("it is told once", len(switch.told), 2)
-    operator.order_quit()
+    operator.send_quit()
     check_ends_soon("a run whose ports are closed", switch, 12)
 
 
@@ -274,7 +274,7 @@ def few_threads(count: int) -> Iterator[tuple[Switch, Operator]]:
     operator.check(f"open one {Endpoint(by_target(b'one')).port}", "ok 0")
     operator.check("available 1 1", "ok 0")
     yield switch, operator
-    operator.order_quit()
+    operator.send_quit()
     check_ended("a run with few threads", switch.wait(), 6 if count else 0)
 
 
@@ -283,8 +283,8 @@ def too_few_threads() -> None:
     with few_threads(4) as (switch, _):
         check("answers of fewer workers", set(polite(switch.active, 3).answers), {answer(b"one")})
         check_told_once("fewer workers are told", switch, fewer_workers("active"))
-        begun, ordered = map(int, told(switch, fewer_workers("active"))[0].groups())
-        check("the numbers of workers", (0 < begun < ordered, ordered), (True, 4))
+        begun, requested = map(int, told(switch, fewer_workers("active"))[0].groups())
+        check("the numbers of workers", (0 < begun < requested, requested), (True, 4))
 
 
 def no_threads() -> None:
@@ -312,7 +312,7 @@ def accepts_that_fail() -> None:
     check("clients are answered once there are descriptors", [received(client) for client in clients],
           [answer(b"one")] * 2)
     check("clients that come later", timed(switch.active).answer, answer(b"one"))
-    operator.order_quit()
+    operator.send_quit()
     check_ends_soon("a run whose accepts have failed", switch, 6)
 
 
@@ -322,12 +322,12 @@ def nothing_to_tell() -> None:
     check("answers", set(polite(switch.active, 20).answers), {answer(b"one")})
     time.sleep(5)
     check("the port is open", is_open(switch.active), True)
-    operator.order_quit()
+    operator.send_quit()
     check_ends_soon("a run without trouble", switch, 40)
     check("a run without trouble tells nothing", switch.told, [])
 
 
 if __name__ == "__main__":
     checks.run("live_shutdown", (
-        graceful, waiting_for_workers, backlog_at_quit, quit_of_the_opener, at_rest, before_open, late_at_quit, counted, connections_used_up,
-        too_few_threads, no_threads, accepts_that_fail, nothing_to_tell), 6, by_hand=(sixty_seconds, waiting_at_the_end))
+        graceful, pending_for_workers, backlog_at_quit, quit_of_the_opener, at_rest, before_open, late_at_quit, counted, connections_used_up,
+        too_few_threads, no_threads, accepts_that_fail, nothing_to_tell), 6, by_hand=(sixty_seconds, pending_at_the_end))

@@ -27,7 +27,7 @@ def quit_before_open() -> None:
     switch = Switch(NO_PREVIEW, count=1, preview=False)
     switch.left.clear()
     with contextlib.closing(switch.operator()) as operator:
-        operator.order_quit()
+        operator.send_quit()
         check("quit before open", switch.end(), ("", 0))
 
 

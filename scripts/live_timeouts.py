@@ -85,12 +85,12 @@ def given_up() -> None:
             check(f"request {number} has reached its endpoint", comes(lambda: endpoint.served == len(downloads)), True)
         for line, reply in ((f"deploy two {Endpoint(in_pieces([RESPONSE])).port}", "ok 0"), ("available 2 1", "ok 4"),
                             ("tick 14", "ok 0")):
-            check(f"{line.split()[0]} beside open requests", operator.order(line), reply)
+            check(f"{line.split()[0]} beside open requests", operator.answer_to(line), reply)
         time.sleep(SEEN)
         check("downloads before the limit", ([one.done() for one in downloads], operator.revisions()[0]),
               ([False, False], "revision 1 one desired 1 available 1 open 2 deadline 5 draining"))
         start = time.monotonic()
-        check("the tick to the limit", operator.order("tick 15"), "ok 0")
+        check("the tick to the limit", operator.answer_to("tick 15"), "ok 0")
         check("a request beside those that are given up", switch.timed(REQUEST).answer, ANSWER)
         check("downloads past the limit", [one.result().answer for one in downloads], [UNAVAILABLE] * 2)
         check_within("downloads past the limit", time.monotonic() - start, SLACK)

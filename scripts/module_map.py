@@ -68,16 +68,16 @@ def wrong_imports(library: pathlib.Path = LIBRARY) -> list[str]:
 
 def table() -> str:
     """The table, with a row for each module."""
-    rows = ["| Package | Module | What it has |", "|---|---|---|"]
+    lines = ["| Package | Module | What it has |", "|---|---|---|"]
     for package in BELOW:
-        rows.append(f"| **`{package}`** | | {sentence_of(LIBRARY / package / '__init__.py')} |")
-        rows += [f"| `{package}` | `{path.stem}` | {sentence_of(path)} |" for path in modules(package)]
-    return "".join(f"{row}\n" for row in rows)
+        lines.append(f"| **`{package}`** | | {sentence_of(LIBRARY / package / '__init__.py')} |")
+        lines += [f"| `{package}` | `{path.stem}` | {sentence_of(path)} |" for path in modules(package)]
+    return "".join(f"{row}\n" for row in lines)
 
 
-def page_with(page: str, rows: str) -> str:
+def page_with(page: str, lines: str) -> str:
     """A page with this table between its marks."""
-    return TABLE.sub(lambda found: found[1] + rows, page)
+    return TABLE.sub(lambda found: found[1] + lines, page)
 
 
 def main() -> int:

@@ -97,7 +97,7 @@ def told(words: Sequence[str], user: str = "nobody") -> tuple[str, int]:
     return done.stdout.strip(), done.returncode
 
 
-def order(line: str, reply: str) -> None:
+def send(line: str, reply: str) -> None:
     """A check of the reply to a line of an operator."""
     check(line, told(["bg-operator", str(CONTROL), *line.split()], OPERATOR), (reply, 0))
 
@@ -177,22 +177,22 @@ def lines_of(*files: pathlib.Path) -> int:
 
 def open_and_roll_back() -> None:
     """The session of README.md up to the verdict that moves live traffic back, and the second attempt."""
-    order("open media-v1 9101 9102", "ok 0")
-    order("available 1 2", "ok 0")
+    send("open media-v1 9101 9102", "ok 0")
+    send("available 1 2", "ok 0")
     check("clients of v1", asked(ACTIVE), (200, "hello from v1"))
-    order("deploy media-v2 9201 9202", "ok 0")
-    order("available 2 2", "ok 1")
+    send("deploy media-v2 9201 9202", "ok 0")
+    send("available 2 2", "ok 1")
     check("testers of v2", asked(PREVIEW), (200, "hello from v2"))
     check("clients during the test", asked(ACTIVE), (200, "hello from v1"))
-    order("verdict pre successful", "ok 0")
-    order("promote", "ok 2")
+    send("verdict pre successful", "ok 0")
+    send("promote", "ok 2")
     check("clients after the promotion", asked(ACTIVE), (200, "hello from v2"))
-    order("verdict post failed", "ok 0")
+    send("verdict post failed", "ok 0")
     check("clients after the rollback", asked(ACTIVE), (200, "hello from v1"))
-    order("retry", "ok 1")
-    order("verdict pre successful", "ok 0")
-    order("promote", "ok 2")
-    order("verdict post successful", "ok 1")
+    send("retry", "ok 1")
+    send("verdict pre successful", "ok 0")
+    send("promote", "ok 2")
+    send("verdict post successful", "ok 1")
 
 
 def rotate() -> None:

@@ -40,9 +40,9 @@ class FakePrometheus:
             """Answers a request."""
 
             def do_POST(self) -> None:
-                form = urllib.parse.parse_qs(self.rfile.read(int(self.headers["Content-Length"])).decode())
-                fake.asked.append((self.path, form["query"][0]))
-                self.give(*answer(form["query"][0]))
+                fields = urllib.parse.parse_qs(self.rfile.read(int(self.headers["Content-Length"])).decode())
+                fake.asked.append((self.path, fields["query"][0]))
+                self.give(*answer(fields["query"][0]))
 
             def do_GET(self) -> None:
                 self.give(*answer(self.path))

@@ -172,6 +172,6 @@ class FakeSwitch:
     def kill(self) -> None:
         self.control.close()
 
-    def orders(self) -> list[str]:
+    def sent_lines(self) -> list[str]:
         """The lines that it was sent, but for reports, ticks and the ports that are down."""
         return [line for line in list(self.lines) if line.split(" ")[0] not in ("report", "tick", "down")]

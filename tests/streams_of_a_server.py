@@ -36,7 +36,7 @@ async def read_nothing(looked_at: server.Server, port: int) -> socket.socket:
     return client
 
 
-async def order(looked_at: server.Server, port: int) -> str:
+async def send_command(looked_at: server.Server, port: int) -> str:
     """A page is opened after an order: it finds it in its state, or in the update that follows."""
     address = f"http://localhost:{port}"
     async with ClientSession() as session:
@@ -81,7 +81,7 @@ async def main(port: int) -> None:
         runner = web.AppRunner(looked_at.application(), access_log=None)
         await runner.setup()
     await web.TCPSite(runner, "127.0.0.1", port).start()
-    print(await asyncio.wait_for(order(looked_at, port), GREATEST_WAIT))
+    print(await asyncio.wait_for(send_command(looked_at, port), GREATEST_WAIT))
     with await asyncio.wait_for(read_nothing(looked_at, port), GREATEST_WAIT):
         await asyncio.sleep(0.5)
         assert runner.server is not None

@@ -4,11 +4,11 @@ import random
 from collections.abc import Iterator, Sequence
 from typing import NamedTuple
 
-from bg_switch_tools.switch.access_log import Entry, written
+from bg_switch_tools.switch.access_log import LogEntry, written
 
 SEED = 46
 BEGIN = 1_790_000_000.0  # seconds from 1970
-ANSWERED = Entry(BEGIN, "active", 1, 1, 9101, "GET", "/", 200, "answered", None, 78, 5, 4.0, 3.0)
+ANSWERED = LogEntry(BEGIN, "active", 1, 1, 9101, "GET", "/", 200, "answered", None, 78, 5, 4.0, 3.0)
 # What else can become of a connection, by the reason.
 REFUSALS = (("no_endpoint", 503, None), ("no_preview", 503, None), ("history_full", 503, None), ("connect_failed", 502, 1),
             ("response_timeout", 502, 1), ("response_malformed", 502, 1), ("response_too_large", 502, 1), ("given_up", 503, 1),
@@ -23,7 +23,7 @@ class Part(NamedTuple):
     milliseconds: float = 5.0
 
 
-def entries(parts: Sequence[Part], begin: float = BEGIN, seconds: float = 60.0, seed: int = SEED) -> Iterator[Entry]:
+def entries(parts: Sequence[Part], begin: float = BEGIN, seconds: float = 60.0, seed: int = SEED) -> Iterator[LogEntry]:
     """The entries of these parts, which follow each other; all of them together take so many seconds."""
     chance, count, number = random.Random(seed), sum(part.requests for part in parts), 0
     for part in parts:
@@ -36,7 +36,7 @@ def entries(parts: Sequence[Part], begin: float = BEGIN, seconds: float = 60.0, 
                                     duration_ms=duration, upstream_ms=round(duration * 0.9, 3))
 
 
-def refused(reason: str, number: int = 1) -> Entry:
+def refused(reason: str, number: int = 1) -> LogEntry:
     """An entry of a request that the switch refused for this reason."""
     status, revision = next((status, revision) for name, status, revision in REFUSALS if name == reason)
     return ANSWERED._replace(status=status, end="refused", reason=reason, revision=revision, request=number if revision else None,
@@ -50,7 +50,7 @@ class GrowingLog:
         self.path = path
         path.touch()
 
-    def add(self, told: Sequence[Entry] | Iterator[Entry]) -> None:
+    def add(self, told: Sequence[LogEntry] | Iterator[LogEntry]) -> None:
         self.add_bytes(b"".join(map(written, told)))
 
     def add_bytes(self, told: bytes) -> None:

@@ -8,7 +8,7 @@ from collections.abc import Callable
 from unittest import mock
 
 from bg_switch_tools.switch import access_log
-from bg_switch_tools.switch.access_log import Entry, Follower, Lost, NoEntry, read_line, time_text, written
+from bg_switch_tools.switch.access_log import Follower, LogEntry, Lost, NoLogEntry, read_line, time_text, written
 from tests.synthetic_log import ANSWERED, BEGIN, REFUSALS, GrowingLog, Part, entries, refused
 
 LINE = (b'{"time":"2026-11-25T18:03:12.042Z","service":"active","revision":2,"request":17,"port":9201,"method":"GET",'
@@ -21,19 +21,19 @@ LINES_A_SECOND = 20_000
 
 class Lines(unittest.TestCase):
     def test_every_value(self) -> None:
-        wanted = Entry(1795629792.042, "active", 2, 17, 9201, "GET", "/a?<script>", 200, "answered", None, 78, 5, 4.25, 3)
-        self.assertEqual(read_line(LINE), wanted)
+        expected = LogEntry(1795629792.042, "active", 2, 17, 9201, "GET", "/a?<script>", 200, "answered", None, 78, 5, 4.25, 3)
+        self.assertEqual(read_line(LINE), expected)
         self.assertEqual(read_line(b'{"time": "2026-11-25T19:03:12+01:00", "lost": 12}'), Lost(1795629792.0, 12))
         self.assertEqual(read_line(b'{"time": null, "lost": 12}'), Lost(None, 12))
 
     def test_members_that_a_line_need_not_have(self) -> None:
-        wanted = read_line(LINE)
-        assert isinstance(wanted, Entry)
-        self.assertEqual((wanted.slot_port, wanted.tries), (None, None))
-        self.assertEqual(read_line(LINE[:-1] + b',"slot_port":9202,"tries":3}'), wanted._replace(slot_port=9202, tries=3))
-        self.assertEqual(read_line(LINE[:-1] + b',"slot_port":null,"tries":1}'), wanted._replace(tries=1))
+        expected = read_line(LINE)
+        assert isinstance(expected, LogEntry)
+        self.assertEqual((expected.slot_port, expected.tries), (None, None))
+        self.assertEqual(read_line(LINE[:-1] + b',"slot_port":9202,"tries":3}'), expected._replace(slot_port=9202, tries=3))
+        self.assertEqual(read_line(LINE[:-1] + b',"slot_port":null,"tries":1}'), expected._replace(tries=1))
         for wrong in (b'"slot_port":"9202"', b'"slot_port":-1', b'"tries":1.5', b'"tries":true', b'"tries":1e400', b'"slot_port":[]'):
-            with self.subTest(member=wrong), self.assertRaises(NoEntry):
+            with self.subTest(member=wrong), self.assertRaises(NoLogEntry):
                 read_line(LINE[:-1] + b"," + wrong + b"}")
 
     def test_a_refusal_without_an_endpoint(self) -> None:
@@ -49,7 +49,7 @@ class Lines(unittest.TestCase):
     def test_what_is_written_is_read(self) -> None:
         told = [ANSWERED, *(refused(reason) for reason, *_ in REFUSALS), ANSWERED._replace(target='"\\\n\u2028<'),
                 ANSWERED._replace(status=None, end="closed", request_bytes=None, response_bytes=None, upstream_ms=None),
-                Entry(BEGIN, "active", None, None, None, None, None, None, "closed", None, None, None, 0, None)]
+                LogEntry(BEGIN, "active", None, None, None, None, None, None, "closed", None, None, None, 0, None)]
         self.assertEqual([read_line(written(entry)) for entry in told], told)
         self.assertEqual(time_text(1795629792.042), "2026-11-25T18:03:12.042Z")
 
@@ -63,7 +63,7 @@ class Lines(unittest.TestCase):
             wrong = {"x": 1} if value is None else [value]
             without = {key: each for key, each in whole.items() if key != name}
             for told in ({**whole, name: wrong}, {**whole, name: True}, without):
-                with self.subTest(member=name, told=told), self.assertRaises(NoEntry):
+                with self.subTest(member=name, told=told), self.assertRaises(NoLogEntry):
                     read_line(json.dumps(told).encode())
         for told in (b"", b"{}", b"[]", LINE[:-1], LINE.replace(b"active", b"both"), LINE.replace(b"answered", b"gone"),
                      LINE.replace(b"4.25", b"NaN"), LINE.replace(b"4.25", b"1e999"), LINE.replace(b"4.25", b"-1"),
@@ -71,7 +71,7 @@ class Lines(unittest.TestCase):
                      LINE.replace(b"4.25", b"1.7e308"), LINE.replace(b'"upstream_ms":3', b'"upstream_ms":1e999'),
                      LINE.replace(b'"response_bytes":5', b'"response_bytes":' + b"5" * 400),
                      b'{"time": "2026-11-25T18:03:12Z", "lost": ' + b"1" * 400 + b"}", b"\xff", b"[" * 100000):
-            with self.subTest(line=told[:80]), self.assertRaises(NoEntry):
+            with self.subTest(line=told[:80]), self.assertRaises(NoLogEntry):
                 read_line(told)
 
     def test_further_members_are_passed_over(self) -> None:

@@ -16,7 +16,7 @@ from bg_switch_tools.analysis import log_analysis
 from bg_switch_tools.analysis.cli import main
 from bg_switch_tools.analysis.measurements import SILENCE, Analyser, Limits, measure, quantile, request_of
 from bg_switch_tools.switch import access_log
-from bg_switch_tools.switch.access_log import Entry, written
+from bg_switch_tools.switch.access_log import LogEntry, written
 from bg_switch_tools.switch.arguments import count_of, port_of, share_of
 from bg_switch_tools.switch.durations import duration_of, milliseconds_of, positive_duration_of, value_of
 from tests.fake_switch import FakeSwitch
@@ -28,7 +28,7 @@ STEADY = 0.05  # seconds between two of requests that come without pause
 NOT_FOUND = refused("no_endpoint")
 
 
-def requests(count: int, errors: int = 0, milliseconds: float = 5.0, upstream: float | None = 2.0) -> list[Entry]:
+def requests(count: int, errors: int = 0, milliseconds: float = 5.0, upstream: float | None = 2.0) -> list[LogEntry]:
     """So many requests, of which the first ones are errors."""
     return [ANSWERED._replace(status=500 if number < errors else 200, duration_ms=milliseconds, upstream_ms=upstream)
             for number in range(count)]
@@ -41,7 +41,7 @@ class Measured(unittest.TestCase):
         self.assertEqual(quantile([7.0], 0.99), 7.0)
 
     def test_limits(self) -> None:
-        for told, limits, wanted in (
+        for told, limits, expected in (
                 (requests(100, 1), LIMITS, ()), (requests(100, 2), LIMITS, ("errors are above 1%",)),
                 (requests(100, 0, 300), Limits(None, 300, 1, 0), ()),
                 (requests(100, 0, 301), Limits(None, 300, 1, 0), ("p99 is above 300 ms",)),
@@ -50,7 +50,7 @@ class Measured(unittest.TestCase):
                 (requests(100, 0, 9, 301), Limits(None, 300, 1, 0, True), ("p99 is above 300 ms",)),
                 (requests(100, 100, 9, None), Limits(None, 300, 1, 0, True), ("no endpoint has answered",)),
                 (requests(100, 0, 9, None), Limits(0.01, None, 1, 0, True), ())):
-            self.assertEqual(measure([request_of(entry, limits) for entry in told], limits).problems, wanted)
+            self.assertEqual(measure([request_of(entry, limits) for entry in told], limits).problems, expected)
 
     def test_requests_without_an_answer_are_errors(self) -> None:
         unanswered = [ANSWERED._replace(status=None, end="write_failed")] * 2
@@ -83,7 +83,7 @@ class Measured(unittest.TestCase):
 
     def test_few_requests_at_the_end(self) -> None:
         """They are judged as if all that are missing had been good."""
-        for limits, told, wanted in (
+        for limits, told, expected in (
                 (LIMITS, requests(3), ()), (LIMITS, requests(3, 1), ("errors are above 1%",)),
                 (LIMITS._replace(errors=0.02), requests(3, 1), ()),
                 (LIMITS._replace(errors=0.02), requests(3, 3), ("errors are above 2%",)),
@@ -98,7 +98,7 @@ class Measured(unittest.TestCase):
             analyser.take(told)
             self.assertIsNone(analyser.end_window())
             rest = analyser.end_rest()
-            self.assertEqual((rest.problems if rest else (), analyser.has_failed), (wanted, bool(wanted)), (limits, told))
+            self.assertEqual((rest.problems if rest else (), analyser.has_failed), (expected, bool(expected)), (limits, told))
 
     def test_silence_after_requests_fails(self) -> None:
         analyser = Analyser(LIMITS)
@@ -180,7 +180,7 @@ class Runs(unittest.TestCase):
                 status = int(str(ended.code))
         return Ended(printed.getvalue(), status)
 
-    def write_steadily(self, told: Callable[[float], Sequence[Entry]]) -> None:
+    def write_steadily(self, told: Callable[[float], Sequence[LogEntry]]) -> None:
         """Requests come without pause while the analysis runs: those that are told for the seconds since the begin."""
         self.write_bytes_steadily(lambda seconds: b"".join(map(written, told(seconds))))
 

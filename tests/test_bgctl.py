@@ -17,7 +17,7 @@ from bg_switch_tools import VERSION
 from bg_switch_tools.bgctl import exit_statuses
 from bg_switch_tools.bgctl.argument_parser import long_options, parser, place_of_command
 from bg_switch_tools.bgctl.cli import main
-from bg_switch_tools.bgctl.commands import COMMANDS, FIRST_ONES, NAMES
+from bg_switch_tools.bgctl.commands import BGCTL_COMMANDS, FIRST_ONES, NAMES
 from bg_switch_tools.dashboard import cli as dashboard_cli
 from bg_switch_tools.operator import cli as operator_cli
 from tests.fake_port import free_port
@@ -54,7 +54,7 @@ class Words(unittest.TestCase):
             self.assertIn(text, told.printed)
 
     def test_each_command_has_help_with_an_example_of_it(self) -> None:
-        for command in COMMANDS:
+        for command in BGCTL_COMMANDS:
             with self.subTest(command.name):
                 told = run(command.name, "--help")
                 self.assertEqual(told.status, 0)
@@ -93,11 +93,11 @@ class Words(unittest.TestCase):
             self.assertIn(option, told)
 
     def test_each_command_is_carried_out_by_a_method(self) -> None:
-        from bg_switch_tools.bgctl.cli import Run
-        self.assertEqual([name for name in NAMES if not callable(getattr(Run, name, None))], [])
+        from bg_switch_tools.bgctl.cli import CommandRun
+        self.assertEqual([name for name in NAMES if not callable(getattr(CommandRun, name, None))], [])
 
 
-class Ordered(unittest.TestCase):
+class WithBook(unittest.TestCase):
     """A switch whose book is open with web-v1."""
 
     def setUp(self) -> None:
@@ -113,7 +113,7 @@ class Ordered(unittest.TestCase):
         return run(*words, lines=lines, BG_CONTROL=str(self.switch.port))
 
 
-class Ports(Ordered):
+class Ports(WithBook):
     def test_where_the_port_comes_from(self) -> None:
         port, other = str(self.switch.port), str(free_port())
         self.assertEqual(run("status", "--control", port, BG_CONTROL=other).status, 0)
@@ -134,14 +134,14 @@ class Ports(Ordered):
         for told in (run(*words, "--plan", path), run(*words, BG_PLAN=path)):
             self.assertEqual((told.status, told.told),
                              (2, "bgctl: /none/plan.json is no plan: it can't be read: No such file or directory\n"))
-        self.assertEqual(self.switch.orders(), [])
+        self.assertEqual(self.switch.sent_lines(), [])
 
     def test_nobody_answers(self) -> None:
         told = run("promote", "--control", str(free_port()), "--request-timeout", "0.2")
         self.assertEqual((told.status, told.printed, "can't be reached" in told.told), (2, "", True))
 
 
-class Orders(Ordered):
+class Lines(WithBook):
     def test_they_are_the_lines_of_operators(self) -> None:
         """The same output and the same statuses as those of bin/operator."""
         for words in (["status"], ["status", "--json"], ["promote"], ["abort"], ["retry"], ["wait", "settled"],
@@ -158,7 +158,7 @@ class Orders(Ordered):
         self.assertEqual(self.bgctl("promote", "--json").status, 0)
         self.by_hand("deploy web-v1 1 2")
         self.assertEqual(self.bgctl("promote", "--full").status, 0)
-        self.assertEqual(self.switch.orders(), ["promote", "promote", "promote full"])
+        self.assertEqual(self.switch.sent_lines(), ["promote", "promote", "promote full"])
 
     def test_abort_and_retry(self) -> None:
         self.by_hand("deploy web-v2 3 4", "available 2 2")
@@ -175,15 +175,15 @@ class Orders(Ordered):
         self.assertEqual(self.bgctl("line", "--yes", "tick", "999999").status, 0)
 
     def test_a_shutdown_asks_at_a_terminal_alone(self) -> None:
-        self.assertEqual((self.bgctl("shutdown").status, self.switch.orders()), (2, []))
-        self.assertEqual((self.bgctl("shutdown", "--yes").status, self.switch.orders()), (0, ["quit"]))
+        self.assertEqual((self.bgctl("shutdown").status, self.switch.sent_lines()), (2, []))
+        self.assertEqual((self.bgctl("shutdown", "--yes").status, self.switch.sent_lines()), (0, ["quit"]))
 
     def test_interrupted(self) -> None:
         with mock.patch("bg_switch_tools.operator.cli.ask", side_effect=KeyboardInterrupt):
             self.assertEqual(self.bgctl("status").status, 130)
 
 
-class OtherTools(Ordered):
+class OtherTools(WithBook):
     """The commands that are tools of their own."""
 
     def handed_on(self, function: str, *words: str, **variables: str) -> list[object]:
@@ -219,7 +219,7 @@ class OtherTools(Ordered):
     def test_prompt(self) -> None:
         with mock.patch("builtins.input", side_effect=["tick 5", "exit"]):
             told = self.bgctl("prompt")
-        self.assertEqual((told.status, self.switch.orders(), "tick 5" in self.switch.lines), (0, [], True))
+        self.assertEqual((told.status, self.switch.sent_lines(), "tick 5" in self.switch.lines), (0, [], True))
 
     def test_they_are_one_file_as_well(self) -> None:
         with tempfile.TemporaryDirectory() as folder:
@@ -235,7 +235,7 @@ class OtherTools(Ordered):
         self.assertEqual((told.returncode, told.stdout[:7], told.stderr), (0, "steady:", ""))
 
 
-class WithoutAPlan(Ordered):
+class WithoutAPlan(WithBook):
     def test_deploy(self) -> None:
         self.assertEqual(self.bgctl("deploy", "web-v2", "3", "4"), ("ok 0\n", "bgctl: makes revision 2 web-v2\n", 0))
         self.assertEqual(self.bgctl("deploy", "web-v2", "3", "4").status, 0)
@@ -261,16 +261,16 @@ class WithoutAPlan(Ordered):
     def test_undo_while_the_attempt_runs(self) -> None:
         self.by_hand("deploy web-v2 3 4")
         told = self.bgctl("undo")
-        self.assertEqual((told.status, self.switch.orders()), (2, []))
+        self.assertEqual((told.status, self.switch.sent_lines()), (2, []))
         self.assertIn("the ports of web-v1 are not known, since the switch does not report them: --ports PORT.. names them", told.told)
         self.assertEqual(self.bgctl("undo", "--ports", "1", "2").status, 0)
-        self.assertEqual((self.switch.orders(), self.switch.book.newest), (["deploy web-v1 1 2"], 1))
+        self.assertEqual((self.switch.sent_lines(), self.switch.book.newest), (["deploy web-v1 1 2"], 1))
 
     def test_undo_to_a_name_or_a_number(self) -> None:
         self.by_hand("deploy web-v2 3 4", "available 2 2", "promote", "deploy web-v3 5 6", "abort")
         self.assertEqual(self.bgctl("undo", "--to", "1", "--ports", "1", "2").status, 0)
         self.assertEqual(self.bgctl("undo", "--to", "web-v3", "--ports", "5", "6").status, 0)
-        self.assertEqual(self.switch.orders(), ["deploy web-v1 1 2", "deploy web-v3 5 6"])
+        self.assertEqual(self.switch.sent_lines(), ["deploy web-v1 1 2", "deploy web-v3 5 6"])
         self.assertEqual(self.bgctl("undo", "--to", "web-v33").told, "bgctl: no revision web-v33 is known; did you mean web-v3?\n")
         self.assertEqual(self.bgctl("undo", "--to", "9").status, 2)
 
@@ -280,7 +280,7 @@ class WithoutAPlan(Ordered):
         self.by_hand("deploy web-v2 3 4", "abort", "deploy web-v3 5 6", "available 3 2", "promote")
         self.assertEqual(self.bgctl("undo").told, "bgctl: no history tells which revision was stable before web-v3: --to NAME names one "
                          "of web-v1, web-v2\n")
-        self.assertEqual(self.switch.orders(), [])
+        self.assertEqual(self.switch.sent_lines(), [])
 
     def test_what_needs_a_plan(self) -> None:
         for command in ("history", "pause", "resume", "check", "controller"):

@@ -12,7 +12,7 @@ from bg_switch_tools.bgctl.history_table import duration
 from bg_switch_tools.controller import history_file, history_recorder
 from bg_switch_tools.controller.attempts import DEPLOYED, ENDED, LIVE, LOST, Attempts, Event, read_event
 from bg_switch_tools.controller.history_file import HistoryFile
-from bg_switch_tools.controller.history_recorder import Recorder
+from bg_switch_tools.controller.history_recorder import HistoryRecorder
 from bg_switch_tools.controller.log import Log
 from bg_switch_tools.controller.pause import Pause, PauseFile
 from bg_switch_tools.controller.plan import PlannedRevision
@@ -45,10 +45,10 @@ class Histories(unittest.TestCase):
         stack.enter_context(mock.patch.object(history_recorder, "local_time", lambda: at(self.seconds)))
         self.out = io.StringIO()
 
-    def recorder(self, deployed: PlannedRevision | None = None) -> Recorder:
-        return Recorder(self.plan, Log(self.out, False), deployed)
+    def recorder(self, deployed: PlannedRevision | None = None) -> HistoryRecorder:
+        return HistoryRecorder(self.plan, Log(self.out, False), deployed)
 
-    def rows(self) -> list[tuple[object, ...]]:
+    def lines(self) -> list[tuple[object, ...]]:
         return [(one.name, one.began, one.by, one.how, one.live_seconds(at(self.seconds)), bool(one.live_since))
                 for one in self.file.read()[0].all]
 
@@ -129,7 +129,7 @@ class Reports(Histories):
         recorder = self.recorder()
         for _ in range(3):
             recorder.take_in(report("steady", 1, 1, 1), KNOWN)
-        self.assertEqual(self.rows(), [("web-v1", "opened", "plan", "stable", 0, True)])
+        self.assertEqual(self.lines(), [("web-v1", "opened", "plan", "stable", 0, True)])
         self.assertEqual(len(pathlib.Path(self.file.path).read_bytes().splitlines()), 3)
 
     def test_an_attempt_to_its_end(self) -> None:
@@ -139,7 +139,7 @@ class Reports(Histories):
         for self.seconds, phase, active, stable in ((10, "scaling", 1, 1), (20, "paused", 1, 1), (30, "postAnalysis", 2, 1),
                                                     (40, "steady", 2, 2)):
             recorder.take_in(report(phase, active, stable, 2), KNOWN)
-        self.assertEqual(self.rows(), [("web-v1", "opened", "plan", "stable", 30, False), ("web-v2", "deployed", "plan", "stable", 10, True)])
+        self.assertEqual(self.lines(), [("web-v1", "opened", "plan", "stable", 30, False), ("web-v2", "deployed", "plan", "stable", 10, True)])
         self.assertEqual(self.file.read()[0].all[1].ports, (3, 4))
 
     def test_how_it_ends_otherwise(self) -> None:
@@ -157,7 +157,7 @@ class Reports(Histories):
         recorder = self.recorder()
         for _ in range(3):
             recorder.take_in(report("paused", 1, 1, 2), KNOWN)
-        self.assertEqual([row[:4] for row in self.rows()], [("web-v1", "deployed", "", ""), ("web-v2", "deployed", "line", "")])
+        self.assertEqual([line[:4] for line in self.lines()], [("web-v1", "deployed", "", ""), ("web-v2", "deployed", "line", "")])
 
     def test_a_lost_book(self) -> None:
         recorder = self.recorder()
@@ -169,13 +169,13 @@ class Reports(Histories):
         recorder.lose_book()
         self.seconds = 80
         recorder.take_in(report("steady", 1, 1, 1), KNOWN)
-        self.assertEqual([(row[0], row[3], row[4]) for row in self.rows()], [("web-v1", "", 50), ("web-v2", "lost", 0), ("web-v1", "stable", 0)])
+        self.assertEqual([(line[0], line[3], line[4]) for line in self.lines()], [("web-v1", "", 50), ("web-v2", "lost", 0), ("web-v1", "stable", 0)])
 
     def test_a_controller_that_ended_before_it_noted_its_deploy(self) -> None:
         self.recorder().take_in(report("steady", 1, 1, 1), KNOWN)
         self.recorder(V2).take_in(report("scaling", 1, 1, 2), KNOWN)
         self.recorder(V2).take_in(report("scaling", 1, 1, 2), KNOWN)
-        self.assertEqual([row[:3] for row in self.rows()], [("web-v1", "opened", "plan"), ("web-v2", "deployed", "plan")])
+        self.assertEqual([line[:3] for line in self.lines()], [("web-v1", "opened", "plan"), ("web-v2", "deployed", "plan")])
 
 
 class Pauses(Histories):

@@ -17,7 +17,7 @@ from bg_switch_tools.controller.plan_edit import deploy_by_plan, with_last
 from bg_switch_tools.controller.plan_edit_lock import EditGoesOn, EditLock
 from bg_switch_tools.controller.plan_file import read_whole_plan
 from tests.test_bgctl import Ended, run
-from tests.test_controller import NAMES, Turns
+from tests.test_controller import NAMES, ControllerCase
 from tests.tool_runs import comes
 
 
@@ -115,7 +115,7 @@ class Edits(unittest.TestCase):
             self.assertIn(str(self.path), told.told)
 
 
-class ByAPlan(Turns):
+class ByAPlan(ControllerCase):
     """Runs of bgctl beside a controller."""
 
     def bgctl(self, *words: str, who: str = "alice") -> Ended:
@@ -166,7 +166,7 @@ class ByAPlan(Turns):
     def test_an_abort_ends_a_wait(self) -> None:
         self.v2_is_paused()
         self.assertEqual(self.bgctl("abort").status, 0)
-        self.some_turns()
+        self.some_rounds()
         told = self.bgctl("deploy", "web-v2", *self.ports("web-v2"), "--wait", "--timeout", "20")
         self.assertEqual((told.status, "retry begins it again" in told.told), (1, True))
         self.assertEqual(self.history()[-1], ("web-v2", "deployed", "alice", "aborted", False))
@@ -180,7 +180,7 @@ class ByAPlan(Turns):
         self.await_book("steady", 1)
         self.assertEqual(self.bgctl("deploy", "web-v2", *self.ports("web-v2")).status, 0)
         self.await_book("paused", 2)
-        self.assertEqual([row[1:4] for row in self.history()[2:]], [("deployed", "line", "stable"), ("deployed", "line", None)])
+        self.assertEqual([line[1:4] for line in self.history()[2:]], [("deployed", "line", "stable"), ("deployed", "line", None)])
 
     def test_a_crash_of_the_switch(self) -> None:
         self.v2_is_paused()
@@ -202,7 +202,7 @@ class ByAPlan(Turns):
         self.v2_is_paused()
         self.write(*NAMES)
         self.await_book("paused", 3)
-        self.assertEqual([row[2:4] for row in self.history()[1:]], [("alice", "replaced"), ("plan", None)])
+        self.assertEqual([line[2:4] for line in self.history()[1:]], [("alice", "replaced"), ("plan", None)])
 
     def test_a_pause_holds_a_deploy_back(self) -> None:
         self.v2_is_paused()
@@ -211,7 +211,7 @@ class ByAPlan(Turns):
         told = self.bgctl("deploy", "web-v3", *self.ports("web-v3"))
         self.assertEqual((told.status, "bgctl: the controller is paused by alice" in told.told), (0, True))
         self.await_log("paused by alice since", "its last revision web-v3")
-        self.some_turns()
+        self.some_rounds()
         self.assertEqual((self.switch.book.newest, self.bgctl("status").told[:36]), (2, "bgctl: the controller is paused by a"))
         self.assertEqual(self.bgctl("resume").printed, "the controller goes on\n")
         self.await_book("paused", 3)
@@ -224,10 +224,10 @@ class ByAPlan(Turns):
         self.await_log("paused by alice since")
         self.restart_switch()
         self.await_book("steady", 1)
-        self.assertNotIn("deploy", " ".join(self.switch.orders()))
+        self.assertNotIn("deploy", " ".join(self.switch.sent_lines()))
 
 
-class Verdicts(Turns):
+class Verdicts(ControllerCase):
     steps = ("pre",)
 
     def test_a_pause_holds_a_verdict_back(self) -> None:
@@ -240,7 +240,7 @@ class Verdicts(Turns):
         self.await_book("steady", 1)
         self.assertEqual(run("line", "deploy", *self.words("web-v2").split(), BG_PLAN=self.plan.path).status, 0)
         self.assertTrue(comes(lambda: os.path.exists(done)), self.log())
-        self.some_turns()
+        self.some_rounds()
         self.assertEqual((self.switch.book.phase, [line for line in self.switch.lines if "verdict" in line]), ("preAnalysis", []))
         PauseFile(self.plan.path).resume()
         self.await_book("steady", 2)

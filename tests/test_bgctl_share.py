@@ -6,7 +6,7 @@ import subprocess
 import tempfile
 import unittest
 
-from bg_switch_tools.bgctl.commands import COMMANDS, NAMES
+from bg_switch_tools.bgctl.commands import BGCTL_COMMANDS, NAMES
 from tests.tool_runs import TOP
 
 PYTHON = "/usr/bin/python3"
@@ -48,7 +48,7 @@ class Share(unittest.TestCase):
     def test_each_command_has_a_page_with_its_example(self) -> None:
         pages = {path.stem: path.read_text(encoding="utf-8") for path in (self.folder / "man" / "man1").iterdir()}
         self.assertEqual(set(pages), {"bgctl", *(f"bgctl-{name}" for name in NAMES)})
-        for command in COMMANDS:
+        for command in BGCTL_COMMANDS:
             with self.subTest(command.name):
                 text = pages[f"bgctl-{command.name}"]
                 self.assertIn(f".SH NAME\nbgctl-{command.name} \\- {command.meaning}\n", text)
@@ -79,7 +79,7 @@ class Share(unittest.TestCase):
         path = self.folder / "zsh" / "vendor-completions" / "_bgctl"
         output(["zsh", "-n", str(path)])
         text = path.read_text(encoding="utf-8")
-        for command in COMMANDS:
+        for command in BGCTL_COMMANDS:
             self.assertIn(f'"{command.name}:', text)
         self.assertIn('"--wait[', text)
 

@@ -71,7 +71,7 @@ class SwitchCrashes(Controlled):
         time.sleep(0.5)
         self.switch.start()
         self.assertTrue(comes(lambda: self.switch.book.phase == "paused"), run.log)
-        self.assertEqual(self.switch.orders()[:3], [f"open {self.words('web-v2')}", "available 1 2", f"deploy {self.words('web-v3')}"])
+        self.assertEqual(self.switch.sent_lines()[:3], [f"open {self.words('web-v2')}", "available 1 2", f"deploy {self.words('web-v3')}"])
         self.assertTrue(run.says("no book is open: it is opened with web-v2, which was stable"))
         self.assertTrue(run.says("the attempt of web-v3, which ran, is begun again"))
 
@@ -84,7 +84,7 @@ class ControllerCrashes(Controlled):
         self.switch.lines.clear()
         self.run_controller()
         self.assertTrue(comes(lambda: sum(line.startswith("tick ") for line in list(self.switch.lines)) >= 2))
-        self.assertEqual(self.switch.orders(), [])
+        self.assertEqual(self.switch.sent_lines(), [])
 
 
 class Silences(Controlled):
@@ -99,7 +99,7 @@ class Silences(Controlled):
         self.assertTrue(run.says("no answer for 1"), run.log)
         self.assertTrue(comes(lambda: run.count("no answer") >= 4), run.log)
         self.switch.start()
-        self.assertTrue(comes(lambda: self.switch.orders()))
+        self.assertTrue(comes(lambda: self.switch.sent_lines()))
         self.assertTrue(run.says("answers again, after"))
 
 
@@ -109,7 +109,7 @@ class Probing(Controlled):
         run = self.run_controller()
         self.assertTrue(comes(lambda: "available 1 2" in self.switch.lines))
         self.endpoints["web-v1"][1].trickle()
-        self.assertTrue(comes(lambda: "available 1 1" in self.switch.lines, 30), self.switch.orders())
+        self.assertTrue(comes(lambda: "available 1 1" in self.switch.lines, 30), self.switch.sent_lines())
         status, seconds = run.signal(signal.SIGTERM)
         self.assertEqual((status, seconds < 2), (0, True))
 
@@ -174,7 +174,7 @@ class Plans(Controlled):
         self.assertTrue(run.says("the plan is wrong, so the one before stands: revisions[1].name: "))
         self.assertTrue(run.says("the plan is wrong, so the one before stands: revisions[1].ports[0]: 70000 is above 65535"))
         time.sleep(1.2)
-        self.assertEqual([line for line in self.switch.orders() if line.startswith(("deploy", "abort"))], [])
+        self.assertEqual([line for line in self.switch.sent_lines() if line.startswith(("deploy", "abort"))], [])
 
 
 class Pipelines(Controlled):
@@ -239,8 +239,8 @@ class Logs(Controlled):
         run = self.bring_v2_out()
         told = run.end().printed.split("\n")
         self.assertEqual([line for line in told if " tick " in line], [])
-        form = re.compile(r"\d{4}-\d\d-\d\dT\d\d:\d\d:\d\d[+-]\d\d:\d\d (moment \d+: )?\S")
-        self.assertEqual([line for line in told if not form.match(line)], [])
+        pattern = re.compile(r"\d{4}-\d\d-\d\dT\d\d:\d\d:\d\d[+-]\d\d:\d\d (moment \d+: )?\S")
+        self.assertEqual([line for line in told if not pattern.match(line)], [])
         for change in ("phase: paused -> steady", "active: revision 1 web-v1 -> revision 2 web-v2",
                        "revision 3 web-v3: deployed, desired 2", "revision 1 web-v1: scale-down at moment none -> "):
             self.assertTrue(any(change in line for line in told), (change, told))

@@ -43,10 +43,10 @@ def told(texts: str, *reports: Report) -> str:
 
 
 class Outlooks(unittest.TestCase):
-    def check(self, texts: str, reports: Sequence[Report], wanted: str) -> None:
+    def check(self, texts: str, reports: Sequence[Report], expected: str) -> None:
         with self.subTest(conditions=texts, phase=reports[-1].phase):
             got = told(texts, *reports)
-            self.assertEqual(got.split(": ")[-1] if got not in (HOLDS, MAY_COME) else got, wanted)
+            self.assertEqual(got.split(": ")[-1] if got not in (HOLDS, MAY_COME) else got, expected)
 
     def test_phases(self) -> None:
         self.check("phase=paused", [SCALING], MAY_COME)
@@ -117,12 +117,12 @@ class Outlooks(unittest.TestCase):
 
 class Wrong(unittest.TestCase):
     def test_what_is_wanted_is_named(self) -> None:
-        for text, wanted in (("phase=pause", "the nearest is paused"), ("phase", "a condition is wanted"),
+        for text, expected in (("phase=pause", "the nearest is paused"), ("phase", "a condition is wanted"),
                              ("live=web-v2", "a condition is wanted"), ("active=", "the name of a revision is wanted"),
                              ("active=Web", "the name of a revision is wanted"), ("open(web-v1)=x", "a number of open requests"),
                              ("open(web-v1)", "a condition is wanted"), ("open()=1", "the name of a revision"),
                              ("settled=yes", "a condition is wanted"), ("", "a condition is wanted")):
-            with self.subTest(text=text), self.assertRaisesRegex(WrongCondition, wanted):
+            with self.subTest(text=text), self.assertRaisesRegex(WrongCondition, expected):
                 read_condition(text)
 
 

@@ -90,7 +90,7 @@ class Lines(unittest.TestCase):
     def test_each_order_has_a_deadline_of_its_own(self) -> None:
         with FakePort(usual) as port, Connection(port.port, 0.3) as connection:
             for _ in range(3):
-                self.assertEqual(connection.order("tick 1"), "ok 0")
+                self.assertEqual(connection.answer_to("tick 1"), "ok 0")
                 time.sleep(0.2)
 
     def test_orders_of_this_user_are_not_taken(self) -> None:
@@ -104,7 +104,7 @@ class Lines(unittest.TestCase):
     def test_the_switch_ends_the_connection(self) -> None:
         with FakePort(lambda line: ENDS) as port, Connection(port.port, 5) as connection:
             with self.assertRaisesRegex(Unreachable, "ended the connection"):
-                connection.order("tick 1")
+                connection.answer_to("tick 1")
 
 
 if __name__ == "__main__":

@@ -18,8 +18,8 @@ def files() -> list[str]:
 
 def is_there(path: str, known: list[str]) -> bool:
     """Whether a file or a folder has this name or this end of a name; `*` stands for any part of it."""
-    form = re.escape(path.rstrip("/")).replace(r"\*", "[^/]*")
-    return any(re.search(rf"(?:^|/){form}(?:/|$)", file) for file in known)
+    pattern = re.escape(path.rstrip("/")).replace(r"\*", "[^/]*")
+    return any(re.search(rf"(?:^|/){pattern}(?:/|$)", file) for file in known)
 
 
 class Contributing(unittest.TestCase):

@@ -22,7 +22,7 @@ from tests.tool_runs import Endpoint, comes, plan_of
 NAMES = ("web-v1", "web-v2", "web-v3")
 
 
-class Turns(unittest.TestCase):
+class ControllerCase(unittest.TestCase):
     """A switch, two endpoints for each of three revisions, and a controller that takes twenty turns a second."""
     steps: Sequence[str] = ("pause",)
     knows_down = False
@@ -30,7 +30,7 @@ class Turns(unittest.TestCase):
     def setUp(self) -> None:
         self.stack = contextlib.ExitStack()
         self.addCleanup(self.stack.close)
-        self.stack.enter_context(mock.patch.object(controller, "TURN", 0.05))
+        self.stack.enter_context(mock.patch.object(controller, "ROUND", 0.05))
         self.folder = self.stack.enter_context(tempfile.TemporaryDirectory())
         self.endpoints = {name: [Endpoint(), Endpoint()] for name in NAMES}
         for pair in self.endpoints.values():
@@ -66,9 +66,9 @@ class Turns(unittest.TestCase):
 
     def await_book(self, phase: str, newest: int) -> None:
         self.assertTrue(comes(lambda: (self.switch.book.phase, self.switch.book.newest) == (phase, newest)), self.log())
-        self.some_turns()
+        self.some_rounds()
 
-    def some_turns(self) -> None:
+    def some_rounds(self) -> None:
         """Waits for a few whole turns."""
         ticks = self.switch.lines.count("report")
         self.assertTrue(comes(lambda: self.switch.lines.count("report") >= ticks + 8 or not self.switch.control.thread.is_alive()))
@@ -78,7 +78,7 @@ class Turns(unittest.TestCase):
         self.switch.lines.clear()
         self.switch.start()
         self.assertTrue(comes(lambda: self.switch.book.revisions), self.log())
-        self.some_turns()
+        self.some_rounds()
 
     def by_hand(self, line: str) -> None:
         """An order by hand, between two lines of the controller's."""
@@ -94,38 +94,38 @@ class Turns(unittest.TestCase):
         return runner
 
 
-class Openings(Turns):
+class Openings(ControllerCase):
     def test_the_first_opening(self) -> None:
         self.write(*NAMES[:2])
         self.start()
         self.await_book("paused", 2)
-        self.assertEqual(self.switch.orders(), [f"open {self.words('web-v1')}", "available 1 2", f"deploy {self.words('web-v2')}",
+        self.assertEqual(self.switch.sent_lines(), [f"open {self.words('web-v1')}", "available 1 2", f"deploy {self.words('web-v2')}",
                                                 "available 2 2"])
         self.await_log("no book is open: it is opened with web-v1, the plan's first revision")
 
     def test_an_aborted_attempt_is_not_begun_again(self) -> None:
         self.v3_is_paused()
         self.by_hand("abort")
-        self.some_turns()
+        self.some_rounds()
         self.restart_switch()
-        self.assertEqual(self.switch.orders(), [f"open {self.words('web-v2')}", "available 1 2"])
+        self.assertEqual(self.switch.sent_lines(), [f"open {self.words('web-v2')}", "available 1 2"])
         self.await_log("web-v3 is not deployed again: it was aborted or undone")
 
     def test_an_undone_attempt_is_not_begun_again(self) -> None:
         self.v3_is_paused()
         self.by_hand(f"deploy {self.words('web-v1')}")
-        self.some_turns()
+        self.some_rounds()
         self.restart_switch()
-        self.assertEqual(self.switch.orders(), [f"open {self.words('web-v2')}", "available 1 2"])
+        self.assertEqual(self.switch.sent_lines(), [f"open {self.words('web-v2')}", "available 1 2"])
 
     def test_an_attempt_is_begun_again_once_after_each_start(self) -> None:
         self.v3_is_paused()
         for _ in range(2):
             self.restart_switch()
-            self.assertEqual(self.switch.orders()[2:], [f"deploy {self.words('web-v3')}", "available 2 2"])
+            self.assertEqual(self.switch.sent_lines()[2:], [f"deploy {self.words('web-v3')}", "available 2 2"])
         self.by_hand("abort")
-        self.some_turns()
-        self.assertEqual(len(self.switch.orders()), 4)
+        self.some_rounds()
+        self.assertEqual(len(self.switch.sent_lines()), 4)
 
     def test_another_plan_while_the_switch_is_down(self) -> None:
         self.v3_is_paused()
@@ -135,7 +135,7 @@ class Openings(Turns):
         self.switch.lines.clear()
         self.switch.start()
         self.await_book("steady", 1)
-        self.assertEqual(self.switch.orders(), [f"open {self.words('web-v2')}", "available 1 2"])
+        self.assertEqual(self.switch.sent_lines(), [f"open {self.words('web-v2')}", "available 1 2"])
 
     def test_the_plan_has_other_ports_by_then(self) -> None:
         """A new book takes the ports that the plan has now."""
@@ -147,26 +147,26 @@ class Openings(Turns):
         self.switch.lines.clear()
         self.switch.start()
         self.await_book("paused", 2)
-        self.assertEqual(self.switch.orders(), [f"open {self.words('web-v2')}", "available 1 2", f"deploy {self.words('web-v3')}",
+        self.assertEqual(self.switch.sent_lines(), [f"open {self.words('web-v2')}", "available 1 2", f"deploy {self.words('web-v3')}",
                                                 "available 2 2"])
 
     def test_a_second_switch_is_opened_with_the_stable_revision(self) -> None:
         """An upgrade: the plan names the control port of another switch."""
         self.v3_is_paused()
         self.by_hand("abort")
-        self.some_turns()
+        self.some_rounds()
         second = FakeSwitch("pause")
         self.stack.callback(second.kill)
         self.switch.lines.clear()
         self.write(*NAMES, control=second.port)
         self.assertTrue(comes(lambda: len([line for line in second.lines if line.startswith("tick ")]) >= 2), self.log())
-        self.assertEqual(second.orders(), [f"open {self.words('web-v2')}", "available 1 2"])
-        self.assertEqual((self.switch.orders(), "started again" in self.log()), ([], False))
+        self.assertEqual(second.sent_lines(), [f"open {self.words('web-v2')}", "available 1 2"])
+        self.assertEqual((self.switch.sent_lines(), "started again" in self.log()), ([], False))
 
     def test_the_moment_goes_on(self) -> None:
         runner = self.v3_is_paused()
         self.by_hand("tick 5000")
-        self.some_turns()
+        self.some_rounds()
         self.restart_switch()
         self.assertGreaterEqual(self.switch.book.moment, 5000)
         runner.stop()
@@ -180,14 +180,14 @@ class Openings(Turns):
     def test_a_book_that_somebody_else_opens(self) -> None:
         self.v3_is_paused()
         self.by_hand("tick 5000")
-        self.some_turns()
+        self.some_rounds()
         self.switch.kill()
         self.switch.lines.clear()
         self.switch.start(f"open {self.words('web-v1')}")
         self.await_log("the switch was started again: the book that was open is gone",
                        "a book is open: phase steady, active revision 1 web-v1")
-        self.some_turns()
-        self.assertEqual(self.switch.orders(), ["available 1 2"])
+        self.some_rounds()
+        self.assertEqual(self.switch.sent_lines(), ["available 1 2"])
 
     def test_an_opening_whose_reply_is_lost(self) -> None:
         """The attempt that ran is begun again all the same."""
@@ -208,7 +208,7 @@ class Openings(Turns):
         self.await_book("paused", 2)
         self.assertEqual(lost, [f"open {self.words('web-v2')}"])
         self.await_log("the attempt of web-v3, which ran, is begun again")
-        self.assertEqual(self.switch.orders().count(f"deploy {self.words('web-v3')}"), 1)
+        self.assertEqual(self.switch.sent_lines().count(f"deploy {self.words('web-v3')}"), 1)
 
     def test_a_switch_that_ends_right_after_a_deploy(self) -> None:
         """No report has shown the attempt, and it is begun again."""
@@ -245,7 +245,7 @@ class Openings(Turns):
         self.assertIn("the number of ports of each revision of the plan is 1, and the switch wants one for each of 2 replicas", told.getvalue())
 
 
-class WithoutState(Turns):
+class WithoutState(ControllerCase):
     def test_what_does_not_exist_is_deployed(self) -> None:
         self.by_hand(f"open {self.words('web-v1')}")
         self.write(*NAMES[:2])
@@ -259,11 +259,11 @@ class WithoutState(Turns):
         self.write(*NAMES[:2])
         self.start()
         self.await_log("web-v2 exists and is not the newest revision, so it is taken for undone and not deployed")
-        self.some_turns()
-        self.assertEqual([line for line in self.switch.orders() if line.startswith("deploy")], [])
+        self.some_rounds()
+        self.assertEqual([line for line in self.switch.sent_lines() if line.startswith("deploy")], [])
 
 
-class Deploys(Turns):
+class Deploys(ControllerCase):
     def test_a_refused_deploy_is_tried_again(self) -> None:
         self.write("web-v1")
         with mock.patch.object(controller, "AGAIN", 0.3), mock.patch.object(book, "AGAIN", 0.3):
@@ -279,7 +279,7 @@ class Deploys(Turns):
     def test_an_undo_by_hand_stands_until_the_plan_names_another(self) -> None:
         self.v3_is_paused()
         self.by_hand(f"deploy {self.words('web-v2')}")
-        self.some_turns()
+        self.some_rounds()
         self.assertEqual((self.switch.book.phase, self.switch.book.newest), ("steady", 2))
         self.write("web-v3", "web-v1")
         self.await_log(f"deploy {self.words('web-v1')} => ok")
@@ -294,7 +294,7 @@ class Deploys(Turns):
         self.by_hand("promote")
         self.await_log("revision 2 hotfix is stable and not in the plan, so its ports are not known: a switch that is started again "
                        "would be opened with web-v1")
-        self.some_turns()
+        self.some_rounds()
         self.assertEqual((self.log().count("is not in the plan: "), self.log().count("stable and not in the plan")), (1, 1))
 
     def test_a_switch_that_ends_a_connection_in_the_middle(self) -> None:
@@ -310,7 +310,7 @@ class Deploys(Turns):
         self.await_log("no answer: the switch has ended the connection", "answers again, after")
 
 
-class Progress(Turns):
+class Progress(ControllerCase):
     def test_an_attempt_without_progress_is_told_and_aborted(self) -> None:
         for endpoint in self.endpoints["web-v2"][1:]:
             endpoint.stop()
@@ -318,21 +318,21 @@ class Progress(Turns):
         self.start()
         self.await_book("aborted", 2)
         self.await_log("revision 2 web-v2 has made no progress for 0.4 seconds: 1 of 2 endpoints are up", "abort => ok 0")
-        self.some_turns()
-        self.assertEqual(self.switch.orders().count("abort"), 1)
+        self.some_rounds()
+        self.assertEqual(self.switch.sent_lines().count("abort"), 1)
 
     def test_it_is_told_alone_where_the_plan_does_not_abort(self) -> None:
         self.endpoints["web-v2"][0].stop()
         self.write("web-v1", "web-v2", progress={"seconds": 0.3})
         self.start()
         self.await_log("revision 2 web-v2 has made no progress for 0.3 seconds: 0 of 2 endpoints are up")
-        self.some_turns()
+        self.some_rounds()
         self.assertEqual((self.switch.book.phase, self.log().count("no progress")), ("scaling", 1))
         self.endpoints["web-v2"][0].start()
         self.await_book("paused", 2)
 
 
-class Analyses(Turns):
+class Analyses(ControllerCase):
     steps = ("pre", "pause", "post")
 
     def write_with(self, pre: str, post: str = "exit 0", seconds: float = 60) -> None:
@@ -345,7 +345,7 @@ class Analyses(Turns):
         self.await_book("paused", 2)
         self.by_hand("promote")
         self.await_book("aborted", 2)
-        self.assertEqual([line for line in self.switch.orders() if line.startswith("verdict")],
+        self.assertEqual([line for line in self.switch.sent_lines() if line.startswith("verdict")],
                          ["verdict pre successful", "verdict post failed"])
 
     def test_errors(self) -> None:
@@ -367,7 +367,7 @@ class Analyses(Turns):
         self.switch.book.refusals["verdict"] = "HistoryFull"
         self.start()
         self.await_log("verdict pre error => refused HistoryFull")
-        self.some_turns()
+        self.some_rounds()
         self.assertEqual(self.log().count("analysis pre of web-v2: its exit status is 3"), 1)
 
     def test_a_command_that_is_not_there(self) -> None:
@@ -384,8 +384,8 @@ class Analyses(Turns):
         self.by_hand("abort")
         self.await_log("analysis pre of web-v2 is stopped: its phase has ended")
         self.assertTrue(comes(lambda: not os.path.exists(f"/proc/{process}")))
-        self.some_turns()
-        self.assertEqual([line for line in self.switch.orders() if line.startswith("verdict")], [])
+        self.some_rounds()
+        self.assertEqual([line for line in self.switch.sent_lines() if line.startswith("verdict")], [])
 
     def test_no_verdict_for_another_revision(self) -> None:
         """The analysis of web-v2 ends while web-v3, which took its place, is in the same phase."""
@@ -414,7 +414,7 @@ class Analyses(Turns):
         self.assertTrue(comes(lambda: self.log().count("analysis pre of web-v2 begins") == 2))
 
 
-class Logs(Turns):
+class Logs(ControllerCase):
     def test_lines_of_json(self) -> None:
         self.write(*NAMES[:2])
         runner = self.start(as_json=True)
@@ -424,8 +424,8 @@ class Logs(Turns):
         for line in lines:
             self.assertRegex(line["time"], r"^\d{4}-\d\d-\d\dT\d\d:\d\d:\d\d[+-]\d\d:\d\d$")
             self.assertTrue({"moment", "event", "text"} <= set(line), line)
-        orders = [line for line in lines if line["event"] == "order"]
-        self.assertEqual([(line["line"], line["reply"], line["carried_out"], line["meaning"]) for line in orders][1:],
+        sent_lines = [line for line in lines if line["event"] == "order"]
+        self.assertEqual([(line["line"], line["reply"], line["carried_out"], line["meaning"]) for line in sent_lines][1:],
                          [("available 1 2", "ok 0", True, None), (f"deploy {self.words('web-v2')}", "ok 0", True, None),
                           ("available 2 2", "ok 1", True, None)])
         self.assertEqual(lines[-1]["event"], "end")
@@ -437,7 +437,7 @@ class Logs(Turns):
         self.await_book("steady", 1)
         self.switch.book.refusals["tick"] = "HistoryFull"
         self.await_log("=> refused HistoryFull: the history has no room left; upgrade to a second switch (docs/OPERATING.md)")
-        self.some_turns()
+        self.some_rounds()
         self.assertEqual(self.log().count("HistoryFull"), 1)
 
     def test_each_minute_without_an_answer(self) -> None:
@@ -457,7 +457,7 @@ class Logs(Turns):
             self.assertTrue(comes(lambda: StateFile(self.plan.path).read()[0].moment >= 700))
 
 
-class Ends(Turns):
+class Ends(ControllerCase):
     def test_it_ends_at_once_whatever_it_waits_for(self) -> None:
         self.write("web-v1")
         runner = self.start()

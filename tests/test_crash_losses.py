@@ -8,17 +8,17 @@ import unittest
 from unittest import mock
 
 from bg_switch_tools.controller import analysis_runner, controller
-from bg_switch_tools.controller.controller import TURN as OWN_TURN
+from bg_switch_tools.controller.controller import ROUND as OWN_ROUND
 from bg_switch_tools.controller.state_file import StateFile
 from bg_switch_tools.switch.moments import DAY, believed
 from tests.test_complaints import Controlled
-from tests.test_controller import NAMES, Turns
+from tests.test_controller import NAMES, ControllerCase
 from tests.tool_runs import TOOLS, comes, operator
 
 GREATEST = 1 << 53
 
 
-class Moments(Turns):
+class Moments(ControllerCase):
     def test_what_is_believed(self) -> None:
         self.assertEqual([believed(moment, 1000, 1600.5) for moment in (0, 600, 600 + DAY, 601 + DAY, GREATEST)],
                          [0, 600, 600 + DAY, 600 + DAY, 600 + DAY])
@@ -31,7 +31,7 @@ class Moments(Turns):
         self.start()
         self.await_book("steady", 1)
         self.by_hand(f"tick {GREATEST}")
-        self.some_turns()
+        self.some_rounds()
         self.assertLessEqual(StateFile(self.plan.path).read()[0].moment, DAY + 60)
         self.await_log(f"the moment {GREATEST} of the switch lies more than a day ahead of the clock, and is not kept")
         self.restart_switch()
@@ -70,20 +70,20 @@ class Ticks(Controlled):
         self.assertEqual(operator(self.switch.port, "tick", str(GREATEST), "--yes").printed, "ok 0\n")
 
 
-class Promotes(Turns):
+class Promotes(ControllerCase):
     def test_a_promote_outlives_a_crash_within_a_second(self) -> None:
         """With the controller's own pauses."""
-        self.stack.enter_context(mock.patch.object(controller, "TURN", OWN_TURN))
+        self.stack.enter_context(mock.patch.object(controller, "ROUND", OWN_ROUND))
         self.write(*NAMES[:2])
         self.start()
         self.await_book("paused", 2)
         self.by_hand("promote")
         time.sleep(0.6)
         self.restart_switch()
-        self.assertEqual(self.switch.orders()[0], f"open {self.words('web-v2')}")
+        self.assertEqual(self.switch.sent_lines()[0], f"open {self.words('web-v2')}")
 
 
-class LostSteps(Turns):
+class LostSteps(ControllerCase):
     steps = ("pause", "post")
 
     def test_what_can_not_be_kept_is_told(self) -> None:
@@ -105,7 +105,7 @@ class LostSteps(Turns):
         self.await_book("paused", 2)
         self.by_hand("abort")
         self.by_hand("deploy hotfix 1 2")
-        self.some_turns()
+        self.some_rounds()
         self.restart_switch()
         self.await_log("lost with the book that was open: the attempt of hotfix is not begun again",
                        "lost with the book that was open: revision 2 web-v2 does not exist any more")
@@ -121,11 +121,11 @@ class Waits(Controlled):
         self.write("web-v1", "web-v2")
         words = [str(TOOLS / "operator"), str(self.switch.port), "wait", "phase=paused", "newest=web-v2",
                  "--plan", self.plan.path, "--timeout", "30"]
-        with subprocess.Popen(words, stdout=subprocess.PIPE, text=True) as waiting:
+        with subprocess.Popen(words, stdout=subprocess.PIPE, text=True) as pending:
             time.sleep(0.7)
-            self.assertIsNone(waiting.poll())
+            self.assertIsNone(pending.poll())
             self.run_controller()
-            self.assertEqual(waiting.communicate(timeout=30)[0].split(":")[0], "paused")
+            self.assertEqual(pending.communicate(timeout=30)[0].split(":")[0], "paused")
         told = operator(self.switch.port, "wait", "stable=web-v3", "--plan", self.plan.path)
         self.assertEqual((told.status, "no revision web-v3 exists" in told.told), (1, True), "the plan is deployed")
 

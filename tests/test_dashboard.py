@@ -18,7 +18,7 @@ from collections.abc import Iterator, Sequence
 from typing import NamedTuple
 
 from bg_switch_tools import VERSION
-from bg_switch_tools.switch.access_log import Entry
+from bg_switch_tools.switch.access_log import LogEntry
 from tests.fake_port import free_port
 from tests.fake_switch import FakeSwitch
 from tests.synthetic_log import ANSWERED, GrowingLog, Part, entries, refused
@@ -37,7 +37,7 @@ OLD_NAMES = {
     "bg_switch_replicas_unavailable": "rollout_info_replicas_unavailable", "bg_switch_http_requests": "nginx_http_requests",
     "bg_switch_http_request_duration_seconds": "nginx_ingress_controller_request_duration_seconds",
     "bg_switch_http_response_duration_seconds": "nginx_ingress_controller_response_duration_seconds"}
-NO_ORDERS = dict.fromkeys(("promote", "promote full", "abort", "retry"), False)
+NO_COMMANDS = dict.fromkeys(("promote", "promote full", "abort", "retry"), False)
 HOSTILE = '/"><script>alert(1)</script><img src=x onerror=alert(2)>'
 
 
@@ -96,7 +96,7 @@ class Dashboard(unittest.TestCase):
             self.switch.book.answer(line)
 
     @staticmethod
-    def now(parts: Sequence[Part]) -> list[Entry]:
+    def now(parts: Sequence[Part]) -> list[LogEntry]:
         """Entries that end at this time."""
         return list(entries(parts, time.time() - 1, 1.0))
 
@@ -117,7 +117,7 @@ class Dashboard(unittest.TestCase):
         assert found is not None
         return found[1]
 
-    def order(self, line: str = "promote", revision: int = 2, **changed: str) -> Answer:
+    def send_command(self, line: str = "promote", revision: int = 2, **changed: str) -> Answer:
         """An order as the page sends it, but for the fields that are changed; an empty one is left out."""
         headers = {"X_Token": self.token(), "Origin": f"http://127.0.0.1:{self.port}", "Content_Type": "application/json",
                    **changed}
@@ -219,9 +219,9 @@ class Pages(Dashboard):
         self.switch.kill()
         self.assertTrue(comes(lambda: '"answers": false' in self.get("/api/state").body))
         told = self.state()
-        self.assertEqual((told["report"] is not None, told["orders"]), (True, NO_ORDERS))
+        self.assertEqual((told["report"] is not None, told["orders"]), (True, NO_COMMANDS))
         self.assertIn("bg_switch_up 0.0", self.get("/metrics").body)
-        self.assertEqual(self.order().status, 503)
+        self.assertEqual(self.send_command().status, 503)
         self.assertTrue(comes(self.starts_again))
         self.assertTrue(comes(lambda: '"answers": true' in self.get("/api/state").body))
 
@@ -240,10 +240,10 @@ class Streams(unittest.TestCase):
             self.skipTest(MISSING)
         run = subprocess.run([PYTHON, "-B", "-m", "tests.streams_of_a_server", str(free_port())], cwd=TOP, capture_output=True,
                              text=True, timeout=WAIT, check=False, env={**os.environ, "PYTHONPATH": "lib:scripts"})
-        wanted = ("orders in the state and the update: 1, 0\nstreams 0, connections 0\n"
+        expected = ("orders in the state and the update: 1, 0\nstreams 0, connections 0\n"
                   "faults 3, said 2, traces 2: the dashboard could not look at the switch: KeyError: 'planted'; some requests may not "
                   "be counted\n")
-        self.assertEqual((run.stdout, run.returncode), (wanted, 0), run.stderr)
+        self.assertEqual((run.stdout, run.returncode), (expected, 0), run.stderr)
 
 
 class Metrics(Dashboard):
@@ -260,14 +260,14 @@ class Metrics(Dashboard):
         # these stood there before
         self.assertEqual(self.value('bg_switch_http_requests_total{revision="web-v1",service="active",status="2xx"}'), 0)
         self.assertEqual(self.value(f"bg_switch_http_request_duration_seconds_count{labels}"), 20)
-        for line, wanted in (('bg_switch_phase{phase="paused"}', 1), ('bg_switch_phase{phase="steady"}', 0), ("bg_switch_up", 1),
+        for line, expected in (('bg_switch_phase{phase="paused"}', 1), ('bg_switch_phase{phase="steady"}', 0), ("bg_switch_up", 1),
                              ('bg_switch_selected{revision="web-v2",service="preview"}', 1),
                              ('bg_switch_open_requests{revision="web-v1"}', 0),
                              ('bg_switch_rollout_info{phase="Paused",strategy="blueGreen"}', 1),
                              ('bg_switch_replicas_desired{revision="web-v2"}', 2),
                              ('bg_switch_replicas_available{revision="web-v2"}', 2),
                              ('bg_switch_service_without_endpoint{service="active"}', 0), ("bg_switch_dashboard_faults_total", 0)):
-            self.assertEqual(self.value(line), wanted, line)
+            self.assertEqual(self.value(line), expected, line)
         self.by_hand("promote")
         self.assertTrue(comes(lambda: self.value('bg_switch_rollout_events_total{reason="SwitchService"}') == 1))
 
@@ -315,31 +315,31 @@ class Metrics(Dashboard):
         self.assertEqual((run.returncode, run.stdout, run.stderr), (0, "", ""))
 
 
-class Ordered(Dashboard):
+class Commanded(Dashboard):
     def check_refused(self, answer: Answer, status: int, why: str) -> None:
         self.assertEqual((answer.status, why in str(answer.told()["fault"])), (status, True), answer)
-        self.assertEqual(self.switch.orders(), [])
+        self.assertEqual(self.switch.sent_lines(), [])
 
     def test_an_order(self) -> None:
-        answer = self.order()
+        answer = self.send_command()
         self.assertEqual((answer.status, answer.told()),
                          (200, {"line": "promote", "reply": "ok 1", "carried_out": True, "meaning": None}))
-        again = self.order().told()
+        again = self.send_command().told()
         self.assertEqual((again["carried_out"], again["meaning"]), (False, "the rollout is not paused"))
         self.assertTrue(comes(lambda: "promote => ok 1" in self.get("/api/state").body))
-        self.assertEqual(self.switch.orders(), ["promote", "promote"])
+        self.assertEqual(self.switch.sent_lines(), ["promote", "promote"])
 
     def test_what_is_refused(self) -> None:
-        self.check_refused(self.order(X_Token=""), 403, "has not the token")
-        self.check_refused(self.order(X_Token="x" * 43), 403, "has not the token")
-        self.check_refused(self.order(Origin="http://evil.example"), 403, "from another site")
-        self.check_refused(self.order(Origin="http://127.0.0.1:3000"), 403, "from another site")
-        self.check_refused(self.order(Origin=""), 403, "from which site")
-        self.check_refused(self.order(Origin="null"), 403, "from another site")
-        self.check_refused(self.order(Host="evil.example", Origin="http://evil.example"), 403, "by the name localhost")
-        self.check_refused(self.order(revision=1), 409, "the newest revision is revision 2 web-v2 by now")
-        self.check_refused(self.order(line="quit"), 400, "one of promote")
-        self.check_refused(self.order(line="promote" + " " * 5000), 413, "")
+        self.check_refused(self.send_command(X_Token=""), 403, "has not the token")
+        self.check_refused(self.send_command(X_Token="x" * 43), 403, "has not the token")
+        self.check_refused(self.send_command(Origin="http://evil.example"), 403, "from another site")
+        self.check_refused(self.send_command(Origin="http://127.0.0.1:3000"), 403, "from another site")
+        self.check_refused(self.send_command(Origin=""), 403, "from which site")
+        self.check_refused(self.send_command(Origin="null"), 403, "from another site")
+        self.check_refused(self.send_command(Host="evil.example", Origin="http://evil.example"), 403, "by the name localhost")
+        self.check_refused(self.send_command(revision=1), 409, "the newest revision is revision 2 web-v2 by now")
+        self.check_refused(self.send_command(line="quit"), 400, "one of promote")
+        self.check_refused(self.send_command(line="promote" + " " * 5000), 413, "")
         self.check_refused(self.get("/api/order"), 405, "")
         self.assertEqual(self.get("/api/events", "HEAD").status, 405)
 
@@ -354,8 +354,8 @@ class Ordered(Dashboard):
         for address in [each for each in own if not each.startswith("127.")]:
             with self.assertRaises(OSError):
                 socket.create_connection((address, self.port), timeout=2).close()
-        rows = [line.split() for line in pathlib.Path("/proc/net/tcp").read_text(encoding="ascii").splitlines()[1:]]
-        listening = [row[1] for row in rows if row[3] == "0A" and row[1].endswith(f":{self.port:04X}")]
+        lines = [line.split() for line in pathlib.Path("/proc/net/tcp").read_text(encoding="ascii").splitlines()[1:]]
+        listening = [line[1] for line in lines if line[3] == "0A" and line[1].endswith(f":{self.port:04X}")]
         self.assertEqual(listening, [f"0100007F:{self.port:04X}"])
 
 
@@ -364,11 +364,11 @@ class ReadOnly(Dashboard):
 
     def test_nothing_can_be_ordered(self) -> None:
         self.assertEqual(self.token(), "")
-        answer = self.order(X_Token="x")
-        self.assertEqual((answer.status, self.switch.orders()), (403, []))
+        answer = self.send_command(X_Token="x")
+        self.assertEqual((answer.status, self.switch.sent_lines()), (403, []))
         self.assertIn("--read-only", answer.body)
         told = self.state()
-        self.assertEqual((told["read_only"], told["orders"]), (True, NO_ORDERS))
+        self.assertEqual((told["read_only"], told["orders"]), (True, NO_COMMANDS))
 
 
 class Started(Dashboard):

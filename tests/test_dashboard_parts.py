@@ -8,8 +8,8 @@ from bg_switch_tools.dashboard import totals, traffic
 from bg_switch_tools.dashboard.alarms import without_endpoint
 from bg_switch_tools.dashboard.board import MOST_HAPPENED, Board
 from bg_switch_tools.dashboard.guard import fault_of, is_token
-from bg_switch_tools.dashboard.page_commands import Moved, Order, WrongOrder, carry_out, read_order
-from bg_switch_tools.dashboard.steps import NAMES, Attempt, orders, steps
+from bg_switch_tools.dashboard.page_commands import Moved, PageCommand, WrongPageCommand, read_page_command, send_page_command
+from bg_switch_tools.dashboard.steps import NAMES, SeenPhases, possible_commands, steps
 from bg_switch_tools.dashboard.totals import Labels, Tally, Totals, reasons
 from bg_switch_tools.dashboard.traffic import Durations, Traffic
 from bg_switch_tools.switch.access_log import Batch
@@ -60,13 +60,13 @@ class Slots(unittest.TestCase):
         durations = Durations()
         for number in range(1, 10001):
             durations.add(number / 10)
-        for share, wanted in ((0.5, 500), (0.99, 990), (0.01, 10)):
-            self.assertLess(abs(durations.quantile(share) / wanted - 1), 0.06, share)
+        for share, expected in ((0.5, 500), (0.99, 990), (0.01, 10)):
+            self.assertLess(abs(durations.quantile(share) / expected - 1), 0.06, share)
         self.assertEqual(Durations().quantile(0.5), 0.0)
 
     def test_classes(self) -> None:
-        for status, wanted in ((None, "none"), (100, "1xx"), (204, "2xx"), (404, "4xx"), (503, "5xx"), (600, "5xx"), (999, "5xx")):
-            self.assertEqual(traffic.class_of(status), wanted)
+        for status, expected in ((None, "none"), (100, "1xx"), (204, "2xx"), (404, "4xx"), (503, "5xx"), (600, "5xx"), (999, "5xx")):
+            self.assertEqual(traffic.class_of(status), expected)
 
     def test_a_clock_that_is_set_back(self) -> None:
         told = Traffic()
@@ -160,7 +160,7 @@ class Steps(unittest.TestCase):
         self.assertEqual(self.states("steady", "", []), ["passed"] * 4 + ["done", "passed", "done"])
 
     def test_what_is_seen_of_an_attempt(self) -> None:
-        attempt = Attempt()
+        attempt = SeenPhases()
         for report in reports(*PAUSED, "promote", "verdict post failed"):
             attempt.take(report)
         self.assertEqual((attempt.seen, attempt.failed_at), (["scaling", "paused", "postAnalysis"], "postAnalysis"))
@@ -170,16 +170,16 @@ class Steps(unittest.TestCase):
         self.assertEqual(attempt.seen, ["scaling"])
         attempt.take(reports(*PAUSED, "deploy web-v3 5 6", "abort")[-1])
         self.assertEqual(attempt.failed_at, "scaling")
-        late = Attempt()
+        late = SeenPhases()
         late.take(reports(*PAUSED, "abort")[-1])
         self.assertEqual(late.failed_at, "")
 
     def test_orders(self) -> None:
         told = reports(*PAUSED, "promote", "abort")
         running = ["promote full", "abort"]
-        self.assertEqual([[name for name, can in orders(report).items() if can] for report in told[1:]],
+        self.assertEqual([[name for name, can in possible_commands(report).items() if can] for report in told[1:]],
                          [[], running, ["promote", *running], running, ["retry"]])
-        self.assertFalse(any(orders(None).values()))
+        self.assertFalse(any(possible_commands(None).values()))
         self.assertEqual(set(PHASES), {"steady", "scaling", "preAnalysis", "paused", "sizing", "postAnalysis", "aborted"})
 
 
@@ -262,7 +262,7 @@ class Boards(unittest.TestCase):
 
     def test_no_list_grows_without_end(self) -> None:
         for _ in range(300):
-            self.board.note_order("promote", "refused NotPaused")
+            self.board.note_line("promote", "refused NotPaused")
             self.board.take_batch(Batch([refused("connect_failed")] * 30, 0, 0), "")
         self.assertEqual((len(self.board.happened), len(self.board.failed)), (MOST_HAPPENED, 50))
         self.assertEqual(self.texts()[-1], "promote => refused NotPaused: the rollout is not paused")
@@ -365,27 +365,27 @@ class Guarded(unittest.TestCase):
             self.assertFalse(is_token(wrong, "abc"), wrong)
 
 
-class Orders(unittest.TestCase):
+class PageCommands(unittest.TestCase):
     def test_what_is_an_order(self) -> None:
-        self.assertEqual(read_order(b'{"order": "promote full", "revision": 2}'), Order("promote full", 2))
+        self.assertEqual(read_page_command(b'{"order": "promote full", "revision": 2}'), PageCommand("promote full", 2))
         for wrong in (b"", b"[]", b"{}", b'{"order": "promote"}', b'{"order": "quit", "revision": 2}', b"\xff",
                       b'{"order": "abort", "revision": "2"}', b'{"order": "abort\\nquit", "revision": 2}',
                       b'{"order": "abort", "revision": 0}', b'{"order": "abort", "revision": 2, "more": 1}',
                       b'{"order": ["abort"], "revision": 2}', b'{"order": "abort", "order": "promote", "revision": 2}'):
-            with self.subTest(text=wrong), self.assertRaises(WrongOrder):
-                read_order(wrong)
+            with self.subTest(text=wrong), self.assertRaises(WrongPageCommand):
+                read_page_command(wrong)
 
     def test_an_order_for_another_revision_is_not_sent(self) -> None:
         switch = FakeSwitch("pause")
         self.addCleanup(switch.kill)
         with self.assertRaises(Moved):
-            carry_out(switch.port, Order("abort", 1))
+            send_page_command(switch.port, PageCommand("abort", 1))
         for line in PAUSED:
             switch.book.answer(line)
         with self.assertRaises(Moved):
-            carry_out(switch.port, Order("promote", 1))
-        self.assertEqual(switch.orders(), [])
-        self.assertEqual((carry_out(switch.port, Order("promote", 2)), switch.orders()), ("ok 1", ["promote"]))
+            send_page_command(switch.port, PageCommand("promote", 1))
+        self.assertEqual(switch.sent_lines(), [])
+        self.assertEqual((send_page_command(switch.port, PageCommand("promote", 2)), switch.sent_lines()), ("ok 1", ["promote"]))
 
 
 if __name__ == "__main__":

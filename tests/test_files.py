@@ -49,7 +49,7 @@ class Pipeline(unittest.TestCase):
         self.begin(0)
         told = self.release()
         self.assertEqual(told.returncode, 0, told.stderr)
-        self.assertEqual(self.switch.orders()[2:], [f"deploy web-v2 {self.ports[2]} {self.ports[3]}", "available 2 2", "promote",
+        self.assertEqual(self.switch.sent_lines()[2:], [f"deploy web-v2 {self.ports[2]} {self.ports[3]}", "available 2 2", "promote",
                                                     "verdict post successful"])
         self.assertEqual([revision.name for revision in read_plan(pathlib.Path(self.plan.path).read_bytes()).revisions], ["web-v1", "web-v2"])
         again = self.release()

@@ -11,14 +11,14 @@ from bg_switch_tools.controller.launcher import words_for
 from bg_switch_tools.controller.plan import PlannedRevision
 from bg_switch_tools.controller.state_file import StateFile
 from tests.fake_switch import FakeSwitch
-from tests.test_controller import NAMES, Turns
+from tests.test_controller import NAMES, ControllerCase
 from tests.tool_runs import comes
 
 # Writes down what it was called for. A file of the name that it is called with lets it fail, or never end.
 FAKE = """echo "$0 $1 $2 $3" >> calls; test ! -e "hang-$0" || exec sleep 60; test ! -e "fail-$0"; exit"""
 
 
-class Launched(Turns):
+class Launched(ControllerCase):
     """Endpoints run where the fake commands were called for them: a thread starts and stops them as the calls say."""
     knows_down = True
 
@@ -68,7 +68,9 @@ class Launched(Turns):
 class Rollouts(Launched):
     def test_from_no_process_to_the_end_of_the_old_ones(self) -> None:
         self.bring_v1_up()
-        self.assertEqual(self.switch.orders(), [f"open {self.words('web-v1')}", "available 1 2"])
+        # the endpoints come up one after the other
+        sent = [line for line in self.switch.sent_lines() if line != "available 1 1"]
+        self.assertEqual(sent, [f"open {self.words('web-v1')}", "available 1 2"])
         self.write(*NAMES[:2])
         self.await_calls(*self.both("start", "web-v2"))
         self.await_log(f"deploy {self.words('web-v2')} => ok 0")
@@ -76,13 +78,13 @@ class Rollouts(Launched):
         self.await_book("paused", 2)
         self.assertEqual(self.started(), ["web-v1", "web-v2"])
         self.by_hand("promote")
-        self.some_turns()
+        self.some_rounds()
         self.assertEqual([call for call in self.calls() if call.startswith("stop")], [])
         self.switch.book.revisions[1].open = 1
         self.by_hand("tick 40")
-        self.some_turns()
+        self.some_rounds()
         self.switch.book.revisions[1].desired = self.switch.book.revisions[1].available = 0
-        self.some_turns()
+        self.some_rounds()
         self.assertEqual([call for call in self.calls() if call.startswith("stop")], [], "a request is open")
         self.switch.book.revisions[1].open = 0
         self.await_calls(*self.both("stop", "web-v1"))
@@ -96,7 +98,7 @@ class Rollouts(Launched):
         self.write(*NAMES[:2])
         self.await_log(f"start of web-v2 at port {self.endpoints['web-v2'][0].port} has failed, and is run again in 0.1 seconds: "
                        "its exit status is 1", "is run again in 0.4 seconds")
-        self.assertEqual([line for line in self.switch.orders() if line.startswith("deploy")], [])
+        self.assertEqual([line for line in self.switch.sent_lines() if line.startswith("deploy")], [])
         self.file("fail-start").unlink()
         self.await_log(f"deploy {self.words('web-v2')} => ok 0")
 
@@ -123,9 +125,9 @@ class Rollouts(Launched):
         self.endpoints["web-v3"] = self.endpoints["web-v1"]
         self.write("web-v3", **self.members)
         self.await_log("start of web-v3 at port", "waits: the port is that of web-v1, which is not stopped yet")
-        self.some_turns()
+        self.some_rounds()
         self.assertEqual([call for call in self.calls() if "web-v3" in call], [])
-        self.assertEqual([line for line in self.switch.orders() if line.startswith("deploy")], [], "they are no endpoints of web-v3")
+        self.assertEqual([line for line in self.switch.sent_lines() if line.startswith("deploy")], [], "they are no endpoints of web-v3")
         before = len(self.calls())
         self.endpoints["web-v1"][0].stop()
         self.assertTrue(comes(lambda: self.call("start", "web-v1", 1) in self.calls()[before:]), "web-v1 is live")
@@ -173,7 +175,7 @@ class Stops(Launched):
         self.await_log("available 1 0 => ok 0")
         self.switch.kill()
         self.switch.start()
-        self.some_turns()
+        self.some_rounds()
         self.assertEqual((self.switch.book.phase, [call for call in self.calls() if call.startswith("stop")]), ("", []))
         self.come_up("web-v1")
         self.await_book("paused", 2)
@@ -188,7 +190,7 @@ class Stops(Launched):
         self.await_book("paused", 2)
         self.by_hand("promote")
         self.switch.book.revisions[1].open = 1
-        self.some_turns()
+        self.some_rounds()
         second = FakeSwitch("pause", knows_down=True)
         self.stack.callback(second.kill)
         self.write(*NAMES[:2], control=second.port)
@@ -207,13 +209,13 @@ class Stops(Launched):
         self.come_up("web-v2")
         self.await_book("paused", 2)
         self.by_hand("abort")
-        self.some_turns()
+        self.some_rounds()
         self.assertEqual([call for call in self.calls() if call.startswith("stop")], [])
         aborted = self.switch.book.revisions[2]
         aborted.desired = aborted.available = 0
         self.await_log("web-v2 is stopped")
         self.go_down("web-v2")
-        self.some_turns()
+        self.some_rounds()
         self.assertEqual(len([call for call in self.calls() if call.startswith("start web-v2")]), 2)
 
     def test_a_revision_that_never_was_deployed_is_stopped(self) -> None:
@@ -233,7 +235,7 @@ class Words(unittest.TestCase):
                          ["systemctl", "start", "web-v1@82-2", "${x} {y}"])
 
 
-class Notified(Turns):
+class Notified(ControllerCase):
     def events(self) -> list[dict[str, object]]:
         path = os.path.join(self.folder, "events")
         if not os.path.exists(path):
@@ -245,8 +247,8 @@ class Notified(Turns):
         self.write(*NAMES[:2], notify=["sh", "-c", "cat >> events"])
         self.start()
         self.await_book("paused", 2)
-        wanted = {f"deploy {self.words('web-v2')} => ok 0", "phase: scaling -> paused"}
-        self.assertTrue(comes(lambda: wanted <= {str(event["text"]) for event in self.events()}), self.events())
+        expected = {f"deploy {self.words('web-v2')} => ok 0", "phase: scaling -> paused"}
+        self.assertTrue(comes(lambda: expected <= {str(event["text"]) for event in self.events()}), self.events())
         self.assertEqual({"number", "time", "moment", "event", "text"} - set(self.events()[0]), set())
 
     def test_the_rollout_waits_for_none(self) -> None:

@@ -16,7 +16,7 @@ def page() -> str:
 class Meanings(unittest.TestCase):
     def test_each_refusal_of_the_page_has_a_meaning(self) -> None:
         told = page().split("What the refusals mean:")[1].split("\n## ")[0]
-        names = {name for row in re.findall(r"^\| (.*?) \|", told, re.M) for name in re.findall(r"`(\w+)`", row)}
+        names = {name for line in re.findall(r"^\| (.*?) \|", told, re.M) for name in re.findall(r"`(\w+)`", line)}
         self.assertGreater(len(names), 20)
         self.assertEqual(names - set(REFUSALS), set())
 
@@ -27,9 +27,9 @@ class Meanings(unittest.TestCase):
     def test_the_lines_are_those_of_the_page(self) -> None:
         told = page().split("\n## The lines\n")[1].split("What the refusals mean:")[0]
         lines = set(re.findall(r"^\| `(\w+)", told, re.M)) - {"enter", "leave"}
-        self.assertEqual({line.form.split()[0] for line in LINES}, lines)
+        self.assertEqual({line.syntax.split()[0] for line in LINES}, lines)
         for line in LINES:
-            self.assertEqual(line.example.split()[0], line.form.split()[0])
+            self.assertEqual(line.example.split()[0], line.syntax.split()[0])
 
     def test_what_a_reply_means(self) -> None:
         self.assertEqual(meaning_of("refused NotPaused"), "the rollout is not paused")

@@ -56,7 +56,7 @@ class Lines(Operated):
 
     def test_quit_is_the_last_line(self) -> None:
         self.assertEqual(self.operator(lines="tick 6\nquit\ntick 7\n")[::2], ("ok 0\n", 0))
-        self.assertEqual(self.switch.orders(), ["quit"])
+        self.assertEqual(self.switch.sent_lines(), ["quit"])
 
     def test_json(self) -> None:
         told = self.operator("--json", "--keep-going", lines="tick 5\njump\nreport\n")
@@ -153,14 +153,14 @@ class Waits(Operated):
 
 class Words(Operated):
     def test_wrong_words_name_what_is_wanted(self) -> None:
-        for words, wanted in ((("wait",), "wait wants one condition or more"), (("wait", "phase=x"), "a phase is wanted"),
+        for words, expected in ((("wait",), "wait wants one condition or more"), (("wait", "phase=x"), "a phase is wanted"),
                               (("wait", "settled", "--timeout", "x"), "a number of seconds from 0 to 86400 is wanted, and not 'x'"),
                               (("status", "now"), "status takes no further words"), (("--wait", "-1", "tick", "1"), "a number of seconds"),
                               (("tick", "1", "--timeout", "3"), "--timeout goes with wait"), (("promote", "--yes"), "--yes goes with"),
                               (("promote", "--idempotent"), "--idempotent goes with deploy"), (("--unheard",), "--unheard")):
             with self.subTest(words=words):
                 told = self.operator(*words)
-                self.assertEqual((told.printed, told.status, wanted in told.told), ("", 2, True), told)
+                self.assertEqual((told.printed, told.status, expected in told.told), ("", 2, True), told)
                 self.assertNotRegex(told.told, r"_of|Traceback|<")
         for port in ("0", "65536", "x", "-1", "1.5", "９"):
             told = self.operator_at(port)
@@ -188,9 +188,9 @@ class Words(Operated):
 class Shutdowns(Operated):
     def test_it_asks(self) -> None:
         self.assertEqual(self.operator("shutdown").status, 2)
-        self.assertEqual(self.switch.orders(), [])
+        self.assertEqual(self.switch.sent_lines(), [])
         self.assertEqual(self.operator("shutdown", "--yes").status, 0)
-        self.assertEqual(self.switch.orders(), ["quit"])
+        self.assertEqual(self.switch.sent_lines(), ["quit"])
 
 
 class Prompts(Operated):
@@ -211,13 +211,13 @@ class Prompts(Operated):
         for word in ("quit", "exit", " quit "):
             self.typed(word, "tick 77")
         self.assertNotIn("tick 77", self.switch.lines)
-        self.assertNotIn("quit", self.switch.orders())
+        self.assertNotIn("quit", self.switch.sent_lines())
 
     def test_shutdown_asks(self) -> None:
         self.assertIn("The switch goes on.", self.typed("shutdown", "n", "tick 5"))
-        self.assertEqual(self.switch.orders(), [])
+        self.assertEqual(self.switch.sent_lines(), [])
         self.assertIn("The switch shuts down.", self.typed("shutdown", "y", "tick 6"))
-        self.assertEqual(self.switch.orders(), ["quit"])
+        self.assertEqual(self.switch.sent_lines(), ["quit"])
         self.assertNotIn("tick 6", self.switch.lines)
 
     def test_a_switch_that_is_gone_ends_no_prompt(self) -> None:

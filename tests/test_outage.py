@@ -3,11 +3,11 @@ import pathlib
 import time
 import unittest
 
-from tests.test_controller import Turns
+from tests.test_controller import ControllerCase
 from tests.tool_runs import comes, operator
 
 
-class Downs(Turns):
+class Downs(ControllerCase):
     knows_down = True
 
     def down(self) -> list[str]:
@@ -30,7 +30,7 @@ class Downs(Turns):
         first.start()
         self.await_log(f"down {second.port} => ok 1")
         self.await_log("available 1 0 => ok 0")
-        self.some_turns()
+        self.some_rounds()
         self.assertEqual(self.switch.book.revisions[1].available, 1)
 
     def test_a_switch_that_is_started_again_is_told_before_it_has_a_client(self) -> None:
@@ -53,7 +53,7 @@ class Downs(Turns):
         first.stop()
         self.await_log(f"down {first.port} => ok 1")
         self.by_hand("tick 500")
-        self.some_turns()
+        self.some_rounds()
         self.switch.kill()
         self.switch.start(f"open {self.words('web-v1')}")
         self.assertTrue(comes(lambda: self.down() == [str(first.port)], 5), self.log())
@@ -66,7 +66,7 @@ class Downs(Turns):
         self.assertEqual((self.switch.book.revisions[1].available, [line for line in self.switch.lines if line.startswith("down")]), (0, []))
 
 
-class OlderSwitch(Turns):
+class OlderSwitch(ControllerCase):
     def test_a_fault_is_told_once_and_the_first_ones_in_a_row_count(self) -> None:
         self.write("web-v1")
         self.start()
@@ -76,12 +76,12 @@ class OlderSwitch(Turns):
         self.endpoints["web-v1"][0].stop()
         self.await_log("available 1 0 => ok 0")
         self.endpoints["web-v1"][1].start()
-        self.some_turns()
+        self.some_rounds()
         self.assertEqual((self.switch.book.revisions[1].available, self.log().count("does not know the line down")), (0, 1))
         self.assertEqual(self.log().count("=> fault"), 0)
 
 
-class Outages(Turns):
+class Outages(ControllerCase):
     steps = ("pre", "post")
     knows_down = True
 
@@ -135,8 +135,8 @@ class Outages(Turns):
         self.await_log("available 2 0 => ok")
         pathlib.Path(self.folder, "go").touch()
         self.await_log("revision 2 web-v2 gets no verdict pre successful while none of its endpoints is up")
-        self.some_turns()
-        self.assertEqual([line for line in self.switch.orders() if line.startswith("verdict")], [])
+        self.some_rounds()
+        self.assertEqual([line for line in self.switch.sent_lines() if line.startswith("verdict")], [])
         self.endpoints["web-v2"][1].start()
         self.await_log("verdict pre successful => ok")
 

@@ -14,7 +14,7 @@ EXAMPLE = TOP / "examples" / "production"
 UNITS = ("bg-switch", "bg-controller", "bg-dashboard")
 SOURCE = TOP / "crates" / "bg_command_line" / "src" / "command_line.rt"
 # The commands, with what each calls itself in its usage.
-COMMANDS = {"bgctl": "bgctl", "bg-operator": "bin/operator", "bg-controller": "bin/controller", "bg-analysis": "bin/analysis",
+PACKAGED_COMMANDS = {"bgctl": "bgctl", "bg-operator": "bin/operator", "bg-controller": "bin/controller", "bg-analysis": "bin/analysis",
             "bg-dashboard": "bin/dashboard"}
 KINDS_OF_CHANGE = ("Added", "Changed", "Deprecated", "Removed", "Fixed", "Security")
 # Descriptors for each worker, connections at each client port, operators at the control port, and what the switch has beside.
@@ -122,11 +122,11 @@ class Files(unittest.TestCase):
     def test_everybody_may_read_all_files_and_run_the_commands(self) -> None:
         for path in self.root.rglob("*"):
             with self.subTest(path.relative_to(self.root)):
-                wanted = 0o755 if path.is_dir() or path.parent.name == "bin" else 0o644
-                self.assertIn(path.stat().st_mode & 0o777, (wanted, 0o755) if "examples" in path.parts else (wanted,))
+                expected = 0o755 if path.is_dir() or path.parent.name == "bin" else 0o644
+                self.assertIn(path.stat().st_mode & 0o777, (expected, 0o755) if "examples" in path.parts else (expected,))
 
     def test_a_command_runs_the_one_file_of_the_tools(self) -> None:
-        for name, called in COMMANDS.items():
+        for name, called in PACKAGED_COMMANDS.items():
             with self.subTest(name):
                 text = (self.root / "usr" / "bin" / name).read_text(encoding="ascii")
                 archive = "/usr/share/bg-switch/bg_switch_tools.pyz"

@@ -199,17 +199,17 @@ class Contradictions(unittest.TestCase):
             told = with_keys(analyses={"pre": ["./smoke_test.sh"], "post": ["no-such-program-anywhere"]}, start=["/no/such"],
                              stop=["sh", "-c", "x"], notify=["./{revision}"])
             plan = read_plan(json.dumps(told).encode())
-            wanted = {"analyses.pre[0]: there is no program ./smoke_test.sh that can be run",
+            expected = {"analyses.pre[0]: there is no program ./smoke_test.sh that can be run",
                       "analyses.post[0]: there is no program no-such-program-anywhere that can be run",
                       "start[0]: there is no program /no/such that can be run"}
-            self.assertEqual(set(missing_commands(plan, folder)), wanted)
+            self.assertEqual(set(missing_commands(plan, folder)), expected)
             path = os.path.join(folder, "plan.json")
             pathlib.Path(path).write_text(json.dumps(told), encoding="ascii")
             with contextlib.redirect_stdout(io.StringIO()) as printed:
                 self.assertEqual(controller_cli.main(["check", path]), 1)
-            self.assertEqual(set(printed.getvalue().splitlines()), wanted)
+            self.assertEqual(set(printed.getvalue().splitlines()), expected)
             script.touch()
-            self.assertEqual(set(missing_commands(plan, folder)), wanted, "it is no program yet")
+            self.assertEqual(set(missing_commands(plan, folder)), expected, "it is no program yet")
             script.chmod(0o755)
             self.assertEqual(len(missing_commands(plan, folder)), 2)
 

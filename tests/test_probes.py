@@ -137,9 +137,9 @@ class Together(unittest.TestCase):
 
     def test_one_failure_of_two_is_none(self) -> None:
         probes = self.probes()
-        for up, wanted in ((True, 1), (False, 1), (False, 0), (True, 1), (None, 1), (False, 1), (True, 1), (False, 1)):
+        for up, expected in ((True, 1), (False, 1), (False, 0), (True, 1), (None, 1), (False, 1), (True, 1), (False, 1)):
             probes._take_in(7, up)
-            self.assertEqual(probes.first_up([7]), wanted)
+            self.assertEqual(probes.first_up([7]), expected)
 
     def test_those_that_are_up_are_counted_wherever_they_stand(self) -> None:
         probes = self.probes()

@@ -15,8 +15,8 @@ from unittest import mock
 
 from bg_switch_tools.analysis import prometheus_query
 from bg_switch_tools.analysis.cli import main
-from bg_switch_tools.analysis.judged_revision import Subject
-from bg_switch_tools.analysis.prometheus_analysis import Condition, filled, judged
+from bg_switch_tools.analysis.judged_revision import JudgedRevision
+from bg_switch_tools.analysis.prometheus_analysis import QueryLimits, filled, judged
 from bg_switch_tools.analysis.prometheus_query import NoAnswer, Server, query_values, server_of
 from bg_switch_tools.analysis.verdicts import NotJudged
 from tests.fake_port import free_port
@@ -96,8 +96,8 @@ class Queries(unittest.TestCase):
 
 class Judged(unittest.TestCase):
     def test_values(self) -> None:
-        most, least, both = (Condition(*limits, 1, 0, 0, 0) for limits in ((0.01, None), (None, 0.95), (2.0, 1.0)))
-        cases: Sequence[tuple[Sequence[float], Condition, Sequence[str], bool]] = (
+        most, least, both = (QueryLimits(*limits, 1, 0, 0, 0) for limits in ((0.01, None), (None, 0.95), (2.0, 1.0)))
+        cases: Sequence[tuple[Sequence[float], QueryLimits, Sequence[str], bool]] = (
                 ([0.01], most, (), False), ([0.02], most, ("it is above 0.01",), False), ([0.0, 0.02], most, ("it is above 0.01",), False),
                 ([0.95], least, (), False), ([0.94], least, ("it is below 0.95",), False), ([math.inf], least, (), False),
                 ([0.5, 2.5], both, ("it is above 2", "it is below 1"), False), ([], most, (), True), ([math.nan], most, (), True),
@@ -107,11 +107,11 @@ class Judged(unittest.TestCase):
             self.assertEqual((result.problems, result.is_inconclusive), (problems, is_inconclusive), values)
 
     def test_arguments_of_a_query(self) -> None:
-        told = Subject("web-v2", 2)
+        told = JudgedRevision("web-v2", 2)
         self.assertEqual(filled('a{r="{{args.revision}}"} {{ args.revision-number }}', told), 'a{r="web-v2"} 2')
         self.assertEqual(filled("{{ x }}", None), "{{ x }}")
-        for query, subject in (("{{args.revision}}", None), ("{{args.other}}", told), ("{{args.revision}}", Subject("", 2)),
-                               ("{{args.revision}}", Subject('x"} or vector(0', 2))):
+        for query, subject in (("{{args.revision}}", None), ("{{args.other}}", told), ("{{args.revision}}", JudgedRevision("", 2)),
+                               ("{{args.revision}}", JudgedRevision('x"} or vector(0', 2))):
             with self.subTest(query=query), self.assertRaises(NotJudged):
                 filled(query, subject)
 
@@ -195,14 +195,14 @@ class Real(unittest.TestCase):
                 FakePrometheus(lambda _: (200, page.encode())) as target, \
                 real_prometheus(program, pathlib.Path(folder), [target.port]) as url:
             self.assertTrue(comes(lambda: query_values(server_of(url), "bg_switch_http_requests_total")))
-            for query, limit, wanted, why in (
+            for query, limit, expected, why in (
                     (SHARE, "--at-most=10%", 0, "0.1: the limits hold"), (SHARE, "--at-most=9%", 1, "it is above 0.09"),
                     ("vector(0) / vector(0)", "--at-most=1", 2, "nan: it is inconclusive"),
                     ("no_such_metric", "--at-most=1", 2, "no data: it is inconclusive"), ("scalar(vector(3))", "--at-least=3", 0, "3: "),
                     ("sum(", "--at-most=1", 2, "parse error")):
                 ended = analysis("--prometheus", url, "--query", query, limit, "--count", "2", *FAST,
                                  environment={"BG_REVISION": "web-v2", "BG_REVISION_NUMBER": "2"})
-                self.assertEqual((ended.status, why in ended.printed), (wanted, True), ended.printed)
+                self.assertEqual((ended.status, why in ended.printed), (expected, True), ended.printed)
 
 
 if __name__ == "__main__":

@@ -29,11 +29,11 @@ class Drawn(unittest.TestCase):
         self.assertEqual(draw(None), ["no book is open yet"])
 
     def test_scale_downs(self) -> None:
-        for end, wanted in (("deadline 41 draining", "draining: waits for its open requests"),
+        for end, expected in (("deadline 41 draining", "draining: waits for its open requests"),
                             ("deadline 41 draining cut", "draining: its open requests are given up"),
                             ("deadline 41", "in 0 s")):
             shown = draw(report(50, "steady", (2, 2, 2, 2), f"revision 1 web-v1 desired 2 available 2 open 1 {end}", NEW.format(2)))
-            self.assertTrue(shown[-1].endswith(wanted), shown)
+            self.assertTrue(shown[-1].endswith(expected), shown)
         self.assertTrue(draw(report(50, "steady", (2, 2, 2, 2), OLD.format(0, 0, 0, "none"), NEW.format(2)))[-1].endswith("scaled down"))
 
     def test_one_line(self) -> None:

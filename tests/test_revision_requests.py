@@ -3,7 +3,7 @@ import unittest
 from collections.abc import Sequence
 
 from bg_switch_tools.analysis.revision_requests import ByNeighbours, ByReports, services_of
-from bg_switch_tools.switch.access_log import Entry
+from bg_switch_tools.switch.access_log import LogEntry
 from bg_switch_tools.switch.reports import read_report
 from tests.synthetic_log import ANSWERED, BEGIN, refused
 
@@ -11,18 +11,18 @@ ACTIVE, PREVIEW = frozenset({"active"}), frozenset({"preview"})
 OUT, TESTED = refused("no_endpoint"), refused("no_endpoint")._replace(service="preview")
 
 
-def of(revision: int, begun: float = 0.0, ended: float | None = None) -> Entry:
+def of(revision: int, begun: float = 0.0, ended: float | None = None) -> LogEntry:
     """A request of a revision at the active service, which took up to `ended`."""
     end = begun if ended is None else ended
     return ANSWERED._replace(revision=revision, time=BEGIN + end, duration_ms=(end - begun) * 1000)
 
 
 class Neighbours(unittest.TestCase):
-    def check(self, told: Sequence[Entry], wanted: Sequence[Entry], unknown: int = 0) -> None:
+    def check(self, told: Sequence[LogEntry], expected: Sequence[LogEntry], unknown: int = 0) -> None:
         """A check of which entries are those of revision 2, in one piece and one by one."""
         whole, each = ByNeighbours(), ByNeighbours()
-        self.assertEqual((whole.take(told, 2), whole.unknown), (list(wanted), unknown))
-        self.assertEqual([entry for one in told for entry in each.take([one], 2)], list(wanted))
+        self.assertEqual((whole.take(told, 2), whole.unknown), (list(expected), unknown))
+        self.assertEqual([entry for one in told for entry in each.take([one], 2)], list(expected))
 
     def test_a_refusal_counts_for_the_revision_before_it(self) -> None:
         self.check([of(2), OUT, of(1, 1), OUT, of(2, 2), OUT, OUT], [of(2), OUT, of(2, 2), OUT, OUT])
@@ -50,9 +50,9 @@ class Reports(unittest.TestCase):
 
     def test_while_a_service_moves_it_counts_for_none(self) -> None:
         told = ByReports(PREVIEW)
-        for services, wanted in ((ACTIVE | PREVIEW, []), (ACTIVE, [OUT]), (frozenset[str](), []), (ACTIVE, [])):
+        for services, expected in ((ACTIVE | PREVIEW, []), (ACTIVE, [OUT]), (frozenset[str](), []), (ACTIVE, [])):
             told.take([OUT], 2)
-            self.assertEqual(told.take_services(services), wanted)
+            self.assertEqual(told.take_services(services), expected)
 
     def test_services_of_a_report(self) -> None:
         report = read_report(["moment 0", "phase paused", "active 1", "preview 2", "stable 1", "newest 2",

@@ -39,11 +39,11 @@ def enums() -> Iterator[tuple[str, Sentences]]:
                 yield name, {variant: told(comment, error) for comment, error, variant in VARIANT.findall(body)}
 
 
-def rows_of(heading: str, end: str, form: str) -> Sentences:
+def table_of(heading: str, end: str, pattern: str) -> Sentences:
     """The names of a table of docs/LINES.md, each with what its row says of it."""
     page = (TOP / "docs" / "LINES.md").read_text(encoding="utf-8")
     part = page.split(heading, 1)[1].split(end, 1)[0]
-    return {name: why.replace("`", "") for name, why in re.findall(rf"^\| `{form}` \| (.*?) \|", part, re.M)}
+    return {name: why.replace("`", "") for name, why in re.findall(rf"^\| `{pattern}` \| (.*?) \|", part, re.M)}
 
 
 class Told(unittest.TestCase):
@@ -62,10 +62,10 @@ class Told(unittest.TestCase):
         for name, sentence in sentences.items():
             self.assertEqual(self.refusals.setdefault(name, sentence), sentence, f"{enum}::{name} has another sentence")
 
-    def check(self, where: str, rows: Mapping[str, str], sentences: Mapping[str, str], *left_out: str) -> None:
+    def check(self, where: str, cells: Mapping[str, str], sentences: Mapping[str, str], *left_out: str) -> None:
         """Each name has a row, and the row begins with its sentence."""
-        self.assertEqual(sorted(rows), sorted(set(sentences) - set(left_out)), f"{where} has other names")
-        for name, why in rows.items():
+        self.assertEqual(sorted(cells), sorted(set(sentences) - set(left_out)), f"{where} has other names")
+        for name, why in cells.items():
             with self.subTest(name):
                 self.assertRegex(why, rf"^{re.escape(sentences[name])}(?:[:;,.] .*)?$", where)
 
@@ -82,17 +82,17 @@ class Told(unittest.TestCase):
         self.assertEqual(set(HINTS) - set(REFUSALS) - set(FAULTS), set())
 
     def test_the_refusals_of_the_page(self) -> None:
-        rows = rows_of("What the refusals mean:", "\n## ", r"(\w+)")
+        cells = table_of("What the refusals mean:", "\n## ", r"(\w+)")
         # (an operator can't order a number of seats, nor other limits)
-        self.check("docs/LINES.md", rows, self.refusals, "BadSeats", "BadLimits")
+        self.check("docs/LINES.md", cells, self.refusals, "BadSeats", "BadLimits")
 
     def test_the_faults_of_the_page(self) -> None:
-        self.check("docs/LINES.md", rows_of("## How a line is read", "\n## ", r"([A-Z]\w+)"), self.of[OF_LINES])
+        self.check("docs/LINES.md", table_of("## How a line is read", "\n## ", r"([A-Z]\w+)"), self.of[OF_LINES])
 
     def test_the_faults_of_a_strategy_on_the_page(self) -> None:
-        rows = rows_of("## What the program prints", "FIELD is `document`", r"fault (\w+)(?: FIELD)?")
+        cells = table_of("## What the program prints", "FIELD is `document`", r"fault (\w+)(?: FIELD)?")
         # (TooLarge and Bind are no faults of the text; that memory is refused is told on standard error)
-        named = {name: why for name, why in rows.items() if name not in ("TooLarge", "Bind")}
+        named = {name: why for name, why in cells.items() if name not in ("TooLarge", "Bind")}
         self.check("docs/LINES.md", named, self.of[OF_STRATEGIES], "OutOfMemory")
 
 

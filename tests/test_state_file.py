@@ -133,15 +133,15 @@ class Files(unittest.TestCase):
 
     def test_only_a_file_that_is_cut_is_called_cut(self) -> None:
         self.file.write(STATE)
-        for text, wanted in ((None, "can't be read: Is a directory"), (b"[7]", "is no state file: it has no object"),
+        for text, expected in ((None, "can't be read: Is a directory"), (b"[7]", "is no state file: it has no object"),
                              (b'{"moment": "x"}', "is no state file: stable: is missing"), (b"moment: 7\n", "is no state file: Expecting value"),
                              (b"", "is empty")):
-            with self.subTest(wanted=wanted):
+            with self.subTest(expected=expected):
                 path = pathlib.Path(self.file.path)
                 path.unlink()
                 path.mkdir() if text is None else path.write_bytes(text)
                 self.assertEqual(self.memory().state, STATE)
-                self.assertIn(wanted, self.out.getvalue())
+                self.assertIn(expected, self.out.getvalue())
                 self.assertNotIn("is cut", self.out.getvalue())
                 if text is None:
                     path.rmdir()

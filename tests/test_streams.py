@@ -41,7 +41,7 @@ class Streams(unittest.TestCase):
     def test_closed_ones(self) -> None:
         port = str(self.switch.port)
         self.check(self.shell("operator $1 promote >&-", port), 0)
-        self.assertEqual(self.switch.orders(), ["promote"])
+        self.assertEqual(self.switch.sent_lines(), ["promote"])
         for closed in (">&-", "<&-", "2>&-", "<&- >&- 2>&-"):
             self.check(self.shell(f"operator $1 status {closed}", port), 0)
         self.check(self.shell("operator $1 <&-", port), 0)
@@ -134,9 +134,9 @@ class Questions(unittest.TestCase):
         switch = FakeSwitch()
         self.addCleanup(switch.kill)
         self.assertEqual(self.answered([str(switch.port), "shutdown"], b"\x04"), 1)
-        self.assertEqual(switch.orders(), [])
+        self.assertEqual(switch.sent_lines(), [])
         self.assertEqual(self.answered([str(switch.port), "shutdown"], b"y\n"), 0)
-        self.assertEqual(switch.orders(), ["quit"])
+        self.assertEqual(switch.sent_lines(), ["quit"])
 
 
 if __name__ == "__main__":

@@ -49,7 +49,7 @@ class Story:
         elif words[0] == "preview":
             self.look_at_preview(words[1])
         else:
-            self.order(line)
+            self.send(line)
 
     def wait(self) -> None:
         self.traffic.start()
@@ -58,19 +58,19 @@ class Story:
         counts = "  ".join(f"{revision} {answered[revision]:4}" for revision in REVISIONS)
         print(f"    requests answered by  {counts}", flush=True)
 
-    def look_at_preview(self, wanted: str) -> None:
+    def look_at_preview(self, expected: str) -> None:
         answered = answered_by(PREVIEW)
         print(f"    the preview service is answered by {answered}")
-        if answered != wanted:
-            sys.exit(f"the preview service should be answered by {wanted}")
+        if answered != expected:
+            sys.exit(f"the preview service should be answered by {expected}")
 
-    def order(self, line: str) -> None:
+    def send(self, line: str) -> None:
         """Sends a line, and prints it with its reply; a report stands below its line."""
         with contextlib.closing(Operator(CONTROL)) as operator:
             if line == "report":
                 print(f"{line}\n{operator.report()}")
                 return
-            reply = operator.order(line)
+            reply = operator.answer_to(line)
         print(f"{line:34} => {reply}")
         if not reply.startswith("ok "):
             sys.exit("an order of the story was not carried out")
@@ -88,7 +88,7 @@ def main() -> None:
             story.tell(line.strip())
         traffic.end()
         with contextlib.closing(Operator(CONTROL)) as operator:
-            operator.order_quit()
+            operator.send_quit()
         last = switch.communicate(timeout=LONGEST)[0]
     finally:
         traffic.ended.set()

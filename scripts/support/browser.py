@@ -51,8 +51,8 @@ class Browser:
             if not comes(lambda: is_open(port)):
                 raise NoBrowser("the driver does not listen")
             arguments = [*ARGUMENTS, *extra, f"--user-data-dir={folder}/profile"]
-            wanted = {"goog:chromeOptions": {"binary": browser, "args": arguments}, "goog:loggingPrefs": {"browser": "ALL"}}
-            told = self.call("POST", "/session", {"capabilities": {"alwaysMatch": wanted}})
+            expected = {"goog:chromeOptions": {"binary": browser, "args": arguments}, "goog:loggingPrefs": {"browser": "ALL"}}
+            told = self.call("POST", "/session", {"capabilities": {"alwaysMatch": expected}})
         except (CallFailed, OSError) as error:
             self.close()
             raise NoBrowser(f"the browser does not start: {error}") from None

@@ -43,12 +43,12 @@ def fail(name: str, why: str) -> None:
     print(f"FAILED: {name}: {why}", flush=True)
 
 
-def check(name: str, got: object, wanted: object) -> None:
+def check(name: str, got: object, expected: object) -> None:
     """Counts whether this is what was wanted, and prints both where it isn't."""
-    if got == wanted:
+    if got == expected:
         COUNTS.add(True)
     else:
-        fail(name, f"{got!r}, not {wanted!r}")
+        fail(name, f"{got!r}, not {expected!r}")
 
 
 def check_within(name: str, seconds: float, most: float) -> None:

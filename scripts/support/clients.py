@@ -58,7 +58,7 @@ def send_in_pieces(connection: socket.socket, pieces: Iterable[bytes], pause: fl
             connection.sendall(piece)
 
 
-def exchanged(connection: socket.socket, text: bytes, *later: bytes) -> bytes | None:
+def answer_of(connection: socket.socket, text: bytes, *later: bytes) -> bytes | None:
     """What a client that sends these bytes, and others later, and ends its side, is answered, or None where the
     connection is reset."""
     try:
@@ -78,7 +78,7 @@ def exchanged(connection: socket.socket, text: bytes, *later: bytes) -> bytes | 
 def asked(port: int, text: bytes, *later: bytes) -> bytes | None:
     """What a client is answered that sends this and ends its side: see `exchanged`."""
     with connect(port) as client:
-        return exchanged(client, text, *later)
+        return answer_of(client, text, *later)
 
 
 class Timed(NamedTuple):

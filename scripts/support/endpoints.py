@@ -181,12 +181,12 @@ class Held:
     def __init__(self, body: bytes) -> None:
         self.body = body
         self.lock = threading.Lock()
-        self.waiting = self.closed = 0
+        self.pending = self.closed = 0
         self.is_free = threading.Event()
 
     def __call__(self, _: Request, connection: socket.socket) -> None:
         with self.lock:
-            self.waiting += 1
+            self.pending += 1
         connection.settimeout(0.05)
         while not self.is_free.is_set():
             with contextlib.suppress(TimeoutError):
@@ -202,7 +202,7 @@ class Held:
 
     def holds(self, count: int) -> bool:
         """Whether so many requests wait at a time that comes soon."""
-        return comes(lambda: self.waiting - self.closed >= count)
+        return comes(lambda: self.pending - self.closed >= count)
 
 
 def reset_at_once(_: Request, connection: socket.socket) -> None:

@@ -14,8 +14,8 @@ class Operator(Connection):
     def __init__(self, port: int) -> None:
         super().__init__(port, LONGEST)
 
-    def check(self, line: str, wanted: str) -> None:
-        check(line, self.order(line), wanted)
+    def check(self, line: str, expected: str) -> None:
+        check(line, self.answer_to(line), expected)
 
     def report(self) -> str:
         """The lines of a report, each with its end."""
@@ -36,7 +36,7 @@ class Operator(Connection):
         """How many requests of each revision are open."""
         return [revision.open for revision in self.state().revisions.values()]
 
-    def order_quit(self) -> None:
+    def send_quit(self) -> None:
         """Sends `quit`, which has no reply, and waits for nothing."""
         self.allow(LONGEST)
         self.send(b"quit")

@@ -23,7 +23,7 @@ def blocks_of(page: str, title: str) -> list[str]:
     return re.findall(r"^```sh\n(.*?)^```$", section, re.M | re.S)
 
 
-def wanted_of(block: str) -> list[str]:
+def expected_of(block: str) -> list[str]:
     """What the commands of a block print, as it says after each."""
     return re.findall(r"  # (.*)$", block, re.M)
 
@@ -60,7 +60,7 @@ class Session(NamedTuple):
         nothing listens any more."""
         check("blocks that were run", (len(self.printed), len(self.blocks) >= least), (len(self.blocks), True))
         for block, text in list(zip(self.blocks, self.printed))[first:]:
-            check(f"the block {block.splitlines()[0]}", text.splitlines(), wanted_of(block))
+            check(f"the block {block.splitlines()[0]}", text.splitlines(), expected_of(block))
         check("what still listens after the session", self.listening, [])
 
 

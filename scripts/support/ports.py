@@ -22,7 +22,7 @@ TABLE = pathlib.Path("/proc/net/tcp")
 LOCAL, STATE, INODE, LISTENS = 1, 3, 9, "0A"
 
 
-def ports_in_turn() -> Iterator[int]:
+def all_ports() -> Iterator[int]:
     """The ports of the running script's share, again and again, from a place on that differs from run to run."""
     first = FIRST_PORT + PORTS_EACH * SCRIPTS.index(pathlib.Path(sys.argv[0]).stem)
     start = os.getpid() % PORTS_EACH
@@ -34,7 +34,7 @@ class FreePorts:
     """Gives ports of the share in turn, to parts that run side by side too."""
 
     def __init__(self) -> None:
-        self.ports = ports_in_turn()
+        self.ports = all_ports()
         self.lock = threading.Lock()
 
     def take(self, count: int) -> list[int]:
@@ -84,8 +84,8 @@ def sockets_at(port: int) -> list[str]:
     """The states of the sockets of programs at a port of this machine, by the system's table, as it writes them."""
     place = f":{port:04X} "
     # the table may have tens of thousands of rows of connections that have ended, which aren't split
-    rows = [line.split() for line in TABLE.read_text(encoding="ascii").splitlines() if place in line]
-    return [row[STATE] for row in rows if row[LOCAL].endswith(place.rstrip()) and row[INODE] != "0"]
+    sockets = [line.split() for line in TABLE.read_text(encoding="ascii").splitlines() if place in line]
+    return [fields[STATE] for fields in sockets if fields[LOCAL].endswith(place.rstrip()) and fields[INODE] != "0"]
 
 
 def is_open(port: int) -> bool:

@@ -38,12 +38,12 @@ def full() -> re.Pattern[str]:
     return re.compile(r"bg_switch: the history is full; lines refused: (\d+), requests refused: (\d+)")
 
 
-def turned_away() -> re.Pattern[str]:
+def refused_connections() -> re.Pattern[str]:
     """Connections of users that aren't listed were turned away; the group is how many."""
     return re.compile(r"bg_switch: connections at the control port that are not of the users of BG_SWITCH_OPERATORS: (\d+)")
 
 
-def orders_told() -> re.Pattern[str]:
+def line_of_user() -> re.Pattern[str]:
     """An order was carried out; the groups are the number of its user, and the line."""
     return re.compile(r"bg_switch: user (\d+): (.+)")
 

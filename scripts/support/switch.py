@@ -104,10 +104,10 @@ class Switch:
     def operator(self) -> Operator:
         return Operator(self.control)
 
-    def order(self, line: str) -> str:
+    def answer_to(self, line: str) -> str:
         """The reply to a line that has a connection of its own."""
         with contextlib.closing(self.operator()) as operator:
-            return operator.order(line)
+            return operator.answer_to(line)
 
     def open_requests(self) -> list[int]:
         """How many requests of each revision are open."""
@@ -162,7 +162,7 @@ class Switch:
 
     def check_end_after(self, operator: Operator, name: str, calls: int) -> None:
         """The same, once this operator has ordered `quit`."""
-        operator.order_quit()
+        operator.send_quit()
         self.check_end(name, calls)
         operator.close()
 
@@ -208,7 +208,7 @@ def book(*, is_open: bool = True, rollout: str = BY_HAND, variables: Mapping[str
     switch = Switch(rollout, workers=2, variables=variables)
     check("listening", switch.first, LISTENING)
     if is_open:
-        check("open", switch.order(f"open one {Endpoint(by_target(b'one')).port}"), "ok 0")
+        check("open", switch.answer_to(f"open one {Endpoint(by_target(b'one')).port}"), "ok 0")
     try:
         yield switch
     finally:

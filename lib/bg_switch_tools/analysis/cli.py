@@ -91,8 +91,8 @@ def fault_of(given: argparse.Namespace) -> str:
     """What is wrong with words that are each right; empty where nothing is."""
     foreign = [name for name in (OF_PROMETHEUS if given.log is not None else OF_LOG) if getattr(given, name) not in (None, False)]
     if foreign:
-        form = "--prometheus" if given.log is not None else "--log"
-        return f"--{foreign[0].replace('_', '-')} belongs to {form}"
+        option = "--prometheus" if given.log is not None else "--log"
+        return f"--{foreign[0].replace('_', '-')} belongs to {option}"
     if given.log is not None:
         if given.seconds is None:
             return "--seconds is wanted"

@@ -13,7 +13,7 @@ WAIT = 1.0  # seconds for it to answer later
 NAME, NUMBER, CONTROL = "BG_REVISION", "BG_REVISION_NUMBER", "BG_CONTROL"  # variables of the controller
 
 
-class Subject:
+class JudgedRevision:
     """A revision. With a control port, its number is that of its name in the book that is open: a switch that was started again
     gives numbers anew. `name` is empty where it is not known."""
 
@@ -47,20 +47,20 @@ class Subject:
         self.name, self.number = found.name, found.number
 
 
-def subject_of(told: str, control: int | None, variables: Mapping[str, str] = os.environ) -> Subject:
+def subject_of(told: str, control: int | None, variables: Mapping[str, str] = os.environ) -> JudgedRevision:
     """The revision that was told by its name or number, or else the one that the controller tells by variables. `NotJudged`
     where its number can't be known."""
     name, number = variables.get(NAME, ""), variables.get(NUMBER, "")
     if told in ("", name) and number.isdigit():
-        return Subject(name, int(number), control or control_of(variables))
+        return JudgedRevision(name, int(number), control or control_of(variables))
     if not told:
         raise NotJudged("no revision is told: --revision names it, where no controller runs this")
     is_number = told.isascii() and told.isdigit()
     if control is None:
         if is_number:
-            return Subject("", int(told))
+            return JudgedRevision("", int(told))
         raise NotJudged(f"the number of {told} is not known: --control tells the port to ask, or --revision the number")
-    return asked_subject(Subject("" if is_number else told, int(told) if is_number else 0, control), control)
+    return asked_subject(JudgedRevision("" if is_number else told, int(told) if is_number else 0, control), control)
 
 
 def control_of(variables: Mapping[str, str]) -> int | None:
@@ -72,7 +72,7 @@ def control_of(variables: Mapping[str, str]) -> int | None:
         raise NotJudged(f"{CONTROL}: {reason}") from None
 
 
-def asked_subject(subject: Subject, control: int) -> Subject:
+def asked_subject(subject: JudgedRevision, control: int) -> JudgedRevision:
     """A revision with the number and name that the switch tells. `NotJudged` where it tells none."""
     told = subject.name or subject.number
     try:

@@ -2,11 +2,11 @@
 import time
 from collections.abc import Sequence
 
-from bg_switch_tools.analysis.judged_revision import Subject
+from bg_switch_tools.analysis.judged_revision import JudgedRevision
 from bg_switch_tools.analysis.measurements import Analyser, Limits, Measurement
 from bg_switch_tools.analysis.revision_requests import ByNeighbours, ByReports, Services, services_of
 from bg_switch_tools.analysis.verdicts import FAILED, HELD, SUCCESSFUL, NotJudged, failed_text, tell
-from bg_switch_tools.switch.access_log import Entry, Follower
+from bg_switch_tools.switch.access_log import Follower, LogEntry
 from bg_switch_tools.switch.reports import Report
 
 LOOK = 0.25  # seconds between two looks into the log
@@ -18,7 +18,7 @@ CATCH_UP = 3.0  # seconds at the end for what stands in the log: the switch make
 class Requests:
     """The requests of a revision, as they come into the log."""
 
-    def __init__(self, follower: Follower, subject: Subject) -> None:
+    def __init__(self, follower: Follower, subject: JudgedRevision) -> None:
         self.follower = follower
         self.subject = subject
         self.asked_at = time.monotonic()
@@ -30,7 +30,7 @@ class Requests:
     def _services(self, report: Report | None) -> Services:
         return services_of(report, self.subject.number)
 
-    def read(self) -> Sequence[Entry]:
+    def read(self) -> Sequence[LogEntry]:
         """Those that have come since the last time, up to a piece of the log."""
         batch = self.follower.read()
         self.lost += batch.lost
@@ -39,7 +39,7 @@ class Requests:
         found = self.selections.take(batch.entries, self.subject.number)
         return [*found, *self.ask()] if time.monotonic() >= self.asked_at + REPORT else found
 
-    def ask(self) -> Sequence[Entry]:
+    def ask(self) -> Sequence[LogEntry]:
         """Asks the switch which services select the revision. Gives requests without an endpoint that are the revision's by its
         answer; where it gives none, by the answer before. `NotJudged` where the revision is gone."""
         if not isinstance(self.selections, ByReports):
@@ -59,7 +59,7 @@ class Requests:
 class LogAnalysis:
     """An analysis that runs."""
 
-    def __init__(self, follower: Follower, subject: Subject, limits: Limits) -> None:
+    def __init__(self, follower: Follower, subject: JudgedRevision, limits: Limits) -> None:
         self.follower = follower
         self.subject = subject
         self.requests = Requests(follower, subject)
@@ -89,7 +89,7 @@ class LogAnalysis:
 
     def tell_measurement(self, seconds: float, measurement: Measurement | None) -> None:
         if measurement is None:
-            self.tell(f"{seconds:g} s: {len(self.analyser.waiting)} requests are too few, and wait")
+            self.tell(f"{seconds:g} s: {len(self.analyser.unjudged)} requests are too few, and wait")
             return
         self.tell(f"{seconds:g} s: {measurement.text()}: {'; '.join(measurement.problems) or 'the limits hold'}")
 
@@ -127,7 +127,7 @@ class LogAnalysis:
         if self.analyser.has_failed:
             return self.tell_failed()
         if not self.analyser.has_judged:
-            raise NotJudged(f"{len(self.analyser.waiting)} requests came in {seconds:g} seconds, and "
+            raise NotJudged(f"{len(self.analyser.unjudged)} requests came in {seconds:g} seconds, and "
                             f"{self.analyser.limits.requests} are needed{self.unknown()}")
         self.tell(f"{HELD}{self.unknown()}")
         return SUCCESSFUL

@@ -3,7 +3,7 @@ import math
 from collections.abc import Sequence
 from typing import NamedTuple
 
-from bg_switch_tools.switch.access_log import Entry
+from bg_switch_tools.switch.access_log import LogEntry
 
 SILENCE = "no request has come"
 
@@ -25,7 +25,7 @@ class Request(NamedTuple):
     duration: float | None
 
 
-def request_of(entry: Entry, limits: Limits) -> Request:
+def request_of(entry: LogEntry, limits: Limits) -> Request:
     if entry.is_without_endpoint:
         return Request(True, None)  # a refusal is fast, and says nothing of the revision's durations
     return Request(entry.is_error, entry.upstream_ms if limits.by_endpoint else entry.duration_ms)
@@ -90,13 +90,13 @@ class Analyser:
 
     def __init__(self, limits: Limits) -> None:
         self.limits = limits
-        self.waiting: list[Request] = []  # not judged yet
+        self.unjudged: list[Request] = []  # not judged yet
         self.came = 0  # requests of the present window
         self.has_seen = False  # whether an earlier window had requests
         self.measured = self.failed = 0  # measurements
 
-    def take(self, entries: Sequence[Entry]) -> None:
-        self.waiting += [request_of(entry, self.limits) for entry in entries]
+    def take(self, entries: Sequence[LogEntry]) -> None:
+        self.unjudged += [request_of(entry, self.limits) for entry in entries]
         self.came += len(entries)
 
     def end_window(self, can_be_silent: bool = True) -> Measurement | None:
@@ -106,15 +106,15 @@ class Analyser:
         if came == 0 and self.has_seen and can_be_silent and not self.limits.is_silence_allowed:
             return self._counted(Measurement(0, 0, None, (SILENCE,)))
         self.has_seen = self.has_seen or came > 0
-        if len(self.waiting) < max(self.limits.requests, 1):
+        if len(self.unjudged) < max(self.limits.requests, 1):
             return None
-        waiting, self.waiting = self.waiting, []
-        return self._counted(measure(waiting, self.limits))
+        unjudged, self.unjudged = self.unjudged, []
+        return self._counted(measure(unjudged, self.limits))
 
     def end_rest(self) -> Measurement | None:
         """The failed measurement of what still waits after the last window; None where it has not failed, or where no window was
         measured: requests that are too few in all are not judged."""
-        rest = measure_few(self.waiting, self.limits) if self.waiting and self.has_judged else None
+        rest = measure_few(self.unjudged, self.limits) if self.unjudged and self.has_judged else None
         return self._counted(rest) if rest and rest.problems else None
 
     def _counted(self, measurement: Measurement) -> Measurement:

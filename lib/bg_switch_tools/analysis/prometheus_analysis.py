@@ -5,7 +5,7 @@ import time
 from collections.abc import Sequence
 from typing import NamedTuple
 
-from bg_switch_tools.analysis.judged_revision import Subject
+from bg_switch_tools.analysis.judged_revision import JudgedRevision
 from bg_switch_tools.analysis.prometheus_query import NoAnswer, Server, query_values
 from bg_switch_tools.analysis.verdicts import FAILED, HELD, SUCCESSFUL, NotJudged, failed_text, tell
 from bg_switch_tools.switch.json_values import NAME
@@ -14,7 +14,7 @@ ARGUMENT = re.compile(r"\{\{\s*args\.([\w-]+)\s*\}\}")
 LONGEST_RETRY = 10.0  # seconds until a query without an answer is made again, at most
 
 
-class Condition(NamedTuple):
+class QueryLimits(NamedTuple):
     """What each value of a result has to be, where these are limits; and how many measurements there are, how many of them may
     fail and be inconclusive, and how many queries may have no answer in a row."""
     at_most: float | None
@@ -40,7 +40,7 @@ class Result(NamedTuple):
         return "it is inconclusive" if self.is_inconclusive else "; ".join(self.problems) or "the limits hold"
 
 
-def judged(values: Sequence[float], condition: Condition) -> Result:
+def judged(values: Sequence[float], condition: QueryLimits) -> Result:
     """What the values of a query come to."""
     if not values or any(math.isnan(value) for value in values):
         return Result(values, (), True)
@@ -52,7 +52,7 @@ def judged(values: Sequence[float], condition: Condition) -> Result:
     return Result(values, tuple(problems), False)
 
 
-def filled(query: str, subject: Subject | None) -> str:
+def filled(query: str, subject: JudgedRevision | None) -> str:
     """A query whose `{{args.revision}}` and `{{args.revision-number}}` are those of a revision. `NotJudged` where it has another
     argument, or one that is not known."""
     known = {"revision": subject.name, "revision-number": str(subject.number)} if subject else {}
@@ -68,7 +68,7 @@ def filled(query: str, subject: Subject | None) -> str:
 class PrometheusAnalysis:
     """An analysis that runs."""
 
-    def __init__(self, server: Server, query: str, title: str, condition: Condition) -> None:
+    def __init__(self, server: Server, query: str, title: str, condition: QueryLimits) -> None:
         self.server = server
         self.query = query
         self.title = title

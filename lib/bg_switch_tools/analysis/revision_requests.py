@@ -6,7 +6,7 @@ requests before it do.
 """
 from collections.abc import Collection, Sequence
 
-from bg_switch_tools.switch.access_log import CLIENT_SERVICES, Entry
+from bg_switch_tools.switch.access_log import CLIENT_SERVICES, LogEntry
 from bg_switch_tools.switch.reports import Report
 
 Services = frozenset[str]
@@ -26,14 +26,14 @@ class ByReports:
 
     def __init__(self, services: Services) -> None:
         self.services = services
-        self.held: list[Entry] = []  # since the last report
+        self.held: list[LogEntry] = []  # since the last report
 
-    def take(self, entries: Sequence[Entry], number: int) -> list[Entry]:
+    def take(self, entries: Sequence[LogEntry], number: int) -> list[LogEntry]:
         """Those of these entries that are the revision's. Some are given later, by `take_services`."""
         self.held += [entry for entry in entries if entry.is_without_endpoint]
         return [entry for entry in entries if entry.revision == number]
 
-    def take_services(self, services: Services) -> list[Entry]:
+    def take_services(self, services: Services) -> list[LogEntry]:
         """Takes in which services select the revision now. Gives the entries before this that are the revision's."""
         both, held = self.services & services, self.held
         self.services, self.held = services, []
@@ -52,11 +52,11 @@ class ByNeighbours:
 
     def __init__(self) -> None:
         self.latest: dict[str, tuple[float, int]] = {}  # by the service: when its latest request began, and its revision
-        self.held: dict[str, list[Entry]] = {service: [] for service in CLIENT_SERVICES}  # before the first request
+        self.held: dict[str, list[LogEntry]] = {service: [] for service in CLIENT_SERVICES}  # before the first request
 
-    def take(self, entries: Sequence[Entry], number: int) -> list[Entry]:
+    def take(self, entries: Sequence[LogEntry], number: int) -> list[LogEntry]:
         """Those of these entries that are the revision's, and those held before which turn out to be."""
-        found: list[Entry] = []
+        found: list[LogEntry] = []
         for entry in entries:
             if entry.revision is not None:
                 found += self._entered(entry, entry.revision, number)
@@ -64,7 +64,7 @@ class ByNeighbours:
                 found += self._refused(entry, number)
         return found
 
-    def _entered(self, entry: Entry, revision: int, number: int) -> Collection[Entry]:
+    def _entered(self, entry: LogEntry, revision: int, number: int) -> Collection[LogEntry]:
         known = self.latest.get(entry.service)
         if known is None or entry.begun >= known[0]:
             self.latest[entry.service] = (entry.begun, revision)
@@ -74,7 +74,7 @@ class ByNeighbours:
         held, self.held[entry.service] = self.held[entry.service], []
         return [*held, entry]
 
-    def _refused(self, entry: Entry, number: int) -> Collection[Entry]:
+    def _refused(self, entry: LogEntry, number: int) -> Collection[LogEntry]:
         known = self.latest.get(entry.service)
         if known is None:
             held = self.held[entry.service]

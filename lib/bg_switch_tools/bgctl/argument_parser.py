@@ -6,7 +6,7 @@ from typing import NoReturn
 
 from bg_switch_tools import VERSION
 from bg_switch_tools.analysis import cli as analysis_cli
-from bg_switch_tools.bgctl.commands import COMMANDS, END, LINE_WORDS, NAMES, Command
+from bg_switch_tools.bgctl.commands import BGCTL_COMMANDS, END, LINE_WORDS, NAMES, Command
 from bg_switch_tools.bgctl.suggestion import did_you_mean
 from bg_switch_tools.bgctl.target import BEFORE
 from bg_switch_tools.dashboard.cli import listened_port
@@ -158,7 +158,7 @@ ARGUMENTS: dict[str, Callable[[argparse.ArgumentParser], None]] = {
 def parser(files: object = None) -> argparse.ArgumentParser:
     """The parser of bgctl. What `files` is, each argument that is a file is marked with for shtab."""
     building = Building(files)
-    for command in COMMANDS:
+    for command in BGCTL_COMMANDS:
         if command.name == "analysis":
             building.add(command, analysis_cli.parser())
             continue

@@ -26,7 +26,7 @@ PAUSED_BY_PLAN = "only a controller is paused"
 ASKED = "_ARGCOMPLETE"  # the variable by which argcomplete's code for a shell asks for completions
 
 
-class Run:
+class CommandRun:
     """A run of one command, by the words that were given."""
 
     def __init__(self, given: argparse.Namespace, words: Sequence[str]) -> None:
@@ -66,7 +66,7 @@ class Run:
     def line(self) -> int:
         if self.given.words:
             return self.session().line(" ".join(self.given.words))
-        return self.session().carry_out(line.removesuffix(b"\n") for line in sys.stdin.buffer)
+        return self.session().send_lines(line.removesuffix(b"\n") for line in sys.stdin.buffer)
 
     def prompt(self) -> int:
         return self.session().prompt()
@@ -107,8 +107,8 @@ class Run:
 
     def run(self) -> int:
         """Carries the command out. Gives the exit status."""
-        carry_out: Callable[[], int] = getattr(self, self.given.command)
-        return carry_out()
+        method: Callable[[], int] = getattr(self, self.given.command)
+        return method()
 
 
 def judge(made: argparse.ArgumentParser, given: argparse.Namespace) -> None:
@@ -163,4 +163,4 @@ def main(words: Sequence[str]) -> int:
     judge(made, given)
     if hasattr(sys.stdout, "reconfigure"):
         sys.stdout.reconfigure(errors="replace")
-    return guarded(Run(given, [] if place is None else words[place + 1:]).run)
+    return guarded(CommandRun(given, [] if place is None else words[place + 1:]).run)

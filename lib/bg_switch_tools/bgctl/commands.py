@@ -13,7 +13,7 @@ class Command(NamedTuple):
     more: str = ""
 
 
-COMMANDS = (
+BGCTL_COMMANDS = (
     Command("status", "shows the state in one line", "bgctl status --control 8082"),
     Command("watch", "draws the state once a second, and each change, up to ctrl-C", "bgctl watch"),
     Command("deploy", "deploys a revision", "bgctl deploy web-v2 9201 9202 --plan plan.json --wait",
@@ -48,13 +48,13 @@ COMMANDS = (
     Command("dashboard", "shows the switch as a web page, and gives its metrics", "bgctl dashboard --listen 8090 --log access.log",
             "docs/DASHBOARD.md explains the page and the metrics."),
 )
-NAMES = tuple(command.name for command in COMMANDS)
+NAMES = tuple(command.name for command in BGCTL_COMMANDS)
 FIRST_ONES = ("status", "watch", "deploy", "promote", "undo")
-LINE_WORDS = tuple(dict.fromkeys(line.form.split()[0] for line in LINES))
+LINE_WORDS = tuple(dict.fromkeys(line.syntax.split()[0] for line in LINES))
 
 NEWCOMER = "\n".join((
     "bgctl operates a blue-green switch and its controller. The five commands to begin with:", "",
-    *(f"  {command.name:8} {command.meaning}" for name in FIRST_ONES for command in COMMANDS if command.name == name), "",
+    *(f"  {command.name:8} {command.meaning}" for name in FIRST_ONES for command in BGCTL_COMMANDS if command.name == name), "",
     "A release, with the control port of the plan:", "",
     "  export BG_PLAN=/etc/bg_switch/plan.json",
     "  bgctl deploy web-v2 9201 9202",

@@ -4,8 +4,8 @@ from collections.abc import Sequence
 from bg_switch_tools.bgctl.exit_statuses import DONE, REFUSED
 from bg_switch_tools.bgctl.session import Session, tell
 from bg_switch_tools.bgctl.target import Target, Unusable
-from bg_switch_tools.bgctl.undo_target import Known, revision_to_undo_to
-from bg_switch_tools.controller.announced_deploy import Announced
+from bg_switch_tools.bgctl.undo_target import KnownRevisions, revision_to_undo_to
+from bg_switch_tools.controller.announced_deploy import AnnouncedDeploy
 from bg_switch_tools.controller.attempts import Attempt
 from bg_switch_tools.controller.history_file import HistoryFile
 from bg_switch_tools.controller.pause import PauseFile
@@ -51,7 +51,7 @@ def deploy(session: Session, target: Target, revision: PlannedRevision, waits: b
         status = session.line(f"deploy {revision.words}")
     else:
         was_last = (plan := target.plan()) is not None and plan.last == revision
-        is_over = was_last and Announced(target.path).name() is None
+        is_over = was_last and AnnouncedDeploy(target.path).name() is None
         status = _edit(target.path, revision) or (session.line(f"deploy {revision.words}") if is_over else DONE)
     return session.wait_for([f"stable={revision.name}"]) if waits and status == DONE else status
 
@@ -70,7 +70,7 @@ def undo(session: Session, target: Target, to: str | None, ports: Sequence[int],
     report = session.report()
     if report is None:
         raise Unusable("no book is open, so there is nothing to undo")
-    revision = revision_to_undo_to(Known(report, _attempts(target), target.plan()), to, ports)
+    revision = revision_to_undo_to(KnownRevisions(report, _attempts(target), target.plan()), to, ports)
     if revision.name != report.newest.name:
         tell(f"takes {revision.name} again, in the place of {report.newest.name}")
     return deploy(session, target, revision, waits)

@@ -33,7 +33,7 @@ def _live_for(attempt: Attempt, now: str) -> str:
     return duration(seconds) if seconds else "-"
 
 
-def _row(attempt: Attempt, now: str) -> tuple[str, ...]:
+def _cells(attempt: Attempt, now: str) -> tuple[str, ...]:
     how = attempt.how or ("runs" if attempt.begun else "")
     return (attempt.begun or "before", f"{attempt.number} {attempt.name}", _by(attempt), how, _live_for(attempt, now))
 
@@ -47,9 +47,9 @@ def as_json(attempt: Attempt, now: str) -> dict[str, object]:
 
 def table(attempts: list[Attempt], now: str) -> list[str]:
     """The lines of a table with a row for each attempt."""
-    rows = [TITLES, *(_row(attempt, now) for attempt in attempts)]
-    widths = [max(len(row[column]) for row in rows) for column in range(len(TITLES))]
-    return ["  ".join(cell.ljust(width) for cell, width in zip(row, widths)).rstrip() for row in rows]
+    lines_of_cells = [TITLES, *(_cells(attempt, now) for attempt in attempts)]
+    widths = [max(len(cells[column]) for cells in lines_of_cells) for column in range(len(TITLES))]
+    return ["  ".join(cell.ljust(width) for cell, width in zip(cells, widths)).rstrip() for cells in lines_of_cells]
 
 
 def show(plan_path: str, last: int, is_json: bool) -> int:

@@ -35,4 +35,4 @@ class Session(Operator):
 
     def line(self, text: str) -> int:
         """Carries one line out. Gives the exit status."""
-        return self.carry_out([text.encode("utf-8", "surrogateescape")])
+        return self.send_lines([text.encode("utf-8", "surrogateescape")])

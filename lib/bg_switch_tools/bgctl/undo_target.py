@@ -8,7 +8,7 @@ from bg_switch_tools.controller.plan import Plan, PlannedRevision
 from bg_switch_tools.switch.reports import Report
 
 
-class Known:
+class KnownRevisions:
     """What is known of revisions: the report, the history (none without a plan), and the plan."""
 
     def __init__(self, report: Report, attempts: Sequence[Attempt], plan: Plan | None) -> None:
@@ -55,7 +55,7 @@ class Known:
         return next((attempt.ports for attempt in reversed(self.attempts) if attempt.name == name and attempt.ports), ())
 
 
-def revision_to_undo_to(known: Known, to: str | None, ports: Sequence[int]) -> PlannedRevision:
+def revision_to_undo_to(known: KnownRevisions, to: str | None, ports: Sequence[int]) -> PlannedRevision:
     """The revision that an undo takes again, with its ports; `ports` are used where they are given. `Unusable` where either is not
     known."""
     name = known.named(to) if to else known.before()

@@ -6,7 +6,7 @@ from bg_switch_tools.controller.plan import PlannedRevision
 from bg_switch_tools.controller.process_groups import Group, ProcessId
 from bg_switch_tools.switch.reports import Revision
 
-AWAITED = {"preAnalysis": "pre", "postAnalysis": "post"}  # by the phase: the analysis that it waits for
+ANALYSIS_OF_PHASE = {"preAnalysis": "pre", "postAnalysis": "post"}  # by the phase: the analysis that it waits for
 VERDICTS = {0: "successful", 1: "failed"}  # by the exit status; any other is an error
 
 

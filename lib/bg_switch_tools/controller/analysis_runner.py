@@ -1,7 +1,7 @@
 """Runs the analysis that a phase asks for, and hands its verdict in."""
 import threading
 
-from bg_switch_tools.controller.analysis_process import AWAITED, Analysis
+from bg_switch_tools.controller.analysis_process import ANALYSIS_OF_PHASE, Analysis
 from bg_switch_tools.controller.book import Book
 from bg_switch_tools.controller.log import Log, Once
 from bg_switch_tools.controller.memory import Memory
@@ -35,7 +35,7 @@ class AnalysisRunner:
         """Runs the analysis that the phase asks for. A verdict is handed in on the connection whose report shows that the
         phase and the revision are those of the analysis. While the controller is paused, none is."""
         self._note_end()
-        name, newest = AWAITED.get(report.phase), report.newest
+        name, newest = ANALYSIS_OF_PHASE.get(report.phase), report.newest
         if self.analysis and not self.analysis.is_for(name, newest):
             self.end("its phase has ended")
         if name is None:
@@ -58,7 +58,7 @@ class AnalysisRunner:
             self.once.say("held", newest, f"gets no verdict {self.analysis.name} successful while none of its endpoints is up",
                           "analysis")
             return
-        if was_carried_out(book.order(connection, f"verdict {self.analysis.name} {verdict}")):
+        if was_carried_out(book.send(connection, f"verdict {self.analysis.name} {verdict}")):
             self.end("")
 
     def _note_end(self) -> None:

@@ -5,7 +5,7 @@ from bg_switch_tools.controller.plan_reader import WrongPlan
 from bg_switch_tools.controller.state_file import NoState, StateFile
 
 
-class Announced:
+class AnnouncedDeploy:
     """Looks at a plan and at the state file that its controller keeps beside it."""
 
     def __init__(self, path: str) -> None:

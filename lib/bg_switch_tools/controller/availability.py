@@ -49,7 +49,7 @@ class DownPorts:
         if was_carried_out(reply):
             self.sent, self.next = ports, time.monotonic() + AFRESH
             if is_change:
-                self.log.order(line, reply)
+                self.log.say_reply(line, reply)
         elif not self.is_known:
             self.next = time.monotonic() + AFRESH
             if not self.is_fault_told:
@@ -97,7 +97,7 @@ class Availability:
                 continue
             up = self.count(plan, planned.ports)
             if up is not None and min(up, revision.desired) != revision.available:
-                book.order(connection, f"available {number} {min(up, revision.desired)}")
+                book.send(connection, f"available {number} {min(up, revision.desired)}")
 
     def watch_live(self, book: Book, connection: Connection, plan: Plan, report: Report, known: Revisions) -> None:
         """Tells when no endpoint of the active revision is up, and ends an attempt that has brought this about."""
@@ -108,7 +108,7 @@ class Availability:
         if report.is_running and live == report.newest != report.stable and seconds >= plan.progress.outage:
             self.once.say("outage", live, f"has had no endpoint that is up for {plan.progress.outage:g} seconds, so its attempt ends",
                           "outage")
-            book.order(connection, "verdict post error" if report.phase == "postAnalysis" else "abort")
+            book.send(connection, "verdict post error" if report.phase == "postAnalysis" else "abort")
         else:
             self.once.forget("outage", live)
 

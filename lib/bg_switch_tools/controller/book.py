@@ -20,13 +20,13 @@ class Book:
         self.seen = 0.0  # the time of the latest report
         self.lost: Report | None = None  # the latest report of the book that was open before, up to the next opening
         self.was_lost = False  # whether the book of an earlier report was found to be gone
-        self.has_ordered = False  # whether an order was carried out since the latest report
+        self.has_sent = False  # whether an order was carried out since the latest report
         self.refused: dict[str, float] = {}  # by the line: from when on its refusal is told again
 
     def report(self, connection: Connection) -> Report | None:
         """The report, or None where no book is open."""
         report = read_report(connection.answer(b"report"))
-        self.has_ordered = False
+        self.has_sent = False
         if self.latest and (report is None or is_another_book(self.latest, report)):
             self.log.say("switch", "the switch was started again: the book that was open is gone")
             self.log.say("switch", last_seen(self.latest, time.monotonic() - self.seen))
@@ -57,7 +57,7 @@ class Book:
             raise Unreachable("the book was closed in the middle of a turn")
         return report
 
-    def order(self, connection: Connection, line: str) -> str:
+    def send(self, connection: Connection, line: str) -> str:
         """Sends an order, and gives its reply."""
         return self.note(line, connection.answer(line.encode("ascii"))[0])
 
@@ -65,11 +65,11 @@ class Book:
         """Puts the reply to an order into the log: that of a tick only where it is refused, a refusal once a minute."""
         kind, now = "tick" if line.startswith("tick ") else line, time.monotonic()
         if was_carried_out(reply):
-            self.has_ordered = True
+            self.has_sent = True
             self.refused.pop(kind, None)
             if kind != "tick":
-                self.log.order(line, reply)
+                self.log.say_reply(line, reply)
         elif now >= self.refused.get(kind, 0):
             self.refused[kind] = now + AGAIN
-            self.log.order(line, reply)
+            self.log.say_reply(line, reply)
         return reply

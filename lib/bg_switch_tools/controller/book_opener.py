@@ -20,7 +20,7 @@ class Unfit(Exception):
     """The switch can't be opened with the plan's revisions. The text says why."""
 
 
-class Opening:
+class BookOpener:
     """What is done while no book is open, and directly after one was opened."""
 
     def __init__(self, log: Log, memory: Memory, book: Book, availability: Availability) -> None:

@@ -113,7 +113,7 @@ class Runner:
         pause = 0.0
         while not self.unfit and not self.stopping.wait(pause):
             self._read_again()
-            pause = self._turn()
+            pause = self._round()
         self.controller.end()
         if not self.unfit:
             self.log.say("end", "ends; the switch goes on")
@@ -129,14 +129,14 @@ class Runner:
             for problem in wrong.problems:
                 self.log.say("plan", f"the plan is wrong, so the one before stands: {problem}")
 
-    def _turn(self) -> float:
+    def _round(self) -> float:
         """Gives the seconds until the next turn."""
         try:
             with Connection(self.controller.plan.control, CONNECT) as connection:
                 self.connection = connection
                 connection.allow(ANSWER)
                 self._read_again()  # the plan may have changed while the switch was down
-                pause = self.controller.turn(connection) if connection.port == self.controller.plan.control else 0.0
+                pause = self.controller.do_round(connection) if connection.port == self.controller.plan.control else 0.0
             self.silence.end()
             return pause
         except (Unreachable, NoReport) as reason:

@@ -6,8 +6,8 @@ import time
 from bg_switch_tools.controller.analysis_runner import AnalysisRunner
 from bg_switch_tools.controller.availability import Availability
 from bg_switch_tools.controller.book import AGAIN, Book
-from bg_switch_tools.controller.book_opener import Opening
-from bg_switch_tools.controller.history_recorder import Recorder
+from bg_switch_tools.controller.book_opener import BookOpener
+from bg_switch_tools.controller.history_recorder import HistoryRecorder
 from bg_switch_tools.controller.launcher import Launcher
 from bg_switch_tools.controller.log import Log, Once
 from bg_switch_tools.controller.memory import Memory
@@ -21,7 +21,7 @@ from bg_switch_tools.switch.lines import was_carried_out
 from bg_switch_tools.switch.moments import Clock
 from bg_switch_tools.switch.reports import Report
 
-TURN = 0.2  # seconds between two turns: an order of somebody else is known after that, and kept
+ROUND = 0.2  # seconds between two turns: an order of somebody else is known after that, and kept
 SOON = 0.05  # seconds until the next turn where something is awaited that comes soon
 
 
@@ -38,11 +38,11 @@ class Controller:
         log.tell = self.notifier.take
         self.memory = Memory(path, plan, log)
         self.pause = Pause(path, log)
-        self.history = Recorder(path, log, self.memory.state.deployed)
+        self.history = HistoryRecorder(path, log, self.memory.state.deployed)
         self.book = Book(log)
         self.clock = Clock()
         self.availability = Availability(log, self.once, probes)
-        self.opening = Opening(log, self.memory, self.book, self.availability)
+        self.opening = BookOpener(log, self.memory, self.book, self.availability)
         self.analyses = AnalysisRunner(folder, log, self.once, self.memory, probes)
         self.launcher = Launcher(folder, log, self.memory, probes)
         self.progress = ProgressClock()
@@ -67,22 +67,22 @@ class Controller:
         self.notifier.commands = plan.commands
         self._watch_endpoints()
 
-    def turn(self, connection: Connection) -> float:
+    def do_round(self, connection: Connection) -> float:
         """One turn. Gives the seconds until the next one. `Unreachable` where the switch stops answering in the middle."""
         self.pause.look()
         report = self._open_book(connection)
         if report is None:
-            return SOON if self.opening.is_early() else TURN
+            return SOON if self.opening.is_early() else ROUND
         self.opening.check_sizes(self.plan, report)
         self.history.take_in(report, self.memory.revisions(self.plan))
         report = self._tick(connection, report)
         for step in (self._adopt, self._report_availability, self._judge, self._limit_progress, self._launch, self._deploy):
             step(connection, report)
-        if self.book.has_ordered:
+        if self.book.has_sent:
             report = self.book.open_report(connection)
         self.memory.take_in(self.plan, report)
         self._watch_endpoints()
-        return TURN
+        return ROUND
 
     def end(self) -> None:
         """The last thing that is done: the commands that run are stopped, and the moment is kept."""
@@ -100,7 +100,7 @@ class Controller:
         if report is not None:
             self.opening.settle(self.plan, report)
             return report
-        self.launcher.turn(self.plan, None, self.memory.revisions(self.plan), self.memory.to_open(self.plan))
+        self.launcher.start_and_stop(self.plan, None, self.memory.revisions(self.plan), self.memory.to_open(self.plan))
         if not self.opening.open(connection, self.plan):
             return None
         self.clock.begin_at(self.memory.state.moment)
@@ -120,7 +120,7 @@ class Controller:
         self.clock.follow(report.moment)
         if self.clock.moment() <= report.moment:
             return report
-        self.book.order(connection, f"tick {self.clock.moment()}")
+        self.book.send(connection, f"tick {self.clock.moment()}")
         return self.book.open_report(connection)
 
     def _adopt(self, _: Connection, report: Report) -> None:
@@ -153,7 +153,7 @@ class Controller:
         self.once.say("progress", newest, f"has made no progress for {limit.seconds:g} seconds: {newest.available} of "
                       f"{newest.desired} endpoints are up")
         if limit.abort:
-            self.book.order(connection, "abort")
+            self.book.send(connection, "abort")
 
     def _coming(self, report: Report) -> PlannedRevision | None:
         """The plan's last revision, where it is to be deployed: once, so that what is undone by hand stays undone until the plan
@@ -168,7 +168,7 @@ class Controller:
         return last
 
     def _launch(self, _: Connection, report: Report) -> None:
-        self.launcher.turn(self.plan, report, self.memory.revisions(self.plan), self._coming(report))
+        self.launcher.start_and_stop(self.plan, report, self.memory.revisions(self.plan), self._coming(report))
 
     def _deploy(self, connection: Connection, report: Report) -> None:
         """Deploys the plan's last revision, once its endpoints were started."""
@@ -176,7 +176,7 @@ class Controller:
         if last is None or self.pause.is_on or time.monotonic() < self.next_deploy or not self.launcher.is_ready(self.plan, last):
             return
         self.history.announce(last)
-        reply = self.book.order(connection, f"deploy {last.words}")
+        reply = self.book.send(connection, f"deploy {last.words}")
         if was_carried_out(reply):
             self.memory.set_begun(last)
         elif reply == "refused SameTemplate":

@@ -11,7 +11,7 @@ from bg_switch_tools.switch.reports import Report, Revision
 PLAN, LINE = "plan", "line"  # by whom: an edit of the plan by other means than bgctl; a line that somebody sent to the switch
 
 
-class Recorder:
+class HistoryRecorder:
     """Notes what a report shows that the ones before have not shown."""
 
     def __init__(self, plan_path: str, log: Log, deployed: PlannedRevision | None) -> None:

@@ -40,7 +40,7 @@ class Endpoint:
     pause: float = FIRST_PAUSE
     next: float = 0.0
 
-    def turn_to(self, kind: str) -> None:
+    def require(self, kind: str) -> None:
         """From now on a command of this kind is wanted."""
         if self.kind != kind:
             self.kind, self.done, self.pause, self.next = kind, "", FIRST_PAUSE, 0.0
@@ -64,26 +64,26 @@ class Launcher:
         self.leftovers = [begin_end(command, GRACE) for command in left]
         self.endings: list[threading.Thread] = []
 
-    def turn(self, plan: Plan, report: Report | None, known: Revisions, coming: PlannedRevision | None) -> None:
+    def start_and_stop(self, plan: Plan, report: Report | None, known: Revisions, coming: PlannedRevision | None) -> None:
         """Starts and stops what this report asks for; `coming` is the revision that is deployed or opened next."""
         self.leftovers = [thread for thread in self.leftovers if thread.is_alive()]
         if self.leftovers:
             return  # a command of the controller before still runs
         self._collect(plan)
-        wanted = self._wanted(report, known, coming)
+        needed = self._needed(report, known, coming)
         if plan.commands.start or plan.commands.stop:
-            self._register(wanted)
-            self._stop(plan, report, wanted)
+            self._register(needed)
+            self._stop(plan, report, needed)
         if plan.commands.start:
-            self._start(plan, wanted)
+            self._start(plan, needed)
 
     @staticmethod
-    def _wanted(report: Report | None, known: Revisions, coming: PlannedRevision | None) -> list[PlannedRevision]:
+    def _needed(report: Report | None, known: Revisions, coming: PlannedRevision | None) -> list[PlannedRevision]:
         """The revisions whose endpoints are to run: also those whose requests are still open."""
-        wanted = [coming] if coming else []
+        needed = [coming] if coming else []
         if report is not None:
-            wanted += [known[name] for name in needed_names(report) if name in known]
-        return list(dict.fromkeys(wanted))
+            needed += [known[name] for name in needed_names(report) if name in known]
+        return list(dict.fromkeys(needed))
 
     def is_ready(self, plan: Plan, revision: PlannedRevision) -> bool:
         """Whether the revision can be deployed: no port is still that of another revision, and each endpoint is up, or its
@@ -99,18 +99,18 @@ class Launcher:
             return False
         return self.probes.is_down(key[1]) is False or (endpoint.kind, endpoint.done) == ("start", "start")
 
-    def _register(self, wanted: Collection[PlannedRevision]) -> None:
+    def _register(self, needed: Collection[PlannedRevision]) -> None:
         """Remembers that these are to be stopped one day, before the first of them is started."""
         started = self.memory.state.started
-        self.memory.set_started((*started, *(revision for revision in wanted if revision not in started)))
+        self.memory.set_started((*started, *(revision for revision in needed if revision not in started)))
 
-    def _start(self, plan: Plan, wanted: Collection[PlannedRevision]) -> None:
+    def _start(self, plan: Plan, needed: Collection[PlannedRevision]) -> None:
         """Starts the endpoints that are down."""
-        for key in [(revision, port) for revision in wanted for port in revision.ports]:
+        for key in [(revision, port) for revision in needed for port in revision.ports]:
             endpoint = self.endpoints.setdefault(key, Endpoint())
             if endpoint.group is not None:
                 continue
-            endpoint.turn_to("start")
+            endpoint.require("start")
             is_down = self.probes.is_down(key[1])
             if is_down is False:
                 endpoint.pause, endpoint.next = FIRST_PAUSE, 0.0
@@ -130,13 +130,13 @@ class Launcher:
                          "stopped yet")
         return other is not None
 
-    def _stop(self, plan: Plan, report: Report | None, wanted: Collection[PlannedRevision]) -> None:
+    def _stop(self, plan: Plan, report: Report | None, needed: Collection[PlannedRevision]) -> None:
         """Stops what the report shows as scaled down or removed. Without a report, nothing is known to be so. A switch that the
         plan named before may still have requests open."""
-        needed = self.former.names(plan.control)
-        if report is None or needed is None:
+        needed_elsewhere = self.former.names(plan.control)
+        if report is None or needed_elsewhere is None:
             return
-        for revision in [each for each in self.memory.state.started if each not in wanted and each.name not in needed]:
+        for revision in [each for each in self.memory.state.started if each not in needed and each.name not in needed_elsewhere]:
             if not plan.commands.stop:
                 self._forget(revision)
                 continue
@@ -144,7 +144,7 @@ class Launcher:
             for key in keys:
                 endpoint = self.endpoints.setdefault(key, Endpoint())
                 if endpoint.group is None:
-                    endpoint.turn_to("stop")
+                    endpoint.require("stop")
                     if endpoint.done != "stop" and time.monotonic() >= endpoint.next:
                         self._run(plan, key, endpoint)
             if all(self.endpoints[key].is_stopped() for key in keys):

@@ -30,7 +30,7 @@ class Log:
         """Writes a line. `event` is its kind, which only JSON shows: plan, switch, state, change, analysis, outage, command, end."""
         self._write(event, text, {})
 
-    def order(self, line: str, reply: str) -> None:
+    def say_reply(self, line: str, reply: str) -> None:
         """Writes the line for an order and its reply."""
         told = {"line": line, "reply": reply, "carried_out": was_carried_out(reply), "meaning": meaning_of(reply)}
         self._write("order", f"{line} => {with_meaning(reply)}", told)

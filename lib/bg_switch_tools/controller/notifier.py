@@ -14,7 +14,7 @@ from bg_switch_tools.controller.plan import Commands
 from bg_switch_tools.controller.process_groups import LOOK, TO_STDERR
 
 MOST_AT_ONCE = 4
-MOST_WAITING = 256  # events; a later one is dropped
+MOST_PENDING = 256  # events; a later one is dropped
 GRACE = 2.0  # seconds between SIGTERM and SIGKILL
 MINUTE = 60.0  # seconds between two lines of the log that tell of failures
 LAST_WAIT = 0.5  # seconds that the events that wait have where the controller ends
@@ -28,7 +28,7 @@ class Notifier:
         self.folder = folder
         self.log = log
         self.commands = commands
-        self.events: "queue.Queue[bytes | None]" = queue.Queue(MOST_WAITING)  # None ends a thread
+        self.events: "queue.Queue[bytes | None]" = queue.Queue(MOST_PENDING)  # None ends a thread
         self.lock = threading.Lock()
         self.failures, self.next_told, self.number = 0, 0.0, 0
         self.is_ending = False  # whether no further command may be run

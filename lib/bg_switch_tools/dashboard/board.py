@@ -5,13 +5,13 @@ from collections.abc import Mapping, Sequence
 from typing import TypedDict
 
 from bg_switch_tools.dashboard.alarms import alarms
-from bg_switch_tools.dashboard.steps import Attempt, orders, steps
+from bg_switch_tools.dashboard.steps import SeenPhases, possible_commands, steps
 from bg_switch_tools.dashboard.totals import Totals
 from bg_switch_tools.dashboard.traffic import KEPT, SLOT, Traffic
-from bg_switch_tools.switch.access_log import CLIENT_SERVICES, Batch, Entry
+from bg_switch_tools.switch.access_log import CLIENT_SERVICES, Batch, LogEntry
 from bg_switch_tools.switch.lines import with_meaning
 from bg_switch_tools.switch.report_changes import changes, is_another_book
-from bg_switch_tools.switch.report_text import AWAITED, NO_BOOK, in_one_line
+from bg_switch_tools.switch.report_text import NO_BOOK, WAITS_FOR, in_one_line
 from bg_switch_tools.switch.reports import Report, as_json
 
 MOST_HAPPENED, MOST_FAILED = 200, 50
@@ -45,7 +45,7 @@ class Board:
         self.log_fault = ""
         self.own_fault = ""  # what has ended the last look, where it was not expected
         self.own_faults = 0
-        self.attempt = Attempt()
+        self.attempt = SeenPhases()
         self.names: dict[int, str] = {}  # of revisions, by their numbers in the book that is open
         self.traffic = Traffic()
         self.totals = Totals()
@@ -140,7 +140,7 @@ class Board:
             return ""
         return self.report.service(service).name
 
-    def _take_failed(self, entries: Sequence[Entry], selected: Mapping[str, str]) -> None:
+    def _take_failed(self, entries: Sequence[LogEntry], selected: Mapping[str, str]) -> None:
         for entry in entries[-MOST_OF_A_BATCH:]:
             revision = selected[entry.service] if entry.is_without_endpoint else self.name(entry.revision)
             self.failed.append({
@@ -154,7 +154,7 @@ class Board:
         """The name of a revision; empty where there is none."""
         return "" if number is None else self.names.get(number, f"revision-{number}")
 
-    def note_order(self, line: str, reply: str) -> None:
+    def note_line(self, line: str, reply: str) -> None:
         self.say("order", f"{line} => {with_meaning(reply)}")
 
     def head(self) -> dict[str, object]:
@@ -168,8 +168,8 @@ class Board:
                     "unreadable": self.totals.unreadable},
             "report": as_json(report) if report else None,
             "steps": steps(report, self.attempt.seen, self.attempt.failed_at) if report else [],
-            "waits_for": AWAITED[report.phase] if report else NO_BOOK,
-            "orders": {order: can and not self.fault and not self.is_read_only for order, can in orders(report).items()},
+            "waits_for": WAITS_FOR[report.phase] if report else NO_BOOK,
+            "orders": {command: can and not self.fault and not self.is_read_only for command, can in possible_commands(report).items()},
             "recent": self.traffic.recent(now)}
 
     def state(self) -> dict[str, object]:

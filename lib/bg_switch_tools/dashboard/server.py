@@ -14,7 +14,7 @@ from aiohttp import http_exceptions, web
 
 from bg_switch_tools.dashboard import guard, metrics
 from bg_switch_tools.dashboard.board import Board
-from bg_switch_tools.dashboard.page_commands import Moved, WrongOrder, carry_out, read_order
+from bg_switch_tools.dashboard.page_commands import Moved, WrongPageCommand, read_page_command, send_page_command
 from bg_switch_tools.switch.access_log import Batch, Follower
 from bg_switch_tools.switch.connection import HOST, Unreachable, ask
 from bg_switch_tools.switch.lines import meaning_of, was_carried_out
@@ -24,9 +24,9 @@ PAUSE = 0.5  # seconds between two reports
 SOON = 0.01  # seconds, while more of the log is there than was read
 ANSWER = 1.5  # seconds for the switch to answer
 BACKLOG = 1 << 25  # bytes of the log that are read when the dashboard begins
-MOST_WAITING = 100  # updates that a listener may be behind
+MOST_PENDING = 100  # updates that a listener may be behind
 MOST_LISTENERS = 64
-LARGEST_ORDER = 4096  # bytes
+LARGEST_COMMAND = 4096  # bytes
 LONGEST_FAULT = 300  # characters of an exception that are told
 LAST_SECOND = 1  # second for requests and streams to end after a signal
 FILES = {"dashboard.css": "text/css", "dashboard.js": "text/javascript", "charts.js": "text/javascript",
@@ -78,12 +78,12 @@ class Server:
         self.soon = asyncio.Event()
 
     def application(self) -> web.Application:
-        made = web.Application(middlewares=[guarded], client_max_size=LARGEST_ORDER)
+        made = web.Application(middlewares=[guarded], client_max_size=LARGEST_COMMAND)
         made.router.add_get("/", self.show_page)
         made.router.add_get("/metrics", self.show_metrics)
         made.router.add_get("/api/state", self.show_state)
         made.router.add_get("/api/events", self.show_events, allow_head=False)
-        made.router.add_post("/api/order", self.order)
+        made.router.add_post("/api/order", self.command)
         made.router.add_get("/{name}", self.show_file)
         made.cleanup_ctx.append(self.looking)
         return made
@@ -166,7 +166,7 @@ class Server:
         if len(self.listeners) >= MOST_LISTENERS:
             return refusal(503, "too many pages are open")
         stream = web.StreamResponse(headers={**guard.HEADERS, "Content-Type": "text/event-stream; charset=utf-8"})
-        listener: asyncio.Queue[bytes] = asyncio.Queue(MOST_WAITING)
+        listener: asyncio.Queue[bytes] = asyncio.Queue(MOST_PENDING)
         await stream.prepare(request)
         self.listeners[listener] = request.transport
         try:
@@ -179,7 +179,7 @@ class Server:
             self.listeners.pop(listener, None)
         return stream
 
-    async def order(self, request: web.Request) -> web.Response:
+    async def command(self, request: web.Request) -> web.Response:
         """Carries out an order of the page."""
         if self.board.is_read_only:
             return refusal(403, "the dashboard was started with --read-only")
@@ -188,23 +188,23 @@ class Server:
         if not guard.is_token(request.headers.get("X-Token", ""), self.token):
             return refusal(403, "the request has not the token of this dashboard: load the page again")
         try:
-            order = read_order(await request.read())
-        except WrongOrder as wrong:
+            command = read_page_command(await request.read())
+        except WrongPageCommand as wrong:
             return refusal(400, str(wrong))
         try:
-            reply = await asyncio.to_thread(carry_out, self.board.control, order)
+            reply = await asyncio.to_thread(send_page_command, self.board.control, command)
         except Moved as moved:
             return refusal(409, str(moved))
         except (Unreachable, NoReport) as reason:
             return refusal(503, str(reason))
-        self.board.note_order(order.line, reply)
+        self.board.note_line(command.line, reply)
         self.tell()  # at once: a page that is opened later finds the order in its state, and not in an update as well
         self.soon.set()
-        return web.json_response({"line": order.line, "reply": reply, "carried_out": was_carried_out(reply),
+        return web.json_response({"line": command.line, "reply": reply, "carried_out": was_carried_out(reply),
                                   "meaning": meaning_of(reply)})
 
 
-def is_worth_telling(record: logging.LogRecord) -> bool:
+def is_not_malformed(record: logging.LogRecord) -> bool:
     """Whether this is no request that is malformed, of which each peer can send any number."""
     return not (record.exc_info and isinstance(record.exc_info[1], http_exceptions.HttpProcessingError))
 
@@ -218,7 +218,7 @@ def run(board: Board, listen: int) -> None:
             print(f"dashboard: http://{HOST}:{listen}/", flush=True)
         application.on_startup.append(tell)
         return application
-    logging.getLogger("aiohttp.server").addFilter(is_worth_telling)
+    logging.getLogger("aiohttp.server").addFilter(is_not_malformed)
     # aiohttp would tell a port that can't be had with a trace
     with socket.create_server((HOST, listen)) as listener:
         web.run_app(made(), sock=listener, print=lambda *_: None, access_log=None, shutdown_timeout=LAST_SECOND)

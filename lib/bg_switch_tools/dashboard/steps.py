@@ -18,7 +18,7 @@ class Step(TypedDict):
     state: str
 
 
-class Attempt:
+class SeenPhases:
     """What was seen of the attempt that the reports show: its phases, and in which one it was aborted, where that is known."""
 
     def __init__(self) -> None:
@@ -52,7 +52,7 @@ def steps(report: Report, seen: Collection[str], failed_at: str) -> list[Step]:
             for place, (name, title) in enumerate(STEPS)]
 
 
-def orders(report: Report | None) -> dict[str, bool]:
+def possible_commands(report: Report | None) -> dict[str, bool]:
     """Whether each order makes sense by this report. The switch has the last word."""
     is_running = report is not None and report.is_running
     return {"promote": report is not None and report.phase == "paused", "promote full": is_running, "abort": is_running,

@@ -5,7 +5,7 @@ from collections.abc import Iterator
 from typing import NamedTuple
 
 from bg_switch_tools.dashboard.traffic import CLASSES, NO_ANSWER, class_of
-from bg_switch_tools.switch.access_log import CLIENT_SERVICES, Entry
+from bg_switch_tools.switch.access_log import CLIENT_SERVICES, LogEntry
 from bg_switch_tools.switch.reports import SERVICES, Report
 
 # The ends of the buckets of durations, in seconds.
@@ -54,7 +54,7 @@ class Counted:
         self.durations = Tally()
         self.upstream = Tally()
 
-    def add(self, entry: Entry) -> None:
+    def add(self, entry: LogEntry) -> None:
         self.requests += 1
         self.bytes += entry.response_bytes or 0
         self.redispatched += entry.slot_port is not None
@@ -73,7 +73,7 @@ class Totals:
         self.names: dict[str, None] = {}  # of revisions, by when they were seen first
         self.lost = self.unreadable = 0
 
-    def add(self, entry: Entry, revision: str) -> None:
+    def add(self, entry: LogEntry, revision: str) -> None:
         labels = Labels(entry.service, revision or "none", class_of(entry.status))
         counted = self.counted.get(labels)
         if counted is None:

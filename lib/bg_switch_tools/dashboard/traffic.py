@@ -5,7 +5,7 @@ import math
 from collections.abc import Iterator, Sequence
 from typing import TypedDict
 
-from bg_switch_tools.switch.access_log import Entry
+from bg_switch_tools.switch.access_log import LogEntry
 
 SLOT = 2  # seconds that are counted together
 KEPT = 600  # seconds
@@ -40,10 +40,10 @@ class Durations:
 
     def quantile(self, share: float) -> float:
         """The end of the bin that has the quantile, to two places; 0 where there is no duration."""
-        wanted, seen = share * self.bins.total(), 0
+        target, seen = share * self.bins.total(), 0
         for place in sorted(self.bins):
             seen += self.bins[place]
-            if seen >= wanted:
+            if seen >= target:
                 return round(LEAST * FACTOR ** place, 2)
         return 0.0
 
@@ -58,7 +58,7 @@ class Cell:
         self.ports: collections.Counter[int] = collections.Counter()
         self.failed_ports: collections.Counter[int] = collections.Counter()
 
-    def add(self, entry: Entry) -> None:
+    def add(self, entry: LogEntry) -> None:
         self.counts[class_of(entry.status)] += 1
         self.durations.add(entry.duration_ms)
         if entry.port is not None:
@@ -110,7 +110,7 @@ class Traffic:
         self.slots: dict[int, dict[str, Cell]] = {}
         self.changed: set[int] = set()
 
-    def add(self, entry: Entry, revision: str) -> None:
+    def add(self, entry: LogEntry, revision: str) -> None:
         begins = int(entry.time) // SLOT * SLOT
         cells = self.slots.get(begins)
         if cells is None:

@@ -5,12 +5,12 @@ import os
 import sys
 from collections.abc import Iterable, Sequence
 
-from bg_switch_tools.controller.announced_deploy import Announced
+from bg_switch_tools.controller.announced_deploy import AnnouncedDeploy
 from bg_switch_tools.controller.plan_reader import WrongPlan
-from bg_switch_tools.operator.commands import examples, help_lines
+from bg_switch_tools.operator.commands import COMMAND_NAMES, examples, help_lines
 from bg_switch_tools.operator.conditions import FORMS, Conditions, WrongCondition
-from bg_switch_tools.operator.line_sender import Reply, carry_out
-from bg_switch_tools.operator.prompt import Command, Prompt, confirm_shutdown
+from bg_switch_tools.operator.line_sender import Reply, send_line
+from bg_switch_tools.operator.prompt import Prompt, PromptCommand, confirm_shutdown
 from bg_switch_tools.operator.wait import TOO_LATE, nothing_comes, wait_for
 from bg_switch_tools.operator.watch import dated, watch
 from bg_switch_tools.switch.arguments import port_of, seconds_of
@@ -33,7 +33,6 @@ answered 503. docs/LINES.md has each line and its replies.
 """
 INTERRUPTED = 130
 DARK = 3  # the exit status of `status` where live traffic has no endpoint
-COMMANDS = ("status", "wait", "watch", "shutdown", "help")
 
 
 def parser() -> argparse.ArgumentParser:
@@ -87,11 +86,11 @@ class Operator:
         elif reply.meaning and not is_plain_terminal:
             self.tell(f"{reply.lines[0]}: {reply.meaning}")
 
-    def carry_out(self, lines: Iterable[bytes]) -> int:
+    def send_lines(self, lines: Iterable[bytes]) -> int:
         """Carries lines out, in turn, up to `quit`. Gives the exit status."""
         status = 0
         for line in lines:
-            reply = carry_out(self.port, line, self.wait, self.is_idempotent, self.is_sure)
+            reply = send_line(self.port, line, self.wait, self.is_idempotent, self.is_sure)
             self.show(reply)
             if words_of(line) == [b"quit"]:
                 break
@@ -118,7 +117,7 @@ class Operator:
         """Waits for conditions. Each change meanwhile is told on standard error."""
         before: list[Report] = []
         try:
-            announced = Announced(self.plan).name if self.plan else nothing_comes
+            announced = AnnouncedDeploy(self.plan).name if self.plan else nothing_comes
         except WrongPlan as wrong:
             self.tell(f"{self.plan} is no plan: {wrong}")
             return TOO_LATE
@@ -146,7 +145,7 @@ class Operator:
             if not confirm_shutdown(self.port):
                 print("The switch goes on.")
                 return 1
-        return self.carry_out([b"quit"])
+        return self.send_lines([b"quit"])
 
     def watch(self) -> int:
         """Watches up to ctrl-C."""
@@ -161,13 +160,13 @@ class Operator:
         return 0
 
     def command(self, words: Sequence[str]) -> int:
-        """Carries out one of `COMMANDS`."""
+        """Runs one of `COMMAND_NAMES`."""
         if words[0] == "wait":
             return self.wait_for(words[1:])
         return {"status": self.status, "watch": self.watch, "shutdown": self.shut_down, "help": self.show_help}[words[0]]()
 
     def prompt(self) -> int:
-        commands: dict[str, Command] = {"status": lambda _: self.status(), "watch": lambda _: self.watch(),
+        commands: dict[str, PromptCommand] = {"status": lambda _: self.status(), "watch": lambda _: self.watch(),
                                         "wait": self.wait_for}
         Prompt(self.port, self.wait, commands).run()
         return 0
@@ -179,7 +178,7 @@ def judge_words(made: argparse.ArgumentParser, given: argparse.Namespace) -> Non
     command = words[0] if words else ""
     if given.port is None:
         made.error("PORT: the control port of the switch is wanted, such as 8082")
-    if command in COMMANDS and command != "wait" and len(words) > 1:
+    if command in COMMAND_NAMES and command != "wait" and len(words) > 1:
         made.error(f"{command} takes no further words, and not {words[1]!r}")
     if command == "wait":
         try:
@@ -200,13 +199,13 @@ def judge_words(made: argparse.ArgumentParser, given: argparse.Namespace) -> Non
 
 def run(given: argparse.Namespace) -> int:
     operator, words = Operator(given), given.words
-    if words and words[0] in COMMANDS:
+    if words and words[0] in COMMAND_NAMES:
         return operator.command(words)
     if words:
-        return operator.carry_out(" ".join(words).encode("utf-8", "surrogateescape").split(b"\n"))
+        return operator.send_lines(" ".join(words).encode("utf-8", "surrogateescape").split(b"\n"))
     if sys.stdin.isatty() and sys.stdout.isatty():
         return operator.prompt()
-    return operator.carry_out(line.removesuffix(b"\n") for line in sys.stdin.buffer)
+    return operator.send_lines(line.removesuffix(b"\n") for line in sys.stdin.buffer)
 
 
 def main(words: Sequence[str]) -> int:

@@ -3,7 +3,7 @@ from collections.abc import Sequence
 
 from bg_switch_tools.switch.lines import LINES, Line
 
-COMMANDS = (
+OPERATOR_COMMANDS = (
     Line("status", "shows the state in one line; status 0 where it is steady or an attempt runs, 1 where it was aborted, "
          "3 where no endpoint of the active revision is available",
          "status"),
@@ -13,6 +13,7 @@ COMMANDS = (
     Line("shutdown", "asks, and then shuts the switch down: it sends quit", "shutdown"),
     Line("help", "lists the lines and commands", "help"),
 )
+COMMAND_NAMES = tuple(command.syntax.split()[0] for command in OPERATOR_COMMANDS)
 PROMPT_COMMANDS = (
     Line("quit, exit, ctrl-D", "leave this prompt; the switch goes on", "exit"),
 )
@@ -21,16 +22,16 @@ WIDTH = 20  # of the column of the forms
 
 def listed(lines: Sequence[Line]) -> list[str]:
     """A line for each, with what it does."""
-    return [f"  {line.form:{WIDTH}} {line.meaning}" for line in lines]
+    return [f"  {line.syntax:{WIDTH}} {line.meaning}" for line in lines]
 
 
 def help_lines(at_prompt: bool) -> list[str]:
     """The lines and commands. At the prompt `quit` leaves it."""
     if not at_prompt:
-        return listed([*LINES, *COMMANDS])
-    return listed([*(line for line in LINES if line.form != "quit"), *COMMANDS, *PROMPT_COMMANDS])
+        return listed([*LINES, *OPERATOR_COMMANDS])
+    return listed([*(line for line in LINES if line.syntax != "quit"), *OPERATOR_COMMANDS, *PROMPT_COMMANDS])
 
 
 def examples() -> list[str]:
     """An example of each line and command, with what it does."""
-    return [f"  bin/operator 8082 {line.example}\n      {line.meaning}" for line in (*LINES, *COMMANDS)]
+    return [f"  bin/operator 8082 {line.example}\n      {line.meaning}" for line in (*LINES, *OPERATOR_COMMANDS)]

@@ -26,7 +26,7 @@ class Reply(NamedTuple):
         return {"line": self.line, "reply": "\n".join(self.lines), "carried_out": self.carried_out, "meaning": self.meaning}
 
 
-def carry_out(port: int, line: bytes, wait: float, is_idempotent: bool, is_sure: bool = False) -> Reply:
+def send_line(port: int, line: bytes, wait: float, is_idempotent: bool, is_sure: bool = False) -> Reply:
     """Sends a line on a connection of its own. `Unreachable` where the switch does not answer. A tick far ahead is sent only by
     somebody who is sure."""
     words, text = words_of(line), line.decode("utf-8", "replace")

@@ -2,7 +2,7 @@
 from collections.abc import Callable, Sequence
 
 from bg_switch_tools.operator.commands import help_lines
-from bg_switch_tools.operator.line_sender import Reply, carry_out
+from bg_switch_tools.operator.line_sender import Reply, send_line
 from bg_switch_tools.switch.connection import Unreachable, words_of
 from bg_switch_tools.switch.lines import with_meaning
 from bg_switch_tools.switch.reports import NoReport
@@ -13,7 +13,7 @@ except ImportError:
     pass
 
 LEAVE = ("quit", "exit")
-Command = Callable[[Sequence[str]], object]
+PromptCommand = Callable[[Sequence[str]], object]
 
 
 def show_at_terminal(reply: Reply) -> None:
@@ -37,13 +37,13 @@ def confirm_shutdown(port: int) -> bool:
 class Prompt:
     """Carries out the lines of a terminal. `commands` are those that are no lines of the switch."""
 
-    def __init__(self, port: int, wait: float, commands: dict[str, Command]) -> None:
+    def __init__(self, port: int, wait: float, commands: dict[str, PromptCommand]) -> None:
         self.port = port
         self.wait = wait
         self.commands = commands
 
-    def carry_out(self, text: str) -> bool:
-        """Carries out a line. Gives whether the prompt goes on."""
+    def run_line(self, text: str) -> bool:
+        """Runs a command, or sends a line. Gives whether the prompt goes on."""
         line = text.encode("utf-8", "replace")
         words = [word.decode("utf-8", "replace") for word in words_of(line)]
         if not words:
@@ -57,7 +57,7 @@ class Prompt:
         elif words[0] in self.commands:
             self.run_command(words)
         else:
-            show_at_terminal(carry_out(self.port, line, self.wait, is_idempotent=False))
+            show_at_terminal(send_line(self.port, line, self.wait, is_idempotent=False))
         return True
 
     def run_command(self, words: Sequence[str]) -> None:
@@ -72,7 +72,7 @@ class Prompt:
         if not confirm_shutdown(self.port):
             print("The switch goes on.")
             return False
-        carry_out(self.port, b"quit", self.wait, is_idempotent=False)
+        send_line(self.port, b"quit", self.wait, is_idempotent=False)
         print("The switch shuts down.")
         return True
 
@@ -82,7 +82,7 @@ class Prompt:
         goes_on = True
         while goes_on:
             try:
-                goes_on = self.carry_out(input(f"{self.port}> "))
+                goes_on = self.run_line(input(f"{self.port}> "))
             except (Unreachable, NoReport, ValueError) as reason:
                 print(reason)
             except (EOFError, KeyboardInterrupt):

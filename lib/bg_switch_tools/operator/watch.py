@@ -16,10 +16,10 @@ MOST_SEEN = 1000  # changes that are kept: no terminal has more rows
 
 def _fitting(lines: Sequence[str], seen: Sequence[str]) -> str:
     """The lines, and the last of the changes, as a terminal of this size holds them."""
-    columns, rows = shutil.get_terminal_size()
-    room = max(rows - len(lines) - 2, 0)
+    width, height = shutil.get_terminal_size()
+    room = max(height - len(lines) - 2, 0)
     shown = [*lines, "", *(seen[-room:] if room else [])]
-    return "\n".join(line[:columns] for line in shown[:max(rows - 1, 1)])
+    return "\n".join(line[:width] for line in shown[:max(height - 1, 1)])
 
 
 def dated(before: Report | None, now: Report | None) -> list[str]:

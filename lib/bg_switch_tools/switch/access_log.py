@@ -36,11 +36,11 @@ TYPES = {**MEMBERS, **OPTIONAL}
 REQUIRED = operator.itemgetter(*MEMBERS)
 
 
-class NoEntry(ValueError):
+class NoLogEntry(ValueError):
     """A line that is none of an access log."""
 
 
-class Entry(NamedTuple):
+class LogEntry(NamedTuple):
     """A connection that ended. `time` counts seconds from 1970; `revision` and `request` are numbers of the switch; `slot_port`
     is the port of the request's slot where the endpoint at another one, `port`, was dialled; `tries` counts its connects."""
     time: float
@@ -85,7 +85,7 @@ class Lost(NamedTuple):
 def seconds_of(told: object) -> float:
     """The seconds from 1970 of a time as RFC 3339 has it."""
     if not isinstance(told, str):
-        raise NoEntry("its time is no text")
+        raise NoLogEntry("its time is no text")
     return _seconds_of_text(told)
 
 
@@ -94,9 +94,9 @@ def _seconds_of_text(told: str) -> float:
     try:
         read = datetime.datetime.fromisoformat(told)
     except ValueError:
-        raise NoEntry("its time is none of RFC 3339") from None
+        raise NoLogEntry("its time is none of RFC 3339") from None
     if read.tzinfo is None:
-        raise NoEntry("its time has no zone")
+        raise NoLogEntry("its time has no zone")
     return read.timestamp()
 
 
@@ -140,10 +140,10 @@ def _values(told: Mapping[str, object]) -> tuple[object, ...]:
     try:
         values = (*REQUIRED(told), *map(told.get, OPTIONAL))
     except KeyError:
-        raise NoEntry(_fault(told)) from None
+        raise NoLogEntry(_fault(told)) from None
     take = _numbers_of(tuple(map(type, values)))
     if take is None or min(numbers := take(values)) < 0 or max(numbers) >= GREATEST:
-        raise NoEntry(_fault(told))
+        raise NoLogEntry(_fault(told))
     return values
 
 
@@ -153,25 +153,25 @@ def _object(line: bytes) -> dict[str, object]:
         text = line.strip(WHITESPACE).decode()
         told, end = DECODER.raw_decode(text)
     except (ValueError, RecursionError):
-        raise NoEntry("it is no JSON") from None
+        raise NoLogEntry("it is no JSON") from None
     if end != len(text) or not isinstance(told, dict):
-        raise NoEntry("it is no object")
+        raise NoLogEntry("it is no object")
     return told
 
 
-def read_line(line: bytes) -> Entry | Lost:
+def read_line(line: bytes) -> LogEntry | Lost:
     """The values of a line, without its end. `NoEntry` where it is none of an access log; further members are passed over."""
     told = _object(line)
     lost = told.get("lost")
     if type(lost) is int and 0 <= lost < GREATEST:
         return Lost(None if told.get("time") is None else seconds_of(told["time"]), lost)
-    entry = Entry._make((seconds_of(told.get("time")), *_values(told)))
+    entry = LogEntry._make((seconds_of(told.get("time")), *_values(told)))
     if entry.service not in CLIENT_SERVICES or entry.end not in ENDS:
-        raise NoEntry("its service or end is none that a line can have")
+        raise NoLogEntry("its service or end is none that a line can have")
     return entry
 
 
-def written(entry: Entry) -> bytes:
+def written(entry: LogEntry) -> bytes:
     """The line of an entry, with its end, as the switch writes it."""
     told = {name: value for name, value in entry._asdict().items() if value is not None or name not in OPTIONAL}
     return (json.dumps({**told, "time": time_text(entry.time)}) + "\n").encode("ascii")
@@ -179,7 +179,7 @@ def written(entry: Entry) -> bytes:
 
 class Batch(NamedTuple):
     """What was read: entries, how many lines the switch could not write, and how many could not be read."""
-    entries: list[Entry]
+    entries: list[LogEntry]
     lost: int
     unreadable: int
 
@@ -190,10 +190,10 @@ def read_lines(lines: list[bytes], unreadable: int = 0) -> Batch:
     for line in lines:
         try:
             read = read_line(line)
-        except NoEntry:
+        except NoLogEntry:
             unreadable += 1
             continue
-        if isinstance(read, Entry):
+        if isinstance(read, LogEntry):
             entries.append(read)
         else:
             lost += read.lost

@@ -134,7 +134,7 @@ class Connection:
         self.send(*lines)
         return [self.reply_to(line) for line in lines]
 
-    def order(self, line: str) -> str:
+    def answer_to(self, line: str) -> str:
         """Sends a line within a new deadline, as long as the constructor's, and gives the first line of its reply."""
         self.allow(self.wait)
         return self.answer(line.encode("ascii"))[0]

@@ -4,7 +4,7 @@ from typing import NamedTuple
 
 class Line(NamedTuple):
     """A line: its form, what it does, and an example."""
-    form: str
+    syntax: str
     meaning: str
     example: str
 

@@ -1,7 +1,7 @@
 """A report as a table, and in one line."""
 from bg_switch_tools.switch.reports import Report, Revision
 
-AWAITED = {
+WAITS_FOR = {
     "steady": "no attempt runs",
     "scaling": "waits for endpoints of the newest revision",
     "preAnalysis": "waits for: verdict pre RESULT",
@@ -26,7 +26,7 @@ def _scale_down(revision: Revision, moment: int) -> str:
     return f"in {max(revision.deadline - moment, 0)} s"
 
 
-def _row(report: Report, revision: Revision) -> tuple[str, ...]:
+def _cells(report: Report, revision: Revision) -> tuple[str, ...]:
     services = [service for service, number in report.selected.items() if number == revision.number]
     return (f"{revision.number} {revision.name}", ", ".join(services), f"{revision.available} of {revision.desired}",
             str(revision.open), _scale_down(revision, report.moment))
@@ -37,11 +37,11 @@ def draw(report: Report | None) -> list[str]:
     if report is None:
         return [NO_BOOK]
     newest_first = sorted(report.revisions.values(), key=lambda revision: -revision.number)
-    rows = [("REVISION", "SERVICES", "AVAILABLE", "OPEN", "SCALE-DOWN"), *(_row(report, each) for each in newest_first)]
-    widths = [max(len(cells[column]) for cells in rows) for column in range(5)]
-    branches = ["   "] + ["├─ "] * (len(rows) - 2) + ["└─ "]
-    table = ["  ".join(cell.ljust(width) for cell, width in zip(cells, widths)) for cells in rows]
-    head = f"phase {report.phase} ({AWAITED[report.phase]})   moment {report.moment}"
+    lines_of_cells = [("REVISION", "SERVICES", "AVAILABLE", "OPEN", "SCALE-DOWN"), *(_cells(report, each) for each in newest_first)]
+    widths = [max(len(cells[column]) for cells in lines_of_cells) for column in range(5)]
+    branches = ["   "] + ["├─ "] * (len(lines_of_cells) - 2) + ["└─ "]
+    table = ["  ".join(cell.ljust(width) for cell, width in zip(cells, widths)) for cells in lines_of_cells]
+    head = f"phase {report.phase} ({WAITS_FOR[report.phase]})   moment {report.moment}"
     return [head] + [(branch + line).rstrip() for branch, line in zip(branches, table)]
 
 
