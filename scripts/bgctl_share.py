@@ -73,7 +73,7 @@ def pages() -> dict[str, str]:
 
 def main() -> int:
     if len(sys.argv) != 2:
-        print("scripts/bgctl_share.py FOLDER: one folder is wanted", file=sys.stderr)
+        print("scripts/bgctl_share.py FOLDER: one folder is needed", file=sys.stderr)
         return 2
     os.environ["LC_ALL"] = "C.UTF-8"
     try:

@@ -261,7 +261,7 @@ def plans_that_are_wrong() -> None:
         for text in ("", "{}", "[]", '{"control": 1, "revisions": []}', '{"control": 1, "revisions": [{"name": "a"}]}'):
             plan.write_text(text, encoding="ascii")
             run = run_to_end([CONTROLLER, str(plan)], longest=WAIT)
-            check(f"the plan {text!r}", (run.printed, run.status, "is no plan" in run.told), ("", 1, True))
+            check(f"the plan {text!r}", (run.printed, run.status, "is not a plan" in run.told), ("", 1, True))
 
 
 if __name__ == "__main__":

@@ -167,7 +167,7 @@ def controller_is_killed(machine: Machine) -> None:
     machine.controller.lines.clear()
     machine.controller.start()
     machine.check_answers("the controller is killed")
-    check("it goes on", comes(lambda: machine.controller.says("goes on from the state file"), WAIT), True)
+    check("it goes on", comes(lambda: machine.controller.says("continues from the state file"), WAIT), True)
     check("nothing is deployed", machine.controller.says("deploy "), False)
 
 

@@ -43,7 +43,7 @@ CARRIED = ("date", "connection", "content-length", "transfer-encoding")
 
 
 class Case(NamedTuple):
-    """A request, and the status that is wanted."""
+    """A request, and the status that is expected."""
     status: int
     target: str
     method: str = "GET"

@@ -205,7 +205,7 @@ class Files(unittest.TestCase):
         self.assertEqual((follower.fault, self.numbers(follower)), ("No such file or directory", []))
         self.log.add(self.told[:2])
         self.assertEqual((self.numbers(follower), follower.fault), ([1, 2], ""))
-        self.assertEqual(Follower(tempfile.gettempdir()).fault, "it is no regular file")
+        self.assertEqual(Follower(tempfile.gettempdir()).fault, "it is not a regular file")
 
 
 class Synthetic(unittest.TestCase):

@@ -323,7 +323,7 @@ class Runs(unittest.TestCase):
         self.assertIn("49 requests came in 1.2 seconds, and 50 are needed", ended.printed)
         self.assertEqual(self.analysis("--revision", "2", *FAST, *limit).status, 2)
         self.assertIn("no revision is told", self.analysis(*FAST, *limit).printed)
-        self.assertIn("a limit is wanted", self.analysis("--revision", "2", *FAST).printed)
+        self.assertIn("a limit is needed", self.analysis("--revision", "2", *FAST).printed)
         self.log.path.unlink()
         ended = self.analysis("--revision", "2", *FAST, *limit)
         self.assertEqual((ended.status, "No such file" in ended.printed), (2, True), ended.printed)
@@ -339,7 +339,7 @@ class Runs(unittest.TestCase):
         with mock.patch.object(log_analysis, "CATCH_UP", 0.3):
             ended = self.analysis("--revision", "2", *FAST, "--errors-at-most", "1%")
         timer.join()
-        self.assertEqual((ended.status, "it is no regular file" in ended.printed), (2, True), ended.printed)
+        self.assertEqual((ended.status, "it is not a regular file" in ended.printed), (2, True), ended.printed)
 
     def test_a_log_that_is_made_anew_after_a_while(self) -> None:
         """A file that is missing at the end of the analysis is waited for: the switch makes it within a second."""
@@ -395,7 +395,7 @@ class Runs(unittest.TestCase):
         for name in ("web-v9", "9"):
             self.assertIn(f"has no revision {name}", self.analysis("--revision", name, *control, *FAST, *limit).printed)
         wrong = {"BG_REVISION": "web-v2", "BG_REVISION_NUMBER": "2", "BG_CONTROL": "x"}
-        self.assertIn("BG_CONTROL: the control port is wanted", self.analysis(*FAST, *limit, environment=wrong).printed)
+        self.assertIn("BG_CONTROL: the control port is expected", self.analysis(*FAST, *limit, environment=wrong).printed)
 
 
 if __name__ == "__main__":

@@ -125,7 +125,7 @@ class Ports(WithBook):
         told = run("status", BG_CONTROL="")
         self.assertEqual((told.status, told.told), (2, "bgctl: the control port is not known: --control PORT names it, or the variable "
                                                     "BG_CONTROL, or a plan (--plan FILE, BG_PLAN)\n"))
-        self.assertEqual(run("status", BG_CONTROL="8o82").told, "bgctl: BG_CONTROL: the control port is wanted, a number from 1 to 65535, "
+        self.assertEqual(run("status", BG_CONTROL="8o82").told, "bgctl: BG_CONTROL: the control port is expected, a number from 1 to 65535, "
                          "and not '8o82'\n")
         self.assertEqual(run("status", "--control", "0").status, 2)
 
@@ -133,7 +133,7 @@ class Ports(WithBook):
         words, path = ("abort", "--control", str(self.switch.port)), "/none/plan.json"
         for told in (run(*words, "--plan", path), run(*words, BG_PLAN=path)):
             self.assertEqual((told.status, told.told),
-                             (2, "bgctl: /none/plan.json is no plan: it can't be read: No such file or directory\n"))
+                             (2, "bgctl: /none/plan.json is not a plan: it can't be read: No such file or directory\n"))
         self.assertEqual(self.switch.sent_lines(), [])
 
     def test_nobody_answers(self) -> None:

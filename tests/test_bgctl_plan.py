@@ -213,7 +213,7 @@ class ByAPlan(ControllerCase):
         self.await_log("paused by alice since", "its last revision web-v3")
         self.some_rounds()
         self.assertEqual((self.switch.book.newest, self.bgctl("status").told[:36]), (2, "bgctl: the controller is paused by a"))
-        self.assertEqual(self.bgctl("resume").printed, "the controller goes on\n")
+        self.assertEqual(self.bgctl("resume").printed, "the controller continues\n")
         self.await_book("paused", 3)
         self.await_log("resumed: deploys and verdicts are sent again")
         self.assertEqual(self.bgctl("resume")[::2], ("the controller was not paused\n", 0))

@@ -171,8 +171,8 @@ class Plans(Controlled):
         run = self.run_controller()
         self.assertTrue(comes(lambda: "available 1 2" in self.switch.lines))
         self.plan.write([("web-v1", self.ports("web-v1")), ("web-v6\nabort", [70000, 4])])
-        self.assertTrue(run.says("the plan is wrong, so the one before stands: revisions[1].name: "))
-        self.assertTrue(run.says("the plan is wrong, so the one before stands: revisions[1].ports[0]: 70000 is above 65535"))
+        self.assertTrue(run.says("the plan is wrong, so the one before is used: revisions[1].name: "))
+        self.assertTrue(run.says("the plan is wrong, so the one before is used: revisions[1].ports[0]: 70000 is above 65535"))
         time.sleep(1.2)
         self.assertEqual([line for line in self.switch.sent_lines() if line.startswith(("deploy", "abort"))], [])
 

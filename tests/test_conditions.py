@@ -1,4 +1,4 @@
-"""What `wait` waits for: when a condition holds, may still come, or can't come without a new order."""
+"""What `wait` waits for: when a condition holds, may still come, or cannot hold unless a line is sent."""
 import unittest
 from collections.abc import Sequence
 
@@ -112,16 +112,16 @@ class Outlooks(unittest.TestCase):
         self.check("settled scaled-down=web-v1", [STEADY], MAY_COME)
         self.check("settled stable=web-v1", [STEADY], "no attempt runs")
         self.assertEqual(told("phase=steady stable=web-v2", ABORTED),
-                         "phase=steady can't come without a new order: the attempt of web-v2 was aborted")
+                         "phase=steady cannot hold unless a line is sent: the attempt of web-v2 was aborted")
 
 
 class Wrong(unittest.TestCase):
     def test_what_is_wanted_is_named(self) -> None:
-        for text, expected in (("phase=pause", "the nearest is paused"), ("phase", "a condition is wanted"),
-                             ("live=web-v2", "a condition is wanted"), ("active=", "the name of a revision is wanted"),
-                             ("active=Web", "the name of a revision is wanted"), ("open(web-v1)=x", "a number of open requests"),
-                             ("open(web-v1)", "a condition is wanted"), ("open()=1", "the name of a revision"),
-                             ("settled=yes", "a condition is wanted"), ("", "a condition is wanted")):
+        for text, expected in (("phase=pause", "the nearest is paused"), ("phase", "a condition is needed"),
+                             ("live=web-v2", "a condition is needed"), ("active=", "the name of a revision is needed"),
+                             ("active=Web", "the name of a revision is needed"), ("open(web-v1)=x", "a number of open requests"),
+                             ("open(web-v1)", "a condition is needed"), ("open()=1", "the name of a revision"),
+                             ("settled=yes", "a condition is needed"), ("", "a condition is needed")):
             with self.subTest(text=text), self.assertRaisesRegex(WrongCondition, expected):
                 read_condition(text)
 

@@ -78,7 +78,7 @@ class Ask(unittest.TestCase):
     def test_a_peer_that_is_no_switch(self) -> None:
         wrong_ones: list[list[str]] = [["x" * 70000], ["HTTP/1.1 400 Bad Request"], ["moment 0"] * 200]
         for reply in wrong_ones:
-            with FakePort(lambda line: reply) as port, self.assertRaisesRegex(Unreachable, "is no switch"):
+            with FakePort(lambda line: reply) as port, self.assertRaisesRegex(Unreachable, "is not a switch"):
                 ask(port.port, b"report", 5)
 
 
@@ -95,10 +95,10 @@ class Lines(unittest.TestCase):
 
     def test_orders_of_this_user_are_not_taken(self) -> None:
         for line in ("report", "abort", "quit"):
-            with FakePort(lambda line: ["refused NotAllowed"]) as port, self.assertRaisesRegex(Unreachable, "no orders of this user"):
+            with FakePort(lambda line: ["refused NotAllowed"]) as port, self.assertRaisesRegex(Unreachable, "no lines of this user"):
                 ask(port.port, line.encode("ascii"), 5)
         with FakePort(lambda line: ["refused NotAllowed"]) as port, Connection(port.port, 1) as connection:
-            with self.assertRaisesRegex(Unreachable, "no orders of this user"):
+            with self.assertRaisesRegex(Unreachable, "no lines of this user"):
                 connection.quit()
 
     def test_the_switch_ends_the_connection(self) -> None:

@@ -242,7 +242,7 @@ class Openings(ControllerCase):
         with mock.patch("sys.stderr", io.StringIO()) as told:
             self.start()
             self.await_log("deploy web-v2 2 => refused BadPorts: a revision has one port for each replica")
-        self.assertIn("the number of ports of each revision of the plan is 1, and the switch wants one for each of 2 replicas", told.getvalue())
+        self.assertIn("the number of ports of each revision of the plan is 1, and the switch needs one for each of 2 replicas", told.getvalue())
 
 
 class WithoutState(ControllerCase):
@@ -258,7 +258,7 @@ class WithoutState(ControllerCase):
             self.by_hand(line)
         self.write(*NAMES[:2])
         self.start()
-        self.await_log("web-v2 exists and is not the newest revision, so it is taken for undone and not deployed")
+        self.await_log("web-v2 exists and is not the newest revision, so it counts as undone and not deployed")
         self.some_rounds()
         self.assertEqual([line for line in self.switch.sent_lines() if line.startswith("deploy")], [])
 

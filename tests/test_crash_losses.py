@@ -93,7 +93,7 @@ class LostSteps(ControllerCase):
         self.by_hand("promote")
         self.await_book("postAnalysis", 2)
         self.restart_switch()
-        self.await_log("seconds old: postAnalysis: active web-v2", "an order that came after it is lost",
+        self.await_log("seconds old: postAnalysis: active web-v2", "a line that came after it is lost",
                        "lost with the book that was open: live traffic was at web-v2, and is at web-v1",
                        "lost with the book that was open: the attempt of web-v2 was in the phase postAnalysis and begins again: a promote "
                        "is to be sent again")
@@ -135,7 +135,7 @@ class Waits(Controlled):
         told = operator(self.switch.port, "wait", "stable=web-v1", "--plan", self.plan.path, "--timeout", "0.5")
         self.assertEqual(told.status, 2)
         self.assertIn("the controller has not deployed web-v1 by the plan yet", told.told)
-        self.assertIn("is no plan", operator(self.switch.port, "wait", "settled", "--plan", "/no/such").told)
+        self.assertIn("is not a plan", operator(self.switch.port, "wait", "settled", "--plan", "/no/such").told)
 
 
 class TwoControllers(Controlled):
@@ -150,7 +150,7 @@ class TwoControllers(Controlled):
         self.assertIn(f"another controller runs this plan: process {first.process.pid} has the lock", told.told)
         first.kill()
         third = self.run_controller()
-        self.assertTrue(third.says("goes on from the state file"))
+        self.assertTrue(third.says("continues from the state file"))
 
 
 def alive(pid: str) -> bool:

@@ -330,8 +330,8 @@ class Commanded(Dashboard):
         self.assertEqual(self.switch.sent_lines(), ["promote", "promote"])
 
     def test_what_is_refused(self) -> None:
-        self.check_refused(self.send_command(X_Token=""), 403, "has not the token")
-        self.check_refused(self.send_command(X_Token="x" * 43), 403, "has not the token")
+        self.check_refused(self.send_command(X_Token=""), 403, "does not have the token")
+        self.check_refused(self.send_command(X_Token="x" * 43), 403, "does not have the token")
         self.check_refused(self.send_command(Origin="http://evil.example"), 403, "from another site")
         self.check_refused(self.send_command(Origin="http://127.0.0.1:3000"), 403, "from another site")
         self.check_refused(self.send_command(Origin=""), 403, "from which site")
@@ -375,7 +375,7 @@ class Started(Dashboard):
     def test_a_port_that_is_taken(self) -> None:
         words = [str(TOOLS / "dashboard"), str(self.switch.port), "--listen", str(self.port)]
         run = subprocess.run(words, capture_output=True, text=True, timeout=WAIT, check=False)
-        self.assertEqual((run.returncode, run.stderr), (1, f"dashboard: port {self.port} can't be had: Address already in use\n"))
+        self.assertEqual((run.returncode, run.stderr), (1, f"dashboard: port {self.port} cannot be used: Address already in use\n"))
 
     def test_as_one_file(self) -> None:
         self.end()

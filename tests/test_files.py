@@ -59,7 +59,7 @@ class Pipeline(unittest.TestCase):
         self.begin(1)
         told = self.release()
         self.assertEqual(told.returncode, 1)
-        self.assertIn("stable=web-v2 can't come without a new order: the attempt of web-v2 was aborted", told.stderr)
+        self.assertIn("stable=web-v2 cannot hold unless a line is sent: the attempt of web-v2 was aborted", told.stderr)
 
 
 class OneFile(unittest.TestCase):

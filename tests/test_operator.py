@@ -134,7 +134,7 @@ class Waits(Operated):
         timer.start()
         told = self.operator("wait", "stable=web-v2", "--timeout", "9", "--json")
         self.assertEqual((json.loads(told.printed)["reason"], told.status),
-                         ("stable=web-v2 can't come without a new order: web-v3 took the place of web-v2", 1))
+                         ("stable=web-v2 cannot hold unless a line is sent: web-v3 took the place of web-v2", 1))
 
     def test_the_timeout(self) -> None:
         self.by_hand("deploy web-v2 3 4")
@@ -153,11 +153,11 @@ class Waits(Operated):
 
 class Words(Operated):
     def test_wrong_words_name_what_is_wanted(self) -> None:
-        for words, expected in ((("wait",), "wait wants one condition or more"), (("wait", "phase=x"), "a phase is wanted"),
-                              (("wait", "settled", "--timeout", "x"), "a number of seconds from 0 to 86400 is wanted, and not 'x'"),
+        for words, expected in ((("wait",), "wait needs one condition or more"), (("wait", "phase=x"), "a phase is needed"),
+                              (("wait", "settled", "--timeout", "x"), "a number of seconds from 0 to 86400 is expected, and not 'x'"),
                               (("status", "now"), "status takes no further words"), (("--wait", "-1", "tick", "1"), "a number of seconds"),
-                              (("tick", "1", "--timeout", "3"), "--timeout goes with wait"), (("promote", "--yes"), "--yes goes with"),
-                              (("promote", "--idempotent"), "--idempotent goes with deploy"), (("--unheard",), "--unheard")):
+                              (("tick", "1", "--timeout", "3"), "--timeout is only for wait"), (("promote", "--yes"), "--yes is only for"),
+                              (("promote", "--idempotent"), "--idempotent is only for deploy"), (("--unheard",), "--unheard")):
             with self.subTest(words=words):
                 told = self.operator(*words)
                 self.assertEqual((told.printed, told.status, expected in told.told), ("", 2, True), told)
@@ -214,7 +214,7 @@ class Prompts(Operated):
         self.assertNotIn("quit", self.switch.sent_lines())
 
     def test_shutdown_asks(self) -> None:
-        self.assertIn("The switch goes on.", self.typed("shutdown", "n", "tick 5"))
+        self.assertIn("The switch continues.", self.typed("shutdown", "n", "tick 5"))
         self.assertEqual(self.switch.sent_lines(), [])
         self.assertIn("The switch shuts down.", self.typed("shutdown", "y", "tick 6"))
         self.assertEqual(self.switch.sent_lines(), ["quit"])

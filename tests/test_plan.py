@@ -72,11 +72,11 @@ class Complaints(unittest.TestCase):
 
     def test_a_command_that_is_one_text(self) -> None:
         self.assertEqual(problems(with_keys(analyses={"pre": "./smoke.sh 21081"})),
-                         ['analyses.pre: "./smoke.sh 21081" is no list of words, such as ["./smoke.sh", "21081"]'])
+                         ['analyses.pre: "./smoke.sh 21081" is not a list of words, such as ["./smoke.sh", "21081"]'])
 
     def test_a_name_with_a_letter_outside_ascii(self) -> None:
         [problem] = problems(with_revision(name="web-é"))
-        self.assertTrue(problem.startswith('revisions[1].name: "web-\\u00e9" is no name: a name is 1 to 63 lower-case'), problem)
+        self.assertTrue(problem.startswith('revisions[1].name: "web-\\u00e9" is not a name: a name is 1 to 63 lower-case'), problem)
 
     def test_an_unknown_key(self) -> None:
         self.assertEqual(problems(with_keys(analysis={})), ["analysis: there is no such key; the nearest is analyses"])
@@ -98,17 +98,17 @@ class Judged(unittest.TestCase):
             "control": "8082", "helth": {}, "analyses": {"post": []}, "progress": {"abort": 1},
             "revisions": [{"name": "a", "ports": [0, 1.5]}, {"name": "a", "ports": [7, 7, 9]}, {"port": [1]}, 3]}), [
                 "helth: there is no such key; the nearest is health",
-                'control: "8082" is no number',
-                'analyses.post: [] is no list of words, such as ["./smoke_test.sh", "8081"]',
+                'control: "8082" is not a number',
+                'analyses.post: [] is not a list of words, such as ["./smoke_test.sh", "8081"]',
                 "progress.abort: 1 is neither true nor false",
                 "revisions[0].ports[0]: 0 is below 1",
-                "revisions[0].ports[1]: 1.5 is no whole number",
-                "revisions[1].ports[1]: 7 stands at revisions[1].ports[0] already",
+                "revisions[0].ports[1]: 1.5 is not a whole number",
+                "revisions[1].ports[1]: 7 is already at revisions[1].ports[0]",
                 "revisions[2].port: there is no such key; the nearest is ports",
                 "revisions[2].name: is missing",
                 "revisions[2].ports: is missing",
-                "revisions[3]: 3 is no object",
-                'revisions[1].name: "a" stands at revisions[0].name already',
+                "revisions[3]: 3 is not an object",
+                'revisions[1].name: "a" is already at revisions[0].name',
                 "revisions[1].ports: has 3, and revisions[0].ports has 2: each revision has one port for each replica"])
 
     def test_names(self) -> None:
@@ -137,19 +137,19 @@ class Judged(unittest.TestCase):
                 self.assertTrue(problem.startswith("analyses.pre: "), problem)
 
     def test_what_is_no_object_of_json(self) -> None:
-        self.assertEqual(problems("[]"), ["the plan: [] is no object"])
+        self.assertEqual(problems("[]"), ["the plan: [] is not an object"])
         self.assertEqual(problems("{}"), ["control: is missing", "revisions: is missing"])
         for text in ("", "{", '{"control": NaN}', "[" * 100000, '{"control": ' + "9" * 5000 + "}"):
             with self.subTest(text=text[:20]):
                 [problem] = problems(text)
-                self.assertTrue(problem.startswith("it is no JSON: "), problem)
+                self.assertTrue(problem.startswith("it is not JSON: "), problem)
         self.assertEqual(problems(" " * 2 ** 20 + "{}"), ["it has more than 1048576 bytes"])
-        with self.assertRaisesRegex(WrongPlan, "it is no JSON"):
+        with self.assertRaisesRegex(WrongPlan, "it is not JSON"):
             read_plan(b'{"control": 1, "\xff": 2}')
 
     def test_a_key_that_stands_twice(self) -> None:
         self.assertEqual(problems('{"control": 1, "control": 2, "revisions": [{"name": "a", "ports": [1]}]}'),
-                         ["control: stands there more than once"])
+                         ["control: is there more than once"])
 
     def test_a_large_plan_is_judged_soon(self) -> None:
         text, begun = json.dumps({"control": {str(number): 0 for number in range(30000)}}), time.process_time()
@@ -176,13 +176,13 @@ class Contradictions(unittest.TestCase):
 
     def test_two_revisions_with_one_port(self) -> None:
         self.assertEqual(problems(with_revision(ports=[9103, 9101])),
-                         ["revisions[1].ports[1]: 9101 stands at revisions[0].ports[0] already: an endpoint serves one revision"])
+                         ["revisions[1].ports[1]: 9101 is already at revisions[0].ports[0]: an endpoint serves one revision"])
 
     def test_a_port_of_the_switch_itself(self) -> None:
         for port, key in ((8080, "active"), (8081, "preview"), (8082, "control")):
             self.assertEqual(problems(with_revision(ports=[9201, port])),
                              [f"revisions[1].ports[1]: {port} is a port of the switch itself, as {key} says"])
-        self.assertEqual(problems(with_keys(active=8082)), ["active: 8082 stands at control already"])
+        self.assertEqual(problems(with_keys(active=8082)), ["active: 8082 is already at control"])
 
     def test_limits_that_no_analysis_can_keep(self) -> None:
         tool = ("/usr/local/bin/bg_switch_tools.pyz", "analysis", "--log", "x", "--errors-at-most", "1%")
@@ -245,11 +245,11 @@ class Yaml(unittest.TestCase):
 
     def test_what_is_wrong_is_named_as_in_json(self) -> None:
         self.assertEqual(problem(YAML.replace(b"9102", b"70000")), "revisions[0].ports[1]: 70000 is above 65535")
-        self.assertEqual(problem(YAML + b"control: 1\n"), "control: stands there more than once")
+        self.assertEqual(problem(YAML + b"control: 1\n"), "control: is there more than once")
         self.assertEqual(problem(b"control: x: y"), "it is neither JSON nor YAML: mapping values are not allowed here in line 1")
         self.assertIn("a value that JSON does not have, of the type tag:yaml.org,2002:timestamp", problem(YAML + b"x: 2026-11-26\n"))
         self.assertIn("a value that JSON does not have", problem(b"x: !!python/object/apply:os.system [ls]"))
-        self.assertIn("a key that is no text", problem(YAML + b"7: x\n"))
+        self.assertIn("a key that is not a text", problem(YAML + b"7: x\n"))
 
     def test_no_text_grows(self) -> None:
         bomb = b"a: &a [x]\n" + b"".join(b"%c: &%c [*%c, *%c]\n" % (c + 1, c + 1, c, c) for c in range(97, 121))
@@ -291,8 +291,8 @@ class Edits(unittest.TestCase):
         with contextlib.redirect_stderr(io.StringIO()) as told:
             self.assertEqual(controller_cli.main(["deploy", self.path, "web-v3", "9101", "x"]), 1)
         self.assertEqual(told.getvalue().splitlines(), [
-            f"controller: {self.path} stays as it is, since with web-v3 it would be no plan:", "  revisions[2].ports[1]: 0 is below 1",
-            "  revisions[2].ports[0]: 9101 stands at revisions[0].ports[0] already: an endpoint serves one revision"])
+            f"controller: {self.path} stays as it is, since with web-v3 it would not be a plan:", "  revisions[2].ports[1]: 0 is below 1",
+            "  revisions[2].ports[0]: 9101 is already at revisions[0].ports[0]: an endpoint serves one revision"])
 
     def test_comments_of_yaml_are_not_lost(self) -> None:
         if plan_text._yaml() is None:

@@ -63,13 +63,13 @@ class Queries(unittest.TestCase):
 
     def test_what_is_no_result(self) -> None:
         for status, body, why in (
-                (400, refused("parse error"), "status 400: parse error"), (503, b"<html>", "status 503, is no JSON"),
-                (200, b"[]", "status 200: None"), (200, b'{"status": "success"}', "no vector and no scalar"),
+                (400, refused("parse error"), "status 400: parse error"), (503, b"<html>", "status 503, is not JSON"),
+                (200, b"[]", "status 200: None"), (200, b'{"status": "success"}', "neither a vector nor a scalar"),
                 (200, b'{"status": "success", "data": {"resultType": "matrix", "result": []}}', "but matrix"),
-                (200, vector("x"), "a sample of the result is none"), (200, vector(*["1"] * 1001), "more than 1000 values"),
+                (200, vector("x"), "a sample of the result is malformed"), (200, vector(*["1"] * 1001), "more than 1000 values"),
                 (200, b'{"status": "success", "data": {"resultType": "vector", "result": [1]}}', "a sample"),
                 (200, b'{"status": "success", "data": {"resultType": "scalar", "result": [1, 7]}}', "a sample"),
-                (200, b"[" * 99999, "is no JSON"), (200, b" " * (prometheus_query.LARGEST + 1), "has more than")):
+                (200, b"[" * 99999, "is not JSON"), (200, b" " * (prometheus_query.LARGEST + 1), "has more than")):
             with self.subTest(body=body[:80]), self.assertRaisesRegex(NoAnswer, why):
                 self.values(status, body)
 
@@ -165,19 +165,19 @@ class Runs(unittest.TestCase):
             ended = analysis(*words, environment={"BG_REVISION": "web-v2", "BG_REVISION_NUMBER": "2"})
             self.assertEqual((ended.status, 'revision="web-v2",' in server.asked[0][1]), (0, True), ended.printed)
             self.assertIn("analysis of revision 2 web-v2: 0 s: 0: the limits hold", ended.printed)
-            self.assertIn("no revision is told", analysis(*words).printed)
+            self.assertIn("no revision is given", analysis(*words).printed)
 
     def test_words_that_are_refused(self) -> None:
         url = ("--prometheus", "http://127.0.0.1:9090")
         whole = (*url, "--query", "up", "--at-most", "1", "--count", "1")
         for words, why in (
-                ((), "is required"), ((*whole, "--log", "x"), "not allowed with"), (url, "--query is wanted"),
-                ((*url, "--query", "up", "--count", "1"), "a limit is wanted"), (whole[:6], "one of --count and --seconds"),
+                ((), "is required"), ((*whole, "--log", "x"), "not allowed with"), (url, "--query is needed"),
+                ((*url, "--query", "up", "--count", "1"), "a limit is needed"), (whole[:6], "one of --count and --seconds"),
                 ((*whole, "--seconds", "9"), "one of --count and --seconds"), ((*whole[:-1], "0"), "--count is above 0"),
                 ((*whole, "--errors-at-most", "1%"), "--errors-at-most belongs to --log"),
                 ((*whole, "--silence-allowed"), "--silence-allowed belongs to --log"),
                 (("--prometheus", "x", *whole[2:]), "a URL is wanted"), ((*whole, "--interval", "0s"), "above 0 is wanted"),
-                (("--log", "x", "--seconds", "1m"), "a limit is wanted: --errors-at-most"), (("--log", "x"), "--seconds is wanted"),
+                (("--log", "x", "--seconds", "1m"), "a limit is needed: --errors-at-most"), (("--log", "x"), "--seconds is needed"),
                 (("--log", "x", "--seconds", "1m", "--errors-at-most", "1%", "--query", "up"), "--query belongs to --prometheus")):
             ended = analysis(*words)
             self.assertEqual((ended.status, why in ended.printed), (2, True), (words, ended.printed))

@@ -133,8 +133,8 @@ class Files(unittest.TestCase):
 
     def test_only_a_file_that_is_cut_is_called_cut(self) -> None:
         self.file.write(STATE)
-        for text, expected in ((None, "can't be read: Is a directory"), (b"[7]", "is no state file: it has no object"),
-                             (b'{"moment": "x"}', "is no state file: stable: is missing"), (b"moment: 7\n", "is no state file: Expecting value"),
+        for text, expected in ((None, "can't be read: Is a directory"), (b"[7]", "is not a state file: it has no object"),
+                             (b'{"moment": "x"}', "is not a state file: stable: is missing"), (b"moment: 7\n", "is not a state file: Expecting value"),
                              (b"", "is empty")):
             with self.subTest(expected=expected):
                 path = pathlib.Path(self.file.path)

@@ -1,5 +1,5 @@
 #!/bin/sh
-# Runs the plan beside this script: two endpoints for each revision, the switch, and the controller, up to ctrl-C.
+# Runs the plan beside this script: two endpoints for each revision, the switch, and the controller, until ctrl-C.
 # Watch it from another terminal with `bin/operator 18082 watch`.
 set -eu
 cd "$(dirname -- "$0")"

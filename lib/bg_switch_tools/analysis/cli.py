@@ -29,7 +29,7 @@ has failed. By Prometheus, each measurement is a query; one without data, or who
 
 A duration is 60, 60s, 1m or 1h.
 
-Exit status: 0 where the limits held to the end; 1 as soon as more measurements than --failures have failed; 2 where the revision
+Exit status: 0 if the limits held to the end; 1 as soon as more measurements than --failures have failed; 2 if the revision
 can't be judged: too few requests came, the log can't be read, measurements are inconclusive, Prometheus gives no answer, or the
 words are wrong.
 """
@@ -95,9 +95,9 @@ def fault_of(given: argparse.Namespace) -> str:
         return f"--{foreign[0].replace('_', '-')} belongs to {option}"
     if given.log is not None:
         if given.seconds is None:
-            return "--seconds is wanted"
+            return "--seconds is needed"
         has_limit = given.errors_at_most is not None or given.p99_at_most is not None
-        return "" if has_limit else "a limit is wanted: --errors-at-most, --p99-at-most or both"
+        return "" if has_limit else "a limit is needed: --errors-at-most, --p99-at-most or both"
     from bg_switch_tools.analysis import prometheus_options  # here, since HTTP would make each start of the other tools slower
     return prometheus_options.fault_of(given)
 

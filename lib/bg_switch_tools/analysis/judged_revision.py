@@ -54,7 +54,7 @@ def subject_of(told: str, control: int | None, variables: Mapping[str, str] = os
     if told in ("", name) and number.isdigit():
         return JudgedRevision(name, int(number), control or control_of(variables))
     if not told:
-        raise NotJudged("no revision is told: --revision names it, where no controller runs this")
+        raise NotJudged("no revision is given: --revision names it, if no controller runs this")
     is_number = told.isascii() and told.isdigit()
     if control is None:
         if is_number:

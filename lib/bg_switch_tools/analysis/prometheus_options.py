@@ -1,4 +1,4 @@
-"""bin/analysis by a query of Prometheus: what is wrong with its words, and the judgement."""
+"""The options of bin/analysis for a query of Prometheus: what is wrong with them, and the analysis that they ask for."""
 import argparse
 import math
 import os
@@ -17,11 +17,11 @@ def fault_of(given: argparse.Namespace) -> str:
     except ValueError as reason:
         return f"--prometheus: {reason}"
     if not given.query:
-        return "--query is wanted"
+        return "--query is needed"
     if given.at_most is None and given.at_least is None:
-        return "a limit is wanted: --at-most, --at-least or both"
+        return "a limit is needed: --at-most, --at-least or both"
     if (given.count is None) == (given.seconds is None):
-        return "one of --count and --seconds is wanted"
+        return "one of --count and --seconds is needed"
     return "--count is above 0" if given.count == 0 else ""
 
 

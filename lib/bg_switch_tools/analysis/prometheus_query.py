@@ -32,7 +32,7 @@ def server_of(url: str) -> Server:
     """The server at a URL such as `http://127.0.0.1:9090`. `ValueError` where it is none."""
     parts = urllib.parse.urlsplit(url)
     if parts.scheme not in CONNECTIONS or not parts.hostname or parts.username is not None or parts.query or parts.fragment:
-        raise ValueError(f"a URL is wanted, such as http://127.0.0.1:9090, and not {url!r}")
+        raise ValueError(f"a URL is expected, such as http://127.0.0.1:9090, and not {url!r}")
     if not url.isascii() or not url.isprintable() or " " in url:
         raise ValueError(f"{url!r} has characters that a URL does not have")
     return Server(parts.scheme, parts.hostname, parts.port, parts.path.rstrip("/"))
@@ -86,7 +86,7 @@ def query_values(server: Server, query: str, wait: float = WAIT) -> list[float]:
     try:
         told = json.loads(body)
     except (ValueError, RecursionError):
-        raise NoAnswer(f"the answer, with status {status}, is no JSON") from None
+        raise NoAnswer(f"the answer, with status {status}, is not JSON") from None
     if not isinstance(told, dict) or told.get("status") != "success":
         reason = told.get("error") if isinstance(told, dict) else None
         raise NoAnswer(f"the query is refused with status {status}: {str(reason)[:LONGEST_REASON]}")
@@ -99,7 +99,7 @@ def _values(data: object) -> list[float]:
     if kind == "scalar":
         return [_value(result)]
     if kind != "vector" or not isinstance(result, list):
-        raise NoAnswer(f"the result is no vector and no scalar, but {str(kind)[:LONGEST_REASON]}")
+        raise NoAnswer(f"the result is neither a vector nor a scalar, but {str(kind)[:LONGEST_REASON]}")
     if len(result) > MOST_VALUES:
         raise NoAnswer(f"the result has more than {MOST_VALUES} values")
     return [_value(each.get("value") if isinstance(each, dict) else None) for each in result]
@@ -110,4 +110,4 @@ def _value(told: object) -> float:
     if isinstance(told, list) and len(told) == 2 and isinstance(told[1], str):
         with contextlib.suppress(ValueError):
             return float(told[1])
-    raise NoAnswer("a sample of the result is none")
+    raise NoAnswer("a sample of the result is malformed")

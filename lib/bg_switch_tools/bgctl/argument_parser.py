@@ -113,7 +113,7 @@ def _deploy(to: argparse.ArgumentParser) -> None:
 
 def _undo(to: argparse.ArgumentParser) -> None:
     to.add_argument("--to", metavar="NAME|NUMBER", help="the revision to be taken again")
-    to.add_argument("--ports", metavar="PORT", nargs="+", type=endpoint_port, default=[], help="its ports, where no plan has them")
+    to.add_argument("--ports", metavar="PORT", nargs="+", type=endpoint_port, default=[], help="its ports, if no plan has them")
     to.add_argument("--wait", action="store_true", help="waits for the end of the attempt, and ends by it")
     _timeout(to, "--wait")
 
@@ -147,7 +147,7 @@ def _shutdown(to: argparse.ArgumentParser) -> None:
 def _dashboard(to: argparse.ArgumentParser) -> None:
     to.add_argument("--listen", type=listened_port, required=True, metavar="PORT", help="the port of the page")
     to.add_argument("--log", default="", metavar="FILE", help="the access log of the switch, BG_SWITCH_ACCESS_LOG")
-    to.add_argument("--read-only", action="store_true", help="the page has no buttons, and nothing can be ordered through it")
+    to.add_argument("--read-only", action="store_true", help="the page has no buttons, and no line can be sent through it")
 
 
 ARGUMENTS: dict[str, Callable[[argparse.ArgumentParser], None]] = {

@@ -84,7 +84,7 @@ class CommandRun:
 
     def resume(self) -> int:
         was_paused = PauseFile(self.target.needed_path(PAUSED_BY_PLAN)).resume()
-        print("the controller goes on" if was_paused else "the controller was not paused")
+        print("the controller continues" if was_paused else "the controller was not paused")
         return DONE
 
     def check(self) -> int:

@@ -15,7 +15,7 @@ class Command(NamedTuple):
 
 BGCTL_COMMANDS = (
     Command("status", "shows the state in one line", "bgctl status --control 8082"),
-    Command("watch", "draws the state once a second, and each change, up to ctrl-C", "bgctl watch"),
+    Command("watch", "draws the state once a second, and each change, until ctrl-C", "bgctl watch"),
     Command("deploy", "deploys a revision", "bgctl deploy web-v2 9201 9202 --plan plan.json --wait",
             "With a plan, the revision becomes the last one of the plan, in one step, and its controller deploys it. Without a plan, "
             "the line `deploy` is sent to the switch. The revision has one port for each replica."),
@@ -23,7 +23,7 @@ BGCTL_COMMANDS = (
     Command("undo", "takes the revision again that was stable before the newest one", "bgctl undo --to web-v1",
             "With a plan, that revision becomes the last one of the plan. Without a plan, the line `deploy` is sent, and --ports "
             "names the ports, which the switch does not report."),
-    Command("abort", "stops the attempt: both services select the stable revision again", "bgctl abort"),
+    Command("abort", "ends the attempt: both services select the stable revision again", "bgctl abort"),
     Command("retry", "begins the attempt of the newest revision again", "bgctl retry"),
     Command("wait", "waits until conditions hold", "bgctl wait phase=paused newest=web-v2 --timeout 60",
             "With a plan it first waits until the controller has deployed the last revision of the plan."),
@@ -40,7 +40,7 @@ BGCTL_COMMANDS = (
     Command("prompt", "opens a prompt for lines and commands", "bgctl prompt --control 8082"),
     Command("shutdown", "asks, and then shuts the switch down gracefully", "bgctl shutdown --yes"),
     Command("check", "judges a plan: prints its problems, and carries nothing out", "bgctl check plan.json"),
-    Command("controller", "runs a rollout by a plan, up to SIGTERM or ctrl-C", "bgctl controller plan.json",
+    Command("controller", "runs a rollout by a plan, until SIGTERM or ctrl-C", "bgctl controller plan.json",
             "bin/controller -h explains the plan."),
     Command("analysis", "judges a revision by its requests in the access log",
             "bgctl analysis --log access.log --revision web-v2 --seconds 60 --errors-at-most 1%",

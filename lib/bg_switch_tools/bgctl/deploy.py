@@ -22,7 +22,7 @@ def tell_pause(path: str) -> None:
     except OSError:
         return
     if paused:
-        tell(f"the controller is {paused.text()}: it sends no deploy and no verdict up to bgctl resume")
+        tell(f"the controller is {paused.text()}: it sends no deploy and no verdict until bgctl resume")
 
 
 def _edit(path: str, revision: PlannedRevision) -> int:
@@ -41,7 +41,7 @@ def _edit(path: str, revision: PlannedRevision) -> int:
 
 
 def deploy(session: Session, target: Target, revision: PlannedRevision, waits: bool) -> int:
-    """Deploys a revision, and waits for the end of its attempt where that is wanted. Gives the exit status.
+    """Deploys a revision, and waits for the end of its attempt where that is needed. Gives the exit status.
 
     A plan that was deployed already and names the revision last is not deployed again by its controller: somebody has undone
     it, or it is live. Then the line `deploy` is sent, which the switch judges.

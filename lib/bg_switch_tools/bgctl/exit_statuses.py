@@ -6,7 +6,7 @@ FAULT = 70
 
 TABLE = (
     (DONE, "it was carried out: the conditions of a wait hold, the revision of --wait is stable, an analysis has succeeded"),
-    (REFUSED, "it was refused, or can't come any more: the attempt was aborted or replaced, the plan is wrong, a file can't be "
+    (REFUSED, "it was refused, or can no longer happen: the attempt was aborted or replaced, the plan is wrong, a file can't be "
      "written, an analysis has failed, the state is aborted or no book is open (status)"),
     (NO_ANSWER, "the switch gave no answer in time, a wait has reached its timeout, an analysis can't judge, a plan that was named "
      "can't be read, the control port or the revision of an undo is not known, or the words are wrong"),

@@ -1,4 +1,4 @@
-"""What a word that is none was probably meant to be."""
+"""The known word that an unknown one was probably meant to be."""
 import difflib
 from collections.abc import Iterable
 

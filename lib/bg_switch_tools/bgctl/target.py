@@ -47,7 +47,7 @@ class Target:
         try:
             return read_whole_plan(self.path)
         except WrongPlan as wrong:
-            raise Unusable(f"{self.path} is no plan: {wrong}") from None
+            raise Unusable(f"{self.path} is not a plan: {wrong}") from None
 
     def known_port(self) -> int | None:
         """The control port; None where nothing names it. `Unusable` where what names it is wrong."""

@@ -9,14 +9,14 @@ class AnnouncedDeploy:
     """Looks at a plan and at the state file that its controller keeps beside it."""
 
     def __init__(self, path: str) -> None:
-        """`WrongPlan` where the file is no plan."""
+        """`WrongPlan` where the file is not a plan."""
         self.file = PlanFile(path)
         self.plan: Plan = self.file.first()
         self.state = StateFile(path)
 
     def name(self) -> str | None:
         """The plan's last revision, where it was not deployed for the plan yet. A plan that turns wrong announces what it did
-        before, as the controller goes on by the one before."""
+        before, as the controller continues by the one before."""
         try:
             self.plan = self.file.read() or self.plan
         except WrongPlan:

@@ -1,4 +1,4 @@
-"""Tells the switch which endpoints are up, and goes back where none is up behind live traffic."""
+"""Tells the switch which endpoints are up, and ends an attempt if none is up behind live traffic."""
 import time
 from collections.abc import Iterable
 

@@ -12,7 +12,7 @@ AGAIN = 60  # seconds until a line that is refused again and again goes into the
 
 
 class Book:
-    """Reads reports and sends orders. Each change that a report shows, and each order that is not a tick, goes into the log."""
+    """Reads reports and sends lines. Each change that a report shows, and each line that is not a tick, goes into the log."""
 
     def __init__(self, log: Log) -> None:
         self.log = log
@@ -20,7 +20,7 @@ class Book:
         self.seen = 0.0  # the time of the latest report
         self.lost: Report | None = None  # the latest report of the book that was open before, up to the next opening
         self.was_lost = False  # whether the book of an earlier report was found to be gone
-        self.has_sent = False  # whether an order was carried out since the latest report
+        self.has_sent = False  # whether a line was carried out since the latest report
         self.refused: dict[str, float] = {}  # by the line: from when on its refusal is told again
 
     def report(self, connection: Connection) -> Report | None:
@@ -54,15 +54,15 @@ class Book:
         """The report of a book that was open before on this connection."""
         report = self.report(connection)
         if report is None:
-            raise Unreachable("the book was closed in the middle of a turn")
+            raise Unreachable("the book was closed in the middle of a round")
         return report
 
     def send(self, connection: Connection, line: str) -> str:
-        """Sends an order, and gives its reply."""
+        """Sends a line, and gives its reply."""
         return self.note(line, connection.answer(line.encode("ascii"))[0])
 
     def note(self, line: str, reply: str) -> str:
-        """Puts the reply to an order into the log: that of a tick only where it is refused, a refusal once a minute."""
+        """Puts the reply to a line into the log: that of a tick only where it is refused, a refusal once a minute."""
         kind, now = "tick" if line.startswith("tick ") else line, time.monotonic()
         if was_carried_out(reply):
             self.has_sent = True

@@ -117,7 +117,7 @@ class BookOpener:
         """Tells, when the controller starts, that the plan's revisions have not one port for each replica."""
         ports, replicas = len(plan.first.ports), report.stable.desired
         if not self.has_had_book and ports != replicas:
-            text = f"the number of ports of each revision of the plan is {ports}, and the switch wants one for each of {replicas} replicas"
+            text = f"the number of ports of each revision of the plan is {ports}, and the switch needs one for each of {replicas} replicas"
             self.log.say("plan", text)
             with contextlib.suppress(OSError):  # as in the log
                 print(f"controller: {text}", file=sys.stderr, flush=True)

@@ -21,16 +21,16 @@ from bg_switch_tools.controller.state_file import IsLocked, StateLock
 from bg_switch_tools.switch.connection import Connection, Unreachable
 from bg_switch_tools.switch.reports import NoReport
 
-USAGE = """bin/controller [--json] PLAN              runs the plan, up to SIGTERM or ctrl-C
+USAGE = """bin/controller [--json] PLAN              runs the plan, until SIGTERM or ctrl-C
        bin/controller check PLAN                judges it: prints its problems, and carries nothing out
        bin/controller deploy PLAN NAME PORT..   makes a revision the last one of the plan, which a running controller then deploys"""
 ABOUT = """
 The controller looks at the switch five times a second. It ticks each second (the moment is the number of seconds since the book
 was opened first), tells the switch which ports are down and how many endpoints of each revision are up, runs the analysis that
-the phase asks for and hands its verdict in, starts and stops endpoints where the plan has commands for it, and deploys the
-plan's last revision where the plan has just named it. Where no book is open it opens one: with the revision that was stable, by
-the state file beside the plan, and else with the plan's first revision. The plan is read again when its file changes: a deploy
-is an edit of it. What is done by hand beside it (bin/operator) stands: promote, abort, retry, an undo.
+the phase needs and sends its verdict, starts and stops endpoints if the plan has commands for it, and deploys the
+plan's last revision once the plan names it. If no book is open, it opens one with the revision that was stable, by the state file
+beside the plan, or else with the plan's first revision. The plan is read again when its file changes: a deploy is an edit of it.
+The controller does not change what an operator does (bin/operator): promote, abort, retry, an undo.
 
 A plan:
   {"control": 8082,                                         the control port of the switch
@@ -42,7 +42,7 @@ A plan:
                 "post": ["./smoke_test.sh", "8080"],        in the plan's folder: status 0 is successful, 1 failed, and
                 "seconds": 600},                            any other, or no end in so many seconds, error
    "progress": {"seconds": 600, "abort": false,             an attempt for which no further endpoint comes up in so many
-                                                            seconds is told in the log, and aborted where this says so
+                                                            seconds is named in the log, and aborted if this is true
                 "outage": 5},                               one that has switched ends after so many seconds in which no
                                                             endpoint of it was up
    "redispatch": true,                                      false for a switch that was started without --redispatch
@@ -61,15 +61,14 @@ BG_REVISION_NUMBER and BG_PORTS; bin/analysis is one that judges by the access l
 installed. The key "$schema" can name the JSON schema of plans for editors: share/plan.schema.json. docs/OPERATING.md says what each
 line of the log means.
 
-Exit status: 0 after SIGTERM or ctrl-C, and for a plan in which `check` finds nothing wrong; 1 where the plan is wrong when it
-starts, by `check` or after `deploy`, where the switch can't be opened with it, and where another controller runs it; 2 where the
-words are wrong.
+Exit status: 0 after SIGTERM or ctrl-C, and for a plan in which `check` finds nothing wrong; 1 if the plan is wrong when it starts,
+by `check` or after `deploy`, if the switch can't be opened with it, or if another controller runs it; 2 if the words are wrong.
 """
-CONNECT, ANSWER = 1.0, 10.0  # seconds within which a connection is taken, and for the answers of a turn
+CONNECT, ANSWER = 1.0, 10.0  # seconds within which a connection is taken, and for the answers of a round
 RETRY = 0.2  # seconds between two tries where the switch gives no answer
 MINUTE = 60.0
 LOOK = 0.05  # seconds between two looks at whether a signal has come
-LONGEST_END = 1.2  # seconds for the turn to end after a signal
+LONGEST_END = 1.2  # seconds for the round to end after a signal
 
 
 class Silence:
@@ -96,7 +95,7 @@ class Silence:
 
 
 class Runner:
-    """Takes one turn after the other, in a thread of its own, until it is stopped."""
+    """Runs one round after the other, in a thread of its own, until it is stopped."""
 
     def __init__(self, file: PlanFile, plan: Plan, log: Log) -> None:
         self.file = file
@@ -106,7 +105,7 @@ class Runner:
         self.stopping = threading.Event()
         self.connection: Connection | None = None
         self.unfit = ""
-        self.has_fault = True  # until the turns have ended as they should
+        self.has_fault = True  # until the rounds have ended as they should
         self.thread = threading.Thread(target=self._run, daemon=True)
 
     def _run(self) -> None:
@@ -116,7 +115,7 @@ class Runner:
             pause = self._round()
         self.controller.end()
         if not self.unfit:
-            self.log.say("end", "ends; the switch goes on")
+            self.log.say("end", "ends; the switch continues")
         self.controller.notifier.end()
         self.has_fault = False
 
@@ -127,10 +126,10 @@ class Runner:
                 self.controller.take_plan(plan)
         except WrongPlan as wrong:
             for problem in wrong.problems:
-                self.log.say("plan", f"the plan is wrong, so the one before stands: {problem}")
+                self.log.say("plan", f"the plan is wrong, so the one before is used: {problem}")
 
     def _round(self) -> float:
-        """Gives the seconds until the next turn."""
+        """Runs a round. Gives the seconds until the next one."""
         try:
             with Connection(self.controller.plan.control, CONNECT) as connection:
                 self.connection = connection
@@ -149,7 +148,7 @@ class Runner:
         return RETRY
 
     def stop(self) -> None:
-        """Ends the turns, within a second or so: a connection that waits is cut, and an analysis that runs is stopped."""
+        """Ends the rounds, within a second or so: a connection that waits is cut, and an analysis that runs is stopped."""
         self.stopping.set()
         if connection := self.connection:
             connection.cut()
@@ -177,13 +176,13 @@ def run(path: str, as_json: bool) -> int:
         plan = file.first()
         lock = StateLock(path)
     except WrongPlan as wrong:
-        tell_problems(f"{path} is no plan", wrong)
+        tell_problems(f"{path} is not a plan", wrong)
         return 1
     except IsLocked as reason:
         tell(str(reason))
         return 1
     except OSError as error:
-        tell(f"no lock can be had beside {path}, so a second controller is not noticed: {error.strerror}")
+        tell(f"the lock file beside {path} cannot be made, so a second controller is not noticed: {error.strerror}")
         return run_locked(file, plan, as_json)
     try:
         return run_locked(file, plan, as_json)
@@ -225,7 +224,7 @@ def deploy(path: str, name: str, ports: Sequence[str]) -> int:
     try:
         print(deploy_by_plan(path, name, [port_or_none(port) for port in ports]))
     except WrongPlan as wrong:
-        tell_problems(f"{path} stays as it is, since with {name} it would be no plan", wrong)
+        tell_problems(f"{path} stays as it is, since with {name} it would not be a plan", wrong)
         return 1
     except OSError as error:
         tell(f"{path} can't be written: {error.strerror}")
@@ -234,7 +233,7 @@ def deploy(path: str, name: str, ports: Sequence[str]) -> int:
 
 
 def port_or_none(text: str) -> int:
-    """A port as a word; 0, which no plan may have, where it is no number."""
+    """A port as a word; 0, which no plan may have, where it is not a number."""
     return int(text) if text.isascii() and text.isdigit() and len(text) <= 9 else 0
 
 
@@ -251,5 +250,4 @@ def main(words: Sequence[str]) -> int:
         return check(given.words[1])
     if len(given.words) >= 4 and given.words[0] == "deploy" and not given.json:
         return deploy(given.words[1], given.words[2], given.words[3:])
-    parser.error("the file of one plan is wanted, after the word check where it is to be judged alone, and between the word deploy "
-                 "and a revision where that is to be deployed")
+    parser.error("give the file of one plan: PLAN runs it, check PLAN checks it, and deploy PLAN NAME PORT.. deploys a revision by it")

@@ -1,4 +1,4 @@
-"""The turns of a controller: it ticks, reports availability, runs analyses, starts and stops endpoints, and deploys by its
+"""The rounds of a controller: it ticks, reports availability, runs analyses, starts and stops endpoints, and deploys by its
 plan."""
 import os
 import time
@@ -21,12 +21,12 @@ from bg_switch_tools.switch.lines import was_carried_out
 from bg_switch_tools.switch.moments import Clock
 from bg_switch_tools.switch.reports import Report
 
-ROUND = 0.2  # seconds between two turns: an order of somebody else is known after that, and kept
-SOON = 0.05  # seconds until the next turn where something is awaited that comes soon
+ROUND = 0.2  # seconds between two rounds: a line of somebody else is known after that, and kept
+SOON = 0.05  # seconds until the next round, while something is awaited that comes soon
 
 
 class Controller:
-    """What is done in a turn, over a connection of its own."""
+    """What is done in a round, over a connection of its own."""
 
     def __init__(self, path: str, plan: Plan, log: Log, probes: Probes) -> None:
         folder = os.path.dirname(os.path.abspath(path))
@@ -68,7 +68,7 @@ class Controller:
         self._watch_endpoints()
 
     def do_round(self, connection: Connection) -> float:
-        """One turn. Gives the seconds until the next one. `Unreachable` where the switch stops answering in the middle."""
+        """One round. Gives the seconds until the next one. `Unreachable` where the switch stops answering in the middle."""
         self.pause.look()
         report = self._open_book(connection)
         if report is None:
@@ -132,7 +132,7 @@ class Controller:
         if existing is None:
             self.log.say("plan", f"{last.name} does not exist yet, so it is deployed")
         elif existing != report.newest:
-            self.log.say("plan", f"{last.name} exists and is not the newest revision, so it is taken for undone and not deployed")
+            self.log.say("plan", f"{last.name} exists and is not the newest revision, so it counts as undone and not deployed")
         self.memory.set_deployed(last if existing else None)
 
     def _report_availability(self, connection: Connection, report: Report) -> None:

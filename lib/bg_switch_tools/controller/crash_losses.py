@@ -7,8 +7,8 @@ PAST_THE_PAUSE = ("sizing", "postAnalysis")
 
 
 def last_seen(report: Report, age: float) -> str:
-    """What was known of a book when it was lost. An order that came later is not known."""
-    return f"its last report is {age:.1f} seconds old: {in_one_line(report)}; an order that came after it is lost"
+    """What was known of a book when it was lost. A line that came later is not known."""
+    return f"its last report is {age:.1f} seconds old: {in_one_line(report)}; a line that came after it is lost"
 
 
 def _attempt(report: Report, begins_again: bool) -> list[str]:

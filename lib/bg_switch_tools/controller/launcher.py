@@ -1,4 +1,4 @@
-"""Starts the endpoints of the revisions that are wanted, and stops those that no request can reach any more."""
+"""Starts the endpoints of the revisions that are needed, and stops those that no request can reach any more."""
 import dataclasses
 import itertools
 import threading
@@ -41,7 +41,7 @@ class Endpoint:
     next: float = 0.0
 
     def require(self, kind: str) -> None:
-        """From now on a command of this kind is wanted."""
+        """From now on a command of this kind is needed."""
         if self.kind != kind:
             self.kind, self.done, self.pause, self.next = kind, "", FIRST_PAUSE, 0.0
 
@@ -118,7 +118,7 @@ class Launcher:
                 self._run(plan, key, endpoint)
 
     def _is_held(self, key: Key) -> bool:
-        """Whether the port is still that of another revision, which was wanted before, and was not stopped."""
+        """Whether the port is still that of another revision, which was needed before, and was not stopped."""
         revision, port = key
         before = itertools.takewhile(lambda each: each != revision, self.memory.state.started)
         other = next((each for each in before if port in each.ports), None)
@@ -158,7 +158,7 @@ class Launcher:
             self.endpoints.pop((revision, port), None)
 
     def _run(self, plan: Plan, key: Key, endpoint: Endpoint) -> None:
-        """Begins the command that is wanted of an endpoint."""
+        """Begins the command that is needed of an endpoint."""
         if sum(each.group is not None for each in self.endpoints.values()) >= MOST_AT_ONCE:
             return
         revision, port = key

@@ -31,7 +31,7 @@ class Log:
         self._write(event, text, {})
 
     def say_reply(self, line: str, reply: str) -> None:
-        """Writes the line for an order and its reply."""
+        """Writes an operator's line and its reply."""
         told = {"line": line, "reply": reply, "carried_out": was_carried_out(reply), "meaning": meaning_of(reply)}
         self._write("order", f"{line} => {with_meaning(reply)}", told)
 

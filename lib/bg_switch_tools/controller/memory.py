@@ -1,4 +1,4 @@
-"""What a controller knows of the turns before, kept in the state file of its plan."""
+"""What a controller knows of the rounds before, kept in the state file of its plan."""
 import dataclasses
 import time
 from collections.abc import Mapping
@@ -17,7 +17,7 @@ Revisions = Mapping[str, PlannedRevision]  # by their names
 
 
 class Memory:
-    """The state. `is_fresh` says that nothing is known of this plan's turns before."""
+    """The state. `is_fresh` says that nothing is known of this plan's rounds before."""
 
     def __init__(self, plan_path: str, plan: Plan, log: Log) -> None:
         """Reads the state file. Where it can't be used, the log says what is done, and why."""
@@ -44,13 +44,13 @@ class Memory:
         path = self.file.copy if why_copy else self.file.path
         if not state.belongs_to(plan):
             self._say(f"the state file {path} is not used, since it is of another plan: neither its stable revision nor the one "
-                      f"that was deployed last stands in this plan; {otherwise}")
+                      f"that was deployed last is in this plan; {otherwise}")
             return
         self.state, self.is_fresh = self._believed(state), False
         if why_copy:
             self._say(f"the state file {self.file.path} {why_copy}, so its copy is used")
         stable, deployed = (revision.name if revision else "none" for revision in (state.stable, state.deployed))
-        self._say(f"goes on from the state file {path}: moment {self.state.moment}, stable {stable}, deployed by the plan {deployed}")
+        self._say(f"continues from the state file {path}: moment {self.state.moment}, stable {stable}, deployed by the plan {deployed}")
 
     def _believed(self, state: State) -> State:
         """The state with a moment that can be true: a book would be ticked to any other one, and never again."""

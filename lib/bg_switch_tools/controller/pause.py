@@ -61,7 +61,7 @@ class PauseFile:
 
 
 class Pause:
-    """What a controller knows of its pause. It looks at each turn, and tells in the log what has changed."""
+    """What a controller knows of its pause. It looks in each round, and tells in the log what has changed."""
 
     def __init__(self, plan_path: str, log: Log) -> None:
         self.file = PauseFile(plan_path)
@@ -79,7 +79,7 @@ class Pause:
         except OSError:
             return
         if paused and not self.paused:
-            self.log.say("plan", f"{paused.text()}: no deploy and no verdict is sent up to bgctl resume")
+            self.log.say("plan", f"{paused.text()}: no deploy and no verdict is sent until bgctl resume")
         elif self.paused and not paused:
             self.log.say("plan", "resumed: deploys and verdicts are sent again")
         self.paused = paused

@@ -51,7 +51,7 @@ def _put_in_place(path: str, text: bytes) -> None:
 
 def deploy_by_plan(path: str, name: str, ports: Sequence[int], sign: Callable[[bytes], None] = _unsigned) -> str:
     """Makes a revision the last one of a plan's file, in one step, and says so. A file that names it last with these ports stays
-    as it is. `sign` is given the new text before it is in place. `WrongPlan` where the result is no plan, and `OSError` where the
+    as it is. `sign` is given the new text before it is in place. `WrongPlan` where the result is not a plan, and `OSError` where the
     file can't be written, or another edit does not end: then nothing is changed."""
     with EditLock(path):
         file = PlanFile(path)

@@ -15,7 +15,7 @@ KEYS = ("control", *SERVICE_KEYS, "health", "analyses", "progress", "redispatch"
 
 
 class WrongPlan(Exception):
-    """A text that is no plan. `problems` has a line for each thing that is wrong, with its place."""
+    """A text that is not a plan. `problems` has a line for each thing that is wrong, with its place."""
 
     def __init__(self, problems: list[str]) -> None:
         super().__init__("; ".join(problems))
@@ -68,13 +68,13 @@ def compare(judge: Judge, revisions: tuple[PlannedRevision, ...], place: str) ->
     first: dict[int, str] = {}  # by the port: its place in the revision that has it first
     for number, revision in enumerate(revisions):
         if revision.name and revision.name in names[:number]:
-            judge.note(f"{place}[{number}].name", f'"{revision.name}" stands at {place}[{names.index(revision.name)}].name already')
+            judge.note(f"{place}[{number}].name", f'"{revision.name}" is already at {place}[{names.index(revision.name)}].name')
         if revision.ports and revisions[0].ports and len(revision.ports) != len(revisions[0].ports):
             judge.note(f"{place}[{number}].ports", f"has {len(revision.ports)}, and {place}[0].ports has "
                        f"{len(revisions[0].ports)}: each revision has one port for each replica")
         places = {port: f"{place}[{number}].ports[{index}]" for index, port in enumerate(revision.ports)}
         for port in (port for port in places if port in first):
-            judge.note(places[port], f"{port} stands at {first[port]} already: an endpoint serves one revision")
+            judge.note(places[port], f"{port} is already at {first[port]}: an endpoint serves one revision")
         first = {**places, **first}
 
 
@@ -83,7 +83,7 @@ def compare_ports(judge: Judge, plan: Plan) -> None:
     own = {plan.control: "control"}
     for key, port in plan.services.items():
         if port in own:
-            judge.note(key, f"{port} stands at {own[port]} already")
+            judge.note(key, f"{port} is already at {own[port]}")
         own.setdefault(port, key)
     for number, revision in enumerate(plan.revisions):
         for index, port in enumerate(revision.ports):
@@ -93,7 +93,7 @@ def compare_ports(judge: Judge, plan: Plan) -> None:
 
 def read_revisions(judge: Judge, told: object, place: str) -> tuple[PlannedRevision, ...]:
     if not isinstance(told, list) or not 1 <= len(told) <= MOST_REVISIONS:
-        judge.note(place, f"there is no list of 1 to {MOST_REVISIONS} revisions")
+        judge.note(place, f"it is not a list of 1 to {MOST_REVISIONS} revisions")
         return ()
     revisions = tuple(read_revision(judge, one, f"{place}[{number}]") for number, one in enumerate(told))
     compare(judge, revisions, place)

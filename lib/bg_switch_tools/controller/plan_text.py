@@ -35,7 +35,7 @@ def _value(yaml: Any, loader: Any, node: Any, depth: int) -> object:
 def _key(loader: Any, node: Any) -> str:
     key = loader.construct_object(node) if node.tag in SCALARS else None
     if not isinstance(key, str):
-        raise ValueError(f"line {node.start_mark.line + 1} has a key that is no text")
+        raise ValueError(f"line {node.start_mark.line + 1} has a key that is not a text")
     return key
 
 
@@ -61,10 +61,10 @@ def value_of(text: bytes) -> object:
         return decoded(text)
     except ValueError as error:
         if not text.strip() or text.lstrip()[:1] in b"{[":
-            raise ValueError(f"it is no JSON: {error}") from None
+            raise ValueError(f"it is not JSON: {error}") from None
         yaml = _yaml()
         if yaml is None:
-            raise ValueError(f"it is no JSON: {error}; YAML is read only where python3-yaml is installed") from None
+            raise ValueError(f"it is not JSON: {error}; YAML is read only where python3-yaml is installed") from None
     try:
         return _value_of_yaml(yaml, text)
     except ValueError as error:

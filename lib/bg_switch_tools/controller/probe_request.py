@@ -1,6 +1,6 @@
 """The request of a probe: a GET by http.client, whose response has to come whole and in time.
 
-http.client alone takes a head that is cut for one that has ended, ignores a length that is no number, and limits each read but
+http.client alone takes a head that is cut for one that has ended, ignores a length that is not a number, and limits each read but
 not the whole. The switch answers 502 for such responses, and so a probe has to notice them.
 """
 import asyncio
@@ -52,7 +52,7 @@ class Response(http.client.HTTPResponse):
             super().begin()
         self.lines.most = math.inf  # what follows are the lines of chunks
         if self.length is None and not self.chunked and {"content-length", "transfer-encoding"} & set(map(str.lower, self.headers)):
-            raise Malformed  # a length that is no number, or a coding that is not `chunked` alone
+            raise Malformed  # a length that is not a number, or a coding that is not `chunked` alone
 
     def drop_body(self) -> None:
         """Reads the body to its end."""

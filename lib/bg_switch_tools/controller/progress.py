@@ -1,7 +1,7 @@
 """Whether an attempt makes progress, as Argo Rollouts' `progressDeadlineSeconds` asks."""
 from bg_switch_tools.switch.reports import Report
 
-WAITS = ("scaling", "sizing")  # the phases that wait for endpoints; a pause and an analysis are no want of progress
+WAITS = ("scaling", "sizing")  # the phases that wait for endpoints; a pause and an analysis do not count
 
 
 class ProgressClock:

@@ -78,7 +78,7 @@ def _read_process(judge: Judge, told: object, place: str) -> ProcessId:
 def _read_list(judge: Judge, told: object, place: str) -> list[object]:
     if isinstance(told, list) and len(told) <= MOST_STARTED:
         return told
-    judge.note(place, f"there is no list of at most {MOST_STARTED}")
+    judge.note(place, f"it is not a list of at most {MOST_STARTED}")
     return []
 
 
@@ -105,13 +105,13 @@ def read_state(text: bytes) -> State:
         told = decoded(text)
     except ValueError as error:
         is_cut = text.startswith(b"{") and not text.endswith(b"}\n")
-        raise NoState("is cut" if is_cut else f"is no state file: {error}") from None
+        raise NoState("is cut" if is_cut else f"is not a state file: {error}") from None
     if not isinstance(told, JsonObject):
-        raise NoState("is no state file: it has no object")
+        raise NoState("is not a state file: it has no object")
     members = judge.members(told, "", (*NEEDED, *LATER), NEEDED)
     state = State() if judge.problems else _read_values(judge, members)
     if judge.problems:
-        raise NoState(f"is no state file: {'; '.join(judge.problems)}")
+        raise NoState(f"is not a state file: {'; '.join(judge.problems)}")
     return state
 
 

@@ -13,7 +13,7 @@ JSON at /api/state and /api/events. It listens on 127.0.0.1 alone."""
 END = """
 It needs aiohttp and prometheus_client: apt-get install python3-aiohttp python3-prometheus-client. docs/DASHBOARD.md has the rest.
 
-Exit status: 0 after SIGTERM or ctrl-C; 1 where the port can't be had or a library is missing; 2 where the words are wrong.
+Exit status: 0 after SIGTERM or ctrl-C; 1 if the port cannot be used or a library is missing; 2 if the words are wrong.
 """
 PACKAGES = {"aiohttp": "python3-aiohttp", "prometheus_client": "python3-prometheus-client"}
 
@@ -28,7 +28,7 @@ def parser() -> argparse.ArgumentParser:
     made.add_argument("port", type=port_of, metavar="PORT", help="the control port of the switch")
     made.add_argument("--listen", type=listened_port, required=True, metavar="PORT", help="the port of the page")
     made.add_argument("--log", default="", metavar="FILE", help="the access log of the switch, BG_SWITCH_ACCESS_LOG")
-    made.add_argument("--read-only", action="store_true", help="the page has no buttons, and nothing can be ordered through it")
+    made.add_argument("--read-only", action="store_true", help="the page has no buttons, and no line can be sent through it")
     return made
 
 
@@ -47,6 +47,6 @@ def main(words: Sequence[str]) -> int:
     try:
         server.run(Board(given.port, given.log, given.read_only), given.listen)
     except OSError as error:
-        print(f"dashboard: port {given.listen} can't be had: {os.strerror(error.errno or 0)}", file=sys.stderr)
+        print(f"dashboard: port {given.listen} cannot be used: {os.strerror(error.errno or 0)}", file=sys.stderr)
         return 1
     return 0

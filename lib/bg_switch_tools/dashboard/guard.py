@@ -1,4 +1,4 @@
-"""Who may read the dashboard, and who may order through it.
+"""Who may read the dashboard, and who may send commands through it.
 
 A page of another site can make a browser send requests to any port of the machine. It can't read the answers, unless its own
 name leads to 127.0.0.1 (DNS rebinding): then the name stands in Host. It can't read the token of the page either, and a browser

@@ -64,10 +64,10 @@ def _of_revisions(report: Report) -> Iterator[Metric]:
 
     def each(name: str, text: str, values: Mapping[str, float]) -> Metric:
         return _by(name, text, "revision", values)
-    yield each("bg_switch_replicas_desired", "Endpoints that the revision wants.", {one.name: one.desired for one in revisions})
+    yield each("bg_switch_replicas_desired", "Desired endpoints of the revision.", {one.name: one.desired for one in revisions})
     yield each("bg_switch_replicas_available", "Endpoints of the revision that can take requests.",
                {one.name: one.available for one in revisions})
-    yield each("bg_switch_replicas_unavailable", "Endpoints that the revision wants and that can't take requests.",
+    yield each("bg_switch_replicas_unavailable", "Desired endpoints of the revision that cannot take requests.",
                {one.name: one.desired - one.available for one in revisions})
     yield each("bg_switch_open_requests", "Requests of the revision that are being served.",
                {one.name: one.open for one in revisions})

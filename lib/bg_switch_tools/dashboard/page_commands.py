@@ -1,4 +1,4 @@
-"""Orders of the page, which are sent only where the switch is still as the page showed it."""
+"""The commands of the page's buttons, which are sent only if the newest revision is the one that the page showed."""
 from typing import NamedTuple
 
 from bg_switch_tools.switch.connection import Connection, sent
@@ -11,7 +11,7 @@ WAIT = 5.0  # seconds for the switch to answer
 
 
 class WrongPageCommand(ValueError):
-    """A text that is no order. The message says why."""
+    """A text that is not a command. The message says why."""
 
 
 class Moved(Exception):
@@ -19,19 +19,19 @@ class Moved(Exception):
 
 
 class PageCommand(NamedTuple):
-    """An order, and the number of the newest revision that it was meant for."""
+    """A command, and the number of the newest revision that it was meant for."""
     line: str
     revision: int
 
 
 def read_page_command(text: bytes) -> PageCommand:
-    """The order of a body of JSON: `{"order": "promote", "revision": 2}`."""
+    """The command of a JSON body: `{"order": "promote", "revision": 2}`."""
     judge = Judge()
     try:
         told = decoded(text)
     except ValueError:
-        raise WrongPageCommand("it is no JSON") from None
-    members = judge.members(told, "the order", ("order", "revision"), ("order", "revision"))
+        raise WrongPageCommand("it is not JSON") from None
+    members = judge.members(told, "the command", ("order", "revision"), ("order", "revision"))
     line = str(members.get("order"))
     if line not in PAGE_COMMANDS:
         judge.note("order", f"one of {', '.join(PAGE_COMMANDS)} is wanted")
@@ -42,10 +42,10 @@ def read_page_command(text: bytes) -> PageCommand:
 
 
 def send_page_command(port: int, command: PageCommand) -> str:
-    """Sends an order, and gives its reply. `Unreachable` where the switch gives no answer."""
+    """Sends a command, and gives its reply. `Unreachable` where the switch gives no answer."""
     with Connection(port, WAIT) as connection:
         report = read_report(connection.answer(b"report"))
         if report is None or report.newest.number != command.revision:
             newest = report.newest.title() if report else "none"
-            raise Moved(f"the newest revision is {newest} by now: nothing was ordered")
+            raise Moved(f"the newest revision is {newest} by now: nothing was sent")
         return sent(connection, command.line.encode("ascii"), WAIT)[0]

@@ -180,13 +180,13 @@ class Server:
         return stream
 
     async def command(self, request: web.Request) -> web.Response:
-        """Carries out an order of the page."""
+        """Sends a command of the page."""
         if self.board.is_read_only:
             return refusal(403, "the dashboard was started with --read-only")
         if not request.headers.getall("Origin", []):
             return refusal(403, "the request does not say from which site it comes")
         if not guard.is_token(request.headers.get("X-Token", ""), self.token):
-            return refusal(403, "the request has not the token of this dashboard: load the page again")
+            return refusal(403, "the request does not have the token of this dashboard: load the page again")
         try:
             command = read_page_command(await request.read())
         except WrongPageCommand as wrong:
@@ -198,7 +198,7 @@ class Server:
         except (Unreachable, NoReport) as reason:
             return refusal(503, str(reason))
         self.board.note_line(command.line, reply)
-        self.tell()  # at once: a page that is opened later finds the order in its state, and not in an update as well
+        self.tell()  # at once: a page that is opened later finds the command in its state, and not in an update as well
         self.soon.set()
         return web.json_response({"line": command.line, "reply": reply, "carried_out": was_carried_out(reply),
                                   "meaning": meaning_of(reply)})
@@ -210,7 +210,7 @@ def is_not_malformed(record: logging.LogRecord) -> bool:
 
 
 def run(board: Board, listen: int) -> None:
-    """Serves up to SIGTERM or ctrl-C. `OSError` where the port can't be had."""
+    """Serves until SIGTERM or ctrl-C. `OSError` where the port cannot be used."""
     async def made() -> web.Application:
         application = Server(board).application()
 
@@ -219,6 +219,6 @@ def run(board: Board, listen: int) -> None:
         application.on_startup.append(tell)
         return application
     logging.getLogger("aiohttp.server").addFilter(is_not_malformed)
-    # aiohttp would tell a port that can't be had with a trace
+    # aiohttp would tell a port that cannot be used with a trace
     with socket.create_server((HOST, listen)) as listener:
         web.run_app(made(), sock=listener, print=lambda *_: None, access_log=None, shutdown_timeout=LAST_SECOND)

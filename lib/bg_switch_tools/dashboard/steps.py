@@ -1,4 +1,4 @@
-"""An attempt as a line of steps, and what can be ordered in it."""
+"""An attempt as a line of steps, and the commands that make sense in it."""
 from collections.abc import Collection
 from typing import TypedDict
 
@@ -53,7 +53,7 @@ def steps(report: Report, seen: Collection[str], failed_at: str) -> list[Step]:
 
 
 def possible_commands(report: Report | None) -> dict[str, bool]:
-    """Whether each order makes sense by this report. The switch has the last word."""
+    """Whether each command makes sense by this report. The switch has the last word."""
     is_running = report is not None and report.is_running
     return {"promote": report is not None and report.phase == "paused", "promote full": is_running, "abort": is_running,
             "retry": report is not None and report.phase == "aborted"}

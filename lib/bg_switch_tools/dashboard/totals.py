@@ -1,4 +1,4 @@
-"""Numbers that only grow, as metrics want them: requests and their durations, and what has happened."""
+"""Counters, which only grow, as metrics need them: requests and their durations, and what has happened."""
 import bisect
 import collections
 from collections.abc import Iterator

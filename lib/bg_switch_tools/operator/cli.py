@@ -27,9 +27,9 @@ ABOUT = """Sends lines to the control port of a running switch, and prints the r
 END = f"""
 Conditions of wait: {FORMS}.
 
-Exit status: 0 where every line was carried out; 1 where one was refused or faulty, at which it stops; 2 where the switch gave no
-answer in time, or the words are wrong; 3 of `status` where no endpoint of the active revision is available, so that clients are
-answered 503. docs/LINES.md has each line and its replies.
+Exit status: 0 if every line was carried out; 1 if one was refused or faulty, at which it stops; 2 if the switch gave no answer in
+time, or the words are wrong; 3 of `status` if no endpoint of the active revision is available, so that clients are answered 503.
+docs/LINES.md has each line and its replies.
 """
 INTERRUPTED = 130
 DARK = 3  # the exit status of `status` where live traffic has no endpoint
@@ -45,10 +45,10 @@ def parser() -> argparse.ArgumentParser:
     made.add_argument("--wait", type=seconds_of, default=10.0, metavar="SECONDS",
                       help="how long to wait for the switch to answer (10)")
     made.add_argument("--timeout", type=seconds_of, metavar="SECONDS", help="how long `wait` waits for its conditions (600)")
-    made.add_argument("--keep-going", action="store_true", help="goes on after a line that was refused or faulty")
+    made.add_argument("--keep-going", action="store_true", help="continues after a line that was refused or faulty")
     made.add_argument("--json", action="store_true", help="prints each reply, the status and what was waited for as JSON")
     made.add_argument("--idempotent", action="store_true",
-                      help="a deploy of the revision that is running or stable already is carried out")
+                      help="a deploy of the revision that is running or stable already counts as carried out")
     made.add_argument("--yes", action="store_true", help="`shutdown` does not ask, and a `tick` more than a day ahead is sent")
     made.add_argument("--plan", metavar="PLAN",
                       help="`wait` first waits until the controller has deployed the last revision of this plan")
@@ -119,7 +119,7 @@ class Operator:
         try:
             announced = AnnouncedDeploy(self.plan).name if self.plan else nothing_comes
         except WrongPlan as wrong:
-            self.tell(f"{self.plan} is no plan: {wrong}")
+            self.tell(f"{self.plan} is not a plan: {wrong}")
             return TOO_LATE
 
         def see(report: Report) -> None:
@@ -140,15 +140,15 @@ class Operator:
         """Asks, and sends `quit`."""
         if not self.is_sure:
             if not sys.stdin.isatty():
-                self.tell("shutdown asks at a terminal alone; elsewhere --yes is wanted with it")
+                self.tell("shutdown asks at a terminal alone; elsewhere --yes is needed with it")
                 return TOO_LATE
             if not confirm_shutdown(self.port):
-                print("The switch goes on.")
+                print("The switch continues.")
                 return 1
         return self.send_lines([b"quit"])
 
     def watch(self) -> int:
-        """Watches up to ctrl-C."""
+        """Watches until ctrl-C."""
         try:
             watch(self.port, self.wait)
         except KeyboardInterrupt:
@@ -177,7 +177,7 @@ def judge_words(made: argparse.ArgumentParser, given: argparse.Namespace) -> Non
     words: list[str] = given.words
     command = words[0] if words else ""
     if given.port is None:
-        made.error("PORT: the control port of the switch is wanted, such as 8082")
+        made.error("PORT: the control port of the switch is needed, such as 8082")
     if command in COMMAND_NAMES and command != "wait" and len(words) > 1:
         made.error(f"{command} takes no further words, and not {words[1]!r}")
     if command == "wait":
@@ -186,15 +186,15 @@ def judge_words(made: argparse.ArgumentParser, given: argparse.Namespace) -> Non
         except WrongCondition as wrong:
             made.error(str(wrong))
         if len(words) == 1:
-            made.error(f"wait wants one condition or more, of {FORMS}")
+            made.error(f"wait needs one condition or more, of {FORMS}")
     if given.timeout is not None and command != "wait":
-        made.error("--timeout goes with wait; --wait says how long to wait for an answer")
+        made.error("--timeout is only for wait; --wait says how long to wait for an answer")
     if given.idempotent and command not in ("", "deploy"):
-        made.error("--idempotent goes with deploy")
+        made.error("--idempotent is only for deploy")
     if given.yes and command not in ("", "shutdown", "tick"):
-        made.error("--yes goes with shutdown and tick")
+        made.error("--yes is only for shutdown and tick")
     if given.plan is not None and command != "wait":
-        made.error("--plan goes with wait")
+        made.error("--plan is only for wait")
 
 
 def run(given: argparse.Namespace) -> int:

@@ -1,4 +1,4 @@
-"""What `wait` can wait for: conditions on a report, and whether one can still come to hold without a new order."""
+"""What `wait` can wait for: conditions on a report, and whether one can still hold unless a line is sent."""
 import dataclasses
 import difflib
 import re
@@ -12,7 +12,7 @@ FORMS = "phase=PHASE, active=NAME, preview=NAME, stable=NAME, newest=NAME, open(
 
 
 class Outlook(NamedTuple):
-    """Whether a condition holds. Where it doesn't and can't come to hold without a new order, `never` says why."""
+    """Whether a condition holds. Where it doesn't and cannot hold unless a line is sent, `never` says why."""
     holds: bool
     never: str = ""
 
@@ -42,7 +42,7 @@ class Condition(Protocol):
 
 
 class WrongCondition(ValueError):
-    """A text that is no condition. The message says what is wanted."""
+    """A text that is no condition. The message says what is needed."""
 
 
 def _no_revision(name: str) -> Outlook:
@@ -142,20 +142,20 @@ def read_condition(text: str) -> Condition:
     if key == "phase" and sign:
         if value not in PHASES:
             near = difflib.get_close_matches(value, PHASES, 1, 0.0)[0]
-            raise WrongCondition(f"{text}: a phase is wanted after phase=, one of {', '.join(PHASES)}; the nearest is {near}")
+            raise WrongCondition(f"{text}: a phase is needed after phase=, one of {', '.join(PHASES)}; the nearest is {near}")
         return PhaseIs(value)
     opened = re.fullmatch(r"open\((.*)\)", key)
     name = opened[1] if opened else value
     if not sign or not (opened or key in (*SERVICES, "scaled-down")):
-        raise WrongCondition(f"{text}: a condition is wanted, one of {FORMS}")
+        raise WrongCondition(f"{text}: a condition is needed, one of {FORMS}")
     if not NAME.fullmatch(name):
-        raise WrongCondition(f"{text}: the name of a revision is wanted, such as web-v2")
+        raise WrongCondition(f"{text}: the name of a revision is needed, such as web-v2")
     if key == "scaled-down":
         return ScaledDown(name)
     if not opened:
         return ServiceIs(key, name)
     if not re.fullmatch(r"[0-9]{1,9}", value):
-        raise WrongCondition(f"{text}: a number of open requests is wanted after open({name})=")
+        raise WrongCondition(f"{text}: a number of open requests is needed after open({name})=")
     return OpenAre(name, int(value))
 
 
@@ -182,5 +182,5 @@ class Conditions:
         if not any(name not in self.seen.names for name in self.newest):
             for text, outlook in zip(self.texts, outlooks):
                 if outlook.never:
-                    return Outlook(False, f"{text} can't come without a new order: {outlook.never}")
+                    return Outlook(False, f"{text} cannot hold unless a line is sent: {outlook.never}")
         return HOLDS if all(outlook.holds for outlook in outlooks) else MAY_COME

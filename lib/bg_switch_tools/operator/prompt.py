@@ -70,7 +70,7 @@ class Prompt:
     def shut_down(self) -> bool:
         """Asks, and sends `quit`. Gives whether it did."""
         if not confirm_shutdown(self.port):
-            print("The switch goes on.")
+            print("The switch continues.")
             return False
         send_line(self.port, b"quit", self.wait, is_idempotent=False)
         print("The switch shuts down.")

@@ -85,7 +85,7 @@ class Lost(NamedTuple):
 def seconds_of(told: object) -> float:
     """The seconds from 1970 of a time as RFC 3339 has it."""
     if not isinstance(told, str):
-        raise NoLogEntry("its time is no text")
+        raise NoLogEntry("its time is not a text")
     return _seconds_of_text(told)
 
 
@@ -94,7 +94,7 @@ def _seconds_of_text(told: str) -> float:
     try:
         read = datetime.datetime.fromisoformat(told)
     except ValueError:
-        raise NoLogEntry("its time is none of RFC 3339") from None
+        raise NoLogEntry("its time is not as in RFC 3339") from None
     if read.tzinfo is None:
         raise NoLogEntry("its time has no zone")
     return read.timestamp()
@@ -107,7 +107,7 @@ def time_text(seconds: float) -> str:
 
 
 def _refuse(name: str) -> object:
-    raise ValueError(f"{name} is no value of JSON")
+    raise ValueError(f"{name} is not a JSON value")
 
 
 DECODER = json.JSONDecoder(parse_constant=_refuse)  # `json.loads` would make one for each line
@@ -119,7 +119,7 @@ def _fault(told: Mapping[str, object]) -> str:
     for name, types in TYPES.items():
         value = told.get(name)
         if type(value) not in types or (name in MEMBERS and name not in told):
-            return f"its {name} is none that a line can have"
+            return f"its {name} is not one that a line can have"
         if isinstance(value, (int, float)) and not 0 <= value < GREATEST:
             return f"its {name} is below 0, or too large"
     return ""
@@ -153,9 +153,9 @@ def _object(line: bytes) -> dict[str, object]:
         text = line.strip(WHITESPACE).decode()
         told, end = DECODER.raw_decode(text)
     except (ValueError, RecursionError):
-        raise NoLogEntry("it is no JSON") from None
+        raise NoLogEntry("it is not JSON") from None
     if end != len(text) or not isinstance(told, dict):
-        raise NoLogEntry("it is no object")
+        raise NoLogEntry("it is not an object")
     return told
 
 
@@ -167,7 +167,7 @@ def read_line(line: bytes) -> LogEntry | Lost:
         return Lost(None if told.get("time") is None else seconds_of(told["time"]), lost)
     entry = LogEntry._make((seconds_of(told.get("time")), *_values(told)))
     if entry.service not in CLIENT_SERVICES or entry.end not in ENDS:
-        raise NoLogEntry("its service or end is none that a line can have")
+        raise NoLogEntry("its service or end is not one that a line can have")
     return entry
 
 
@@ -257,7 +257,7 @@ class Follower:
         try:
             found = os.stat(self.path)
             if not stat.S_ISREG(found.st_mode):
-                self.fault = "it is no regular file"
+                self.fault = "it is not a regular file"
                 return
             if self.files and self.files[-1].identity == identity(found):
                 self.files[-1].replaced_at, self.fault = None, ""

@@ -14,8 +14,8 @@ from bg_switch_tools.switch.lines import was_carried_out
 HOST = "127.0.0.1"
 PAUSE = 0.1  # seconds between two tries to connect
 SHORTEST = 0.001  # seconds; a socket takes a timeout of 0 for "do not block"
-LONGEST_LINE = 65536  # bytes without a line end, above which the peer is no switch
-NOT_ALLOWED = "refused NotAllowed"  # what a connection of a user is sent whose orders are not taken, before it is closed
+LONGEST_LINE = 65536  # bytes without a line end, above which the peer is not a switch
+NOT_ALLOWED = "refused NotAllowed"  # what a connection of a user is sent whose lines are not taken, before it is closed
 LONGEST_REPORT = 80  # lines; a report has 7, and one for each of at most 64 revisions
 
 
@@ -106,14 +106,14 @@ class Connection:
         return line.decode("ascii", "replace")
 
     def _not_allowed(self) -> Unreachable:
-        return Unreachable(f"the switch at port {self.port} takes no orders of this user: its BG_SWITCH_OPERATORS lists others")
+        return Unreachable(f"the switch at port {self.port} takes no lines of this user: its BG_SWITCH_OPERATORS lists others")
 
     def _no_switch(self) -> Unreachable:
-        return Unreachable(f"what answers at port {self.port} is no switch")
+        return Unreachable(f"what answers at port {self.port} is not a switch")
 
     def reply_to(self, line: bytes) -> list[str]:
         """The lines of the reply to a line that was sent. A report has several; every other reply has one. `Unreachable` where
-        the switch takes no orders of this user."""
+        the switch takes no lines of this user."""
         replies = [self.next_line()]
         if replies[0] == NOT_ALLOWED:
             raise self._not_allowed()
@@ -141,7 +141,7 @@ class Connection:
 
     def quit(self) -> None:
         """Sends `quit`, which has no reply, and waits up to the deadline for the switch to end the connection. `Unreachable` where
-        it takes no orders of this user."""
+        it takes no lines of this user."""
         self.send(b"quit")
         got = b""
         try:

@@ -12,7 +12,7 @@ def duration_of(text: str) -> float:
     unit, factor = next(((unit, factor) for unit, factor in UNITS if text.endswith(unit)), ("", 1.0))
     seconds = number_of(text.removesuffix(unit)) * factor
     if not 0 <= seconds <= LONGEST:
-        raise argparse.ArgumentTypeError(f"a duration up to {LONGEST:.0f} seconds is wanted, such as 60, 60s or 1m, and not {text!r}")
+        raise argparse.ArgumentTypeError(f"a duration up to {LONGEST:.0f} seconds is expected, such as 60, 60s or 1m, and not {text!r}")
     return seconds
 
 
@@ -20,14 +20,14 @@ def positive_duration_of(text: str) -> float:
     """As `duration_of`, and above 0."""
     seconds = duration_of(text)
     if seconds == 0:
-        raise argparse.ArgumentTypeError(f"a duration above 0 is wanted, and not {text!r}")
+        raise argparse.ArgumentTypeError(f"a duration above 0 is expected, and not {text!r}")
     return seconds
 
 
 def milliseconds_of(text: str) -> float:
     """The milliseconds of a duration, whose unit is told: `300ms`, `1.5s`."""
     if not text.endswith(tuple(unit for unit, _ in UNITS)):
-        raise argparse.ArgumentTypeError(f"a duration with its unit is wanted, such as 300ms or 1.5s, and not {text!r}")
+        raise argparse.ArgumentTypeError(f"a duration with its unit is expected, such as 300ms or 1.5s, and not {text!r}")
     return round(duration_of(text) * 1000, 9)
 
 
@@ -37,5 +37,5 @@ def value_of(text: str) -> float:
         return share_of(text)
     number = number_of(text)
     if math.isnan(number):
-        raise argparse.ArgumentTypeError(f"a number or a percentage is wanted, and not {text!r}")
+        raise argparse.ArgumentTypeError(f"a number or a percentage is expected, and not {text!r}")
     return number

@@ -28,7 +28,7 @@ class JsonObject(dict[str, object]):
 def decoded(text: bytes) -> object:
     """The value of a text of JSON in UTF-8. `ValueError` where it is none, or nested too deep."""
     def refuse(name: str) -> object:
-        raise ValueError(f"{name} is no value of JSON")
+        raise ValueError(f"{name} is not a JSON value")
     try:
         value: object = json.loads(text.decode("utf-8"), object_pairs_hook=JsonObject, parse_constant=refuse)
     except RecursionError as error:
@@ -52,16 +52,16 @@ class Judge:
         self.problems.append(f"{place}: {problem}" if place else problem)
 
     def members(self, told: object, place: str, known: Sequence[str], needed: Iterable[str] = ()) -> JsonObject:
-        """The members of an object that has no other keys than these; none where it is no object."""
+        """The members of an object that has no other keys than these; none where it is not an object."""
         if not isinstance(told, JsonObject):
-            self.note(place or "the plan", f"{shown(told)} is no object")
+            self.note(place or "the plan", f"{shown(told)} is not an object")
             return JsonObject([])
         prefix = f"{place}." if place else ""
         for key in told:
             if key not in known:
                 self.note(f"{prefix}{self.key_shown(key)}", f"there is no such key; {self.nearest(key, known)}")
         for key in told.repeated:
-            self.note(f"{prefix}{self.key_shown(key)}", "stands there more than once")
+            self.note(f"{prefix}{self.key_shown(key)}", "is there more than once")
         for key in needed:
             if key not in told:
                 self.note(f"{prefix}{key}", "is missing")
@@ -83,7 +83,7 @@ class Judge:
     def number(self, told: object, place: str, least: float, most: float) -> float:
         """A number between these two. The least where it is none."""
         if type(told) not in (int, float) or not isinstance(told, (int, float)):
-            self.note(place, f"{shown(told)} is no number")
+            self.note(place, f"{shown(told)} is not a number")
         elif told < least:
             self.note(place, f"{shown(told)} is below {least:g}")
         elif told > most:
@@ -94,7 +94,7 @@ class Judge:
 
     def whole_number(self, told: object, place: str, least: int, most: int) -> int:
         if type(told) is float:
-            self.note(place, f"{shown(told)} is no whole number")
+            self.note(place, f"{shown(told)} is not a whole number")
             return least
         return int(self.number(told, place, least, most))
 
@@ -113,15 +113,15 @@ class Judge:
         """The path of a request: printable ASCII that begins with a slash."""
         if isinstance(told, str) and PATH.fullmatch(told):
             return told
-        self.note(place, f"{shown(told)} is no path, such as \"/health\"")
+        self.note(place, f"{shown(told)} is not a path, such as \"/health\"")
         return "/"
 
     def command(self, told: object, place: str) -> tuple[str, ...]:
         """A command as a list of words, the program first."""
         if isinstance(told, str):
-            self.note(place, f"{shown(told)} is no list of words, such as {json.dumps(split(told))}")
+            self.note(place, f"{shown(told)} is not a list of words, such as {json.dumps(split(told))}")
         elif not isinstance(told, list) or not told or not all(isinstance(word, str) for word in told):
-            self.note(place, f"{shown(told)} is no list of words, such as [\"./smoke_test.sh\", \"8081\"]")
+            self.note(place, f"{shown(told)} is not a list of words, such as [\"./smoke_test.sh\", \"8081\"]")
         elif not told[0] or not all(is_argument(word) for word in told):
             self.note(place, f"{shown(told)} has a word that no command can have")
         else:
@@ -132,18 +132,18 @@ class Judge:
         """A revision's name, by the switch's rule."""
         if isinstance(told, str) and NAME.fullmatch(told):
             return told
-        self.note(place, f"{shown(told)} is no name: {REFUSALS['BadName']}")
+        self.note(place, f"{shown(told)} is not a name: {REFUSALS['BadName']}")
         return ""
 
     def ports(self, told: object, place: str) -> tuple[int, ...]:
         """A revision's ports, by the switch's rule: distinct numbers from 1 to 65535, 64 at most."""
         if not isinstance(told, list) or not 1 <= len(told) <= MOST_PORTS:
-            self.note(place, f"{shown(told)} is no list of 1 to {MOST_PORTS} ports")
+            self.note(place, f"{shown(told)} is not a list of 1 to {MOST_PORTS} ports")
             return ()
         ports = tuple(self.whole_number(port, f"{place}[{number}]", 1, GREATEST_PORT) for number, port in enumerate(told))
         for number, port in enumerate(told):
             if port in told[:number]:
-                self.note(f"{place}[{number}]", f"{shown(port)} stands at {place}[{told.index(port)}] already")
+                self.note(f"{place}[{number}]", f"{shown(port)} is already at {place}[{told.index(port)}]")
         return ports
 
 

@@ -11,7 +11,7 @@ class Line(NamedTuple):
 
 LINES = (
     Line("open NAME PORT..", "opens the book with revision 1, which has one port for each replica", "open web-v1 9101 9102"),
-    Line("deploy NAME PORT..", "begins to bring out a new revision, or the one of this name again (undo)",
+    Line("deploy NAME PORT..", "deploys a new revision, or the one of this name again (undo)",
          "deploy web-v2 9201 9202"),
     Line("available R N", "says that N endpoints of revision R can take requests: the first N, or others with --redispatch", "available 2 2"),
     Line("tick M", "says that the time is M seconds from the start", "tick 30"),
@@ -19,7 +19,7 @@ LINES = (
     Line("verdict post RESULT", "ends the analysis after the switch: successful, failed or error", "verdict post failed"),
     Line("promote", "ends the pause of the attempt", "promote"),
     Line("promote full", "skips the analyses and pauses of the attempt", "promote full"),
-    Line("abort", "stops the attempt: both services go back to the stable revision", "abort"),
+    Line("abort", "ends the attempt: both services select the stable revision again", "abort"),
     Line("retry", "begins the attempt of the newest revision again", "retry"),
     Line("down PORT..", "names all ports that are down now, in place of those before; without a port, none is down", "down 9101"),
     Line("report", "shows the state", "report"),

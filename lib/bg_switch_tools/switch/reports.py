@@ -66,7 +66,7 @@ class Report:
 def _number(word: str) -> int:
     """A number as a line has it: 1 to 20 digits."""
     if not (word.isascii() and word.isdigit() and len(word) <= 20):
-        raise NoReport(f"{word[:20]} is no number")
+        raise NoReport(f"{word[:20]} is not a number")
     return int(word)
 
 
@@ -91,7 +91,7 @@ def _read_values(lines: Sequence[str]) -> Report:
             values[words[0]] = words[1]
     selected = {service: _number(values[service]) for service in SERVICES}
     if not all(number in revisions for number in selected.values()) or values["phase"] not in PHASES:
-        raise NoReport("a service or the phase is none that a report can have")
+        raise NoReport("a service or the phase is not one that a report can have")
     return Report(_number(values["moment"]), values["phase"], selected, revisions)
 
 
@@ -102,7 +102,7 @@ def read_report(lines: Sequence[str]) -> Report | None:
     try:
         return _read_values(lines)
     except (IndexError, KeyError, ValueError) as error:
-        raise NoReport(f"this is no report: {error}") from None
+        raise NoReport(f"this is not a report: {error}") from None
 
 
 def as_json(report: Report) -> dict[str, object]:
