@@ -146,5 +146,5 @@ deb() {
 case ${1-} in
     version | dist | deb) [ $# -eq 1 ] || fail "$1 takes no words"; "$1" ;;
     stage) [ $# -eq 2 ] || fail 'stage FOLDER'; stage "$2" ;;
-    *) fail 'version, stage FOLDER, dist or deb is wanted' ;;
+    *) fail 'give one of: version, stage FOLDER, dist, deb' ;;
 esac

@@ -11,6 +11,7 @@ import urllib.parse
 from collections.abc import Callable, Iterator, Sequence
 from types import TracebackType
 
+from support import processes
 from tests.fake_port import free_port
 from tests.tool_runs import WAIT, comes
 
@@ -100,9 +101,4 @@ def real_prometheus(program: str, folder: pathlib.Path, targets: Sequence[int]) 
             raise TimeoutError("prometheus is not ready")
         yield f"http://{HOST}:{port}"
     finally:
-        process.terminate()
-        try:
-            process.wait(WAIT)
-        except subprocess.TimeoutExpired:
-            process.kill()
-            process.wait()
+        processes.end(process, WAIT)

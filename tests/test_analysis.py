@@ -1,15 +1,11 @@
 """bin/analysis: measurements of requests, and what its runs come to before a log that grows."""
 import argparse
-import contextlib
-import io
-import os
 import pathlib
 import tempfile
 import threading
 import time
 import unittest
 from collections.abc import Callable, Sequence
-from typing import NamedTuple
 from unittest import mock
 
 from bg_switch_tools.analysis import log_analysis
@@ -19,8 +15,10 @@ from bg_switch_tools.switch import access_log
 from bg_switch_tools.switch.access_log import LogEntry, written
 from bg_switch_tools.switch.arguments import count_of, port_of, share_of
 from bg_switch_tools.switch.durations import duration_of, milliseconds_of, positive_duration_of, value_of
+from support.processes import Run
 from tests.fake_switch import FakeSwitch
 from tests.synthetic_log import ANSWERED, GrowingLog, Part, entries, refused
+from tests.tool_runs import run_in_process
 
 LIMITS = Limits(0.01, None, 50, 0)
 FAST = ("--seconds", "1.2", "--every", "0.4", "--silence-allowed")
@@ -157,28 +155,16 @@ class Words(unittest.TestCase):
                     read(text)
 
 
-class Ended(NamedTuple):
-    """What a run has printed, and its status."""
-    printed: str
-    status: int
-
-
 class Runs(unittest.TestCase):
     def setUp(self) -> None:
         folder = tempfile.TemporaryDirectory()
         self.addCleanup(folder.cleanup)
         self.log = GrowingLog(pathlib.Path(folder.name) / "access.log")
 
-    def analysis(self, *words: str, environment: dict[str, str] | None = None) -> Ended:
-        printed = io.StringIO()
-        cleared = {name: value for name, value in os.environ.items() if not name.startswith("BG_")}
-        with contextlib.redirect_stdout(printed), contextlib.redirect_stderr(printed), \
-                mock.patch.dict(os.environ, {**cleared, **(environment or {})}, clear=True):
-            try:
-                status = main(["--log", str(self.log.path), *words])
-            except SystemExit as ended:
-                status = int(str(ended.code))
-        return Ended(printed.getvalue(), status)
+    def analysis(self, *words: str, **variables: str) -> Run:
+        """A run of bin/analysis. What it tells is taken as printed."""
+        run = run_in_process(main, "--log", str(self.log.path), *words, **variables)
+        return run._replace(printed=run.printed + run.told)
 
     def write_steadily(self, told: Callable[[float], Sequence[LogEntry]]) -> None:
         """Requests come without pause while the analysis runs: those that are told for the seconds since the begin."""
@@ -242,7 +228,7 @@ class Runs(unittest.TestCase):
             (("--revision", "web-v1", "--control", str(switch.port)), {}),
             ((), {"BG_REVISION": "web-v1", "BG_REVISION_NUMBER": "1", "BG_CONTROL": str(switch.port)}))
         for words, environment in cases:
-            ended = self.analysis(*words, *FAST, "--errors-at-most", "1%", environment=environment)
+            ended = self.analysis(*words, *FAST, "--errors-at-most", "1%", **environment)
             self.assertEqual((ended.status, "errors are above 1%" in ended.printed), (1, True), ended.printed)
 
     def test_an_outage_of_another_revision(self) -> None:
@@ -276,7 +262,7 @@ class Runs(unittest.TestCase):
             switch.book.answer(line)
         return switch
 
-    def restarted(self, *lines: str) -> Ended:
+    def restarted(self, *lines: str) -> Run:
         """An analysis of web-v2, whose switch is started again meanwhile; these lines are then carried out. Requests of the
         revision of number 1 are good, and those of number 2 are errors."""
         switch = self.switch_with("open web-v1 1 2", "available 1 2", "deploy web-v2 3 4", "available 2 2")
@@ -322,7 +308,7 @@ class Runs(unittest.TestCase):
         self.assertEqual(ended.status, 2, ended.printed)
         self.assertIn("49 requests came in 1.2 seconds, and 50 are needed", ended.printed)
         self.assertEqual(self.analysis("--revision", "2", *FAST, *limit).status, 2)
-        self.assertIn("no revision is told", self.analysis(*FAST, *limit).printed)
+        self.assertIn("no revision is given", self.analysis(*FAST, *limit).printed)
         self.assertIn("a limit is needed", self.analysis("--revision", "2", *FAST).printed)
         self.log.path.unlink()
         ended = self.analysis("--revision", "2", *FAST, *limit)
@@ -389,13 +375,13 @@ class Runs(unittest.TestCase):
             (("--revision", "2026"), {"BG_REVISION": "2026", "BG_REVISION_NUMBER": "2"}))
         for words, environment in cases:
             self.write_later(Part(2, 10), Part(1, 10, 1.0))
-            ended = self.analysis(*words, "--seconds", "1", *limit, environment=environment)
+            ended = self.analysis(*words, "--seconds", "1", *limit, **environment)
             self.assertEqual(ended.status, 0, ended.printed)
         self.assertIn("--control tells the port", self.analysis("--revision", "web-v2", *FAST, *limit).printed)
         for name in ("web-v9", "9"):
             self.assertIn(f"has no revision {name}", self.analysis("--revision", name, *control, *FAST, *limit).printed)
         wrong = {"BG_REVISION": "web-v2", "BG_REVISION_NUMBER": "2", "BG_CONTROL": "x"}
-        self.assertIn("BG_CONTROL: the control port is expected", self.analysis(*FAST, *limit, environment=wrong).printed)
+        self.assertIn("BG_CONTROL: the control port is expected", self.analysis(*FAST, *limit, **wrong).printed)
 
 
 if __name__ == "__main__":

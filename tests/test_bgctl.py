@@ -1,6 +1,4 @@
 """bin/bgctl, in this process, before a fake switch."""
-import contextlib
-import io
 import json
 import os
 import pathlib
@@ -10,7 +8,6 @@ import sys
 import tempfile
 import unittest
 import zipapp
-from typing import NamedTuple
 from unittest import mock
 
 from bg_switch_tools import VERSION
@@ -20,30 +17,14 @@ from bg_switch_tools.bgctl.cli import main
 from bg_switch_tools.bgctl.commands import BGCTL_COMMANDS, FIRST_ONES, NAMES
 from bg_switch_tools.dashboard import cli as dashboard_cli
 from bg_switch_tools.operator import cli as operator_cli
+from support.processes import Run
 from tests.fake_port import free_port
-from tests.fake_switch import FakeSwitch
-from tests.tool_runs import TOP
+from tests.tool_runs import TOP, WithBook, run_in_process
 
 
-class Ended(NamedTuple):
-    """What a run has printed, what it told on standard error, and its status."""
-    printed: str
-    told: str
-    status: int
-
-
-def run(*words: str, lines: str = "", tool: str = "bgctl", **variables: str) -> Ended:
-    """A run of bgctl or of bin/operator. No variable of bgctl is set but for these."""
-    printed, told = io.StringIO(), io.StringIO()
-    others = {name: value for name, value in os.environ.items() if not name.startswith("BG_")}
-    with contextlib.redirect_stdout(printed), contextlib.redirect_stderr(told), \
-            mock.patch("sys.stdin", io.TextIOWrapper(io.BytesIO(lines.encode()))), \
-            mock.patch.dict(os.environ, {**others, **variables}, clear=True):
-        try:
-            status = main(words) if tool == "bgctl" else operator_cli.main(words)
-        except SystemExit as ended:
-            status = int(str(ended.code))
-    return Ended(printed.getvalue(), told.getvalue(), status)
+def run(*words: str, lines: str = "", **variables: str) -> Run:
+    """A run of bgctl."""
+    return run_in_process(main, *words, lines=lines, **variables)
 
 
 class Words(unittest.TestCase):
@@ -97,23 +78,12 @@ class Words(unittest.TestCase):
         self.assertEqual([name for name in NAMES if not callable(getattr(CommandRun, name, None))], [])
 
 
-class WithBook(unittest.TestCase):
-    """A switch whose book is open with web-v1."""
-
-    def setUp(self) -> None:
-        self.switch = FakeSwitch("pause")
-        self.addCleanup(self.switch.kill)
-        self.by_hand("open web-v1 1 2", "available 1 2")
-
-    def by_hand(self, *lines: str) -> None:
-        for line in lines:
-            self.switch.book.answer(line)
-
-    def bgctl(self, *words: str, lines: str = "") -> Ended:
+class Operated(WithBook):
+    def bgctl(self, *words: str, lines: str = "") -> Run:
         return run(*words, lines=lines, BG_CONTROL=str(self.switch.port))
 
 
-class Ports(WithBook):
+class Ports(Operated):
     def test_where_the_port_comes_from(self) -> None:
         port, other = str(self.switch.port), str(free_port())
         self.assertEqual(run("status", "--control", port, BG_CONTROL=other).status, 0)
@@ -141,13 +111,13 @@ class Ports(WithBook):
         self.assertEqual((told.status, told.printed, "can't be reached" in told.told), (2, "", True))
 
 
-class Lines(WithBook):
+class Lines(Operated):
     def test_they_are_the_lines_of_operators(self) -> None:
         """The same output and the same statuses as those of bin/operator."""
         for words in (["status"], ["status", "--json"], ["promote"], ["abort"], ["retry"], ["wait", "settled"],
                       ["wait", "stable=web-v9", "--timeout", "5"], ["wait", "settled", "--json"]):
             with self.subTest(words):
-                ours, theirs = self.bgctl(*words), run(str(self.switch.port), *words, tool="operator")
+                ours, theirs = self.bgctl(*words), run_in_process(operator_cli.main, str(self.switch.port), *words)
                 self.assertEqual((ours.printed, ours.status), (theirs.printed, theirs.status))
                 self.assertEqual(ours.told, theirs.told.replace("operator: ", "bgctl: "))
 
@@ -183,7 +153,7 @@ class Lines(WithBook):
             self.assertEqual(self.bgctl("status").status, 130)
 
 
-class OtherTools(WithBook):
+class OtherTools(Operated):
     """The commands that are tools of their own."""
 
     def handed_on(self, function: str, *words: str, **variables: str) -> list[object]:
@@ -235,7 +205,7 @@ class OtherTools(WithBook):
         self.assertEqual((told.returncode, told.stdout[:7], told.stderr), (0, "steady:", ""))
 
 
-class WithoutAPlan(WithBook):
+class WithoutAPlan(Operated):
     def test_deploy(self) -> None:
         self.assertEqual(self.bgctl("deploy", "web-v2", "3", "4"), ("ok 0\n", "bgctl: makes revision 2 web-v2\n", 0))
         self.assertEqual(self.bgctl("deploy", "web-v2", "3", "4").status, 0)

@@ -16,7 +16,8 @@ from bg_switch_tools.controller.plan_author import Author, login_name
 from bg_switch_tools.controller.plan_edit import deploy_by_plan, with_last
 from bg_switch_tools.controller.plan_edit_lock import EditGoesOn, EditLock
 from bg_switch_tools.controller.plan_file import read_whole_plan
-from tests.test_bgctl import Ended, run
+from support.processes import Run
+from tests.test_bgctl import run
 from tests.test_controller import NAMES, ControllerCase
 from tests.tool_runs import comes
 
@@ -118,7 +119,7 @@ class Edits(unittest.TestCase):
 class ByAPlan(ControllerCase):
     """Runs of bgctl beside a controller."""
 
-    def bgctl(self, *words: str, who: str = "alice") -> Ended:
+    def bgctl(self, *words: str, who: str = "alice") -> Run:
         with mock.patch.object(plan_author, "login_name", return_value=who), \
                 mock.patch("bg_switch_tools.controller.pause.login_name", return_value=who):
             return run(*words, BG_PLAN=self.plan.path)

@@ -64,6 +64,13 @@ class Launched(ControllerCase):
         self.come_up("web-v1")
         self.await_log("available 1 2 => ok 0")
 
+    def bring_v2_to_its_pause(self) -> None:
+        self.bring_v1_up()
+        self.write(*NAMES[:2])
+        self.await_calls(*self.both("start", "web-v2"))
+        self.come_up("web-v2")
+        self.await_book("paused", 2)
+
 
 class Rollouts(Launched):
     def test_from_no_process_to_the_end_of_the_old_ones(self) -> None:
@@ -135,11 +142,7 @@ class Rollouts(Launched):
 
 class Stops(Launched):
     def scale_v1_down(self) -> None:
-        self.bring_v1_up()
-        self.write(*NAMES[:2])
-        self.await_calls(*self.both("start", "web-v2"))
-        self.come_up("web-v2")
-        self.await_book("paused", 2)
+        self.bring_v2_to_its_pause()
         self.by_hand("promote")
         self.by_hand("tick 40")
 
@@ -166,11 +169,7 @@ class Stops(Launched):
 
     def test_nothing_is_stopped_while_no_book_is_open(self) -> None:
         """The switch is started again, and its opening waits for the stable revision. The attempt that ran is begun again later."""
-        self.bring_v1_up()
-        self.write(*NAMES[:2])
-        self.await_calls(*self.both("start", "web-v2"))
-        self.come_up("web-v2")
-        self.await_book("paused", 2)
+        self.bring_v2_to_its_pause()
         self.go_down("web-v1")
         self.await_log("available 1 0 => ok 0")
         self.switch.kill()
@@ -183,11 +182,7 @@ class Stops(Launched):
 
     def test_nothing_is_stopped_that_the_switch_before_still_needs(self) -> None:
         """An upgrade while a request of the old revision is open at the first switch, which ends later."""
-        self.bring_v1_up()
-        self.write(*NAMES[:2])
-        self.await_calls(*self.both("start", "web-v2"))
-        self.come_up("web-v2")
-        self.await_book("paused", 2)
+        self.bring_v2_to_its_pause()
         self.by_hand("promote")
         self.switch.book.revisions[1].open = 1
         self.some_rounds()
@@ -203,11 +198,7 @@ class Stops(Launched):
 
     def test_an_aborted_revision_is_stopped_once_it_is_scaled_down(self) -> None:
         """It is still the newest one, and no service selects it."""
-        self.bring_v1_up()
-        self.write(*NAMES[:2])
-        self.await_calls(*self.both("start", "web-v2"))
-        self.come_up("web-v2")
-        self.await_book("paused", 2)
+        self.bring_v2_to_its_pause()
         self.by_hand("abort")
         self.some_rounds()
         self.assertEqual([call for call in self.calls() if call.startswith("stop")], [])

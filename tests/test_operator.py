@@ -4,43 +4,18 @@ import io
 import json
 import threading
 import unittest
-from typing import NamedTuple
 from unittest import mock
 
 from bg_switch_tools.operator.cli import main
 from bg_switch_tools.operator.prompt import Prompt
+from support.processes import Run
 from tests.fake_port import free_port
-from tests.fake_switch import FakeSwitch
+from tests.tool_runs import WithBook, run_in_process
 
 
-class Ended(NamedTuple):
-    """What a run has printed, what it told on standard error, and its status."""
-    printed: str
-    told: str
-    status: int
-
-
-class Operated(unittest.TestCase):
-    """A switch whose book is open with web-v1."""
-
-    def setUp(self) -> None:
-        self.switch = FakeSwitch("pause")
-        self.addCleanup(self.switch.kill)
-        self.by_hand("open web-v1 1 2", "available 1 2")
-
-    def by_hand(self, *lines: str) -> None:
-        for line in lines:
-            self.switch.book.answer(line)
-
-    def operator(self, *words: str, lines: str = "", port: int | None = None) -> Ended:
-        printed, told = io.StringIO(), io.StringIO()
-        standard_input = io.TextIOWrapper(io.BytesIO(lines.encode()))
-        with contextlib.redirect_stdout(printed), contextlib.redirect_stderr(told), mock.patch("sys.stdin", standard_input):
-            try:
-                status = main([str(port or self.switch.port), *words])
-            except SystemExit as ended:
-                status = int(str(ended.code))
-        return Ended(printed.getvalue(), told.getvalue(), status)
+class Operated(WithBook):
+    def operator(self, *words: str, lines: str = "", port: int | None = None) -> Run:
+        return run_in_process(main, str(port or self.switch.port), *words, lines=lines)
 
 
 class Lines(Operated):
@@ -167,14 +142,8 @@ class Words(Operated):
             self.assertEqual((told.status, "the control port" in told.told), (2, True), told)
         self.assertEqual(self.switch.lines, [])
 
-    def operator_at(self, port: str) -> Ended:
-        told = io.StringIO()
-        with contextlib.redirect_stderr(told):
-            try:
-                status = main([port, "report"])
-            except SystemExit as ended:
-                status = int(str(ended.code))
-        return Ended("", told.getvalue(), status)
+    def operator_at(self, port: str) -> Run:
+        return run_in_process(main, port, "report")
 
     def test_help(self) -> None:
         told = self.operator("help")

@@ -1,8 +1,5 @@
 """bin/analysis by queries: before a server that answers as a test wants, and before a real Prometheus."""
-import contextlib
-import io
 import math
-import os
 import pathlib
 import shutil
 import socket
@@ -10,8 +7,6 @@ import tempfile
 import time
 import unittest
 from collections.abc import Sequence
-from typing import NamedTuple
-from unittest import mock
 
 from bg_switch_tools.analysis import prometheus_query
 from bg_switch_tools.analysis.cli import main
@@ -19,9 +14,10 @@ from bg_switch_tools.analysis.judged_revision import JudgedRevision
 from bg_switch_tools.analysis.prometheus_analysis import QueryLimits, filled, judged
 from bg_switch_tools.analysis.prometheus_query import NoAnswer, Server, query_values, server_of
 from bg_switch_tools.analysis.verdicts import NotJudged
+from support.processes import Run
 from tests.fake_port import free_port
 from tests.fake_prometheus import FakePrometheus, real_prometheus, refused, vector
-from tests.tool_runs import comes
+from tests.tool_runs import comes, run_in_process
 
 PROGRAM = "prometheus"
 MISSING = "prometheus is not installed: apt-get install prometheus to run this test"
@@ -30,22 +26,10 @@ SHARE = 'sum(bg_switch_http_requests_total{revision="{{args.revision}}",status=~
         'sum(bg_switch_http_requests_total{revision="{{ args.revision }}"})'
 
 
-class Ended(NamedTuple):
-    """What a run has printed, and its status."""
-    printed: str
-    status: int
-
-
-def analysis(*words: str, environment: dict[str, str] | None = None) -> Ended:
-    printed = io.StringIO()
-    cleared = {name: value for name, value in os.environ.items() if not name.startswith("BG_")}
-    with contextlib.redirect_stdout(printed), contextlib.redirect_stderr(printed), \
-            mock.patch.dict(os.environ, {**cleared, **(environment or {})}, clear=True):
-        try:
-            status = main(words)
-        except SystemExit as ended:
-            status = int(str(ended.code))
-    return Ended(printed.getvalue(), status)
+def analysis(*words: str, **variables: str) -> Run:
+    """A run of bin/analysis. What it tells is taken as printed."""
+    run = run_in_process(main, *words, **variables)
+    return run._replace(printed=run.printed + run.told)
 
 
 class Queries(unittest.TestCase):
@@ -117,7 +101,7 @@ class Judged(unittest.TestCase):
 
 
 class Runs(unittest.TestCase):
-    def run_by(self, answers: Sequence[tuple[int, bytes]], *words: str) -> Ended:
+    def run_by(self, answers: Sequence[tuple[int, bytes]], *words: str) -> Run:
         """A run whose queries get these answers, in turn, and the last one again and again."""
         left = list(answers)
         with FakePrometheus(lambda _: left.pop(0) if len(left) > 1 else left[0]) as server:
@@ -162,7 +146,7 @@ class Runs(unittest.TestCase):
     def test_the_revision_in_a_query(self) -> None:
         with FakePrometheus(lambda _: (200, vector("0"))) as server:
             words = ("--prometheus", server.url, "--query", SHARE, "--at-most", "1%", "--count", "1")
-            ended = analysis(*words, environment={"BG_REVISION": "web-v2", "BG_REVISION_NUMBER": "2"})
+            ended = analysis(*words, **{"BG_REVISION": "web-v2", "BG_REVISION_NUMBER": "2"})
             self.assertEqual((ended.status, 'revision="web-v2",' in server.asked[0][1]), (0, True), ended.printed)
             self.assertIn("analysis of revision 2 web-v2: 0 s: 0: the limits hold", ended.printed)
             self.assertIn("no revision is given", analysis(*words).printed)
@@ -176,7 +160,7 @@ class Runs(unittest.TestCase):
                 ((*whole, "--seconds", "9"), "one of --count and --seconds"), ((*whole[:-1], "0"), "--count is above 0"),
                 ((*whole, "--errors-at-most", "1%"), "--errors-at-most belongs to --log"),
                 ((*whole, "--silence-allowed"), "--silence-allowed belongs to --log"),
-                (("--prometheus", "x", *whole[2:]), "a URL is wanted"), ((*whole, "--interval", "0s"), "above 0 is wanted"),
+                (("--prometheus", "x", *whole[2:]), "a URL is expected"), ((*whole, "--interval", "0s"), "above 0 is expected"),
                 (("--log", "x", "--seconds", "1m"), "a limit is needed: --errors-at-most"), (("--log", "x"), "--seconds is needed"),
                 (("--log", "x", "--seconds", "1m", "--errors-at-most", "1%", "--query", "up"), "--query belongs to --prometheus")):
             ended = analysis(*words)
@@ -201,7 +185,7 @@ class Real(unittest.TestCase):
                     ("no_such_metric", "--at-most=1", 2, "no data: it is inconclusive"), ("scalar(vector(3))", "--at-least=3", 0, "3: "),
                     ("sum(", "--at-most=1", 2, "parse error")):
                 ended = analysis("--prometheus", url, "--query", query, limit, "--count", "2", *FAST,
-                                 environment={"BG_REVISION": "web-v2", "BG_REVISION_NUMBER": "2"})
+                                 **{"BG_REVISION": "web-v2", "BG_REVISION_NUMBER": "2"})
                 self.assertEqual((ended.status, why in ended.printed), (expected, True), ended.printed)
 
 

@@ -1,5 +1,6 @@
 """What the tests of whole tools share: endpoints, plans, and runs of bin/controller and bin/operator before a fake switch."""
 import contextlib
+import io
 import os
 import pathlib
 import signal
@@ -8,13 +9,16 @@ import subprocess
 import sys
 import threading
 import time
+import unittest
 from collections.abc import Callable, Iterator, Sequence
+from unittest import mock
 
 from support import checks, endpoints
 from support.clients import send_in_pieces
 from support.messages import response
 from support.plans import Plan
 from support.processes import Run, run_to_end
+from tests.fake_switch import FakeSwitch
 
 TOP = pathlib.Path(__file__).resolve().parents[1]
 TOOLS = pathlib.Path(os.environ.get("BG_SWITCH_TOOLS", str(TOP / "bin")))  # other tools can be tried in their place
@@ -124,6 +128,33 @@ def with_fast_clock(factor: int, path: str, *words: str) -> list[str]:
             f"time.monotonic = lambda: real() * {factor}; sys.argv = {[path, *words]!r}; "
             f"runpy.run_path({path!r}, run_name='__main__')")
     return [sys.executable, "-B", "-c", code]
+
+
+def run_in_process(main: Callable[[Sequence[str]], int], *words: str, lines: str = "", **variables: str) -> Run:
+    """A run of a tool in this process, with these lines as its standard input. No variable of the tools is set but for these."""
+    printed, told = io.StringIO(), io.StringIO()
+    others = {name: value for name, value in os.environ.items() if not name.startswith("BG_")}
+    with contextlib.redirect_stdout(printed), contextlib.redirect_stderr(told), \
+            mock.patch("sys.stdin", io.TextIOWrapper(io.BytesIO(lines.encode()))), \
+            mock.patch.dict(os.environ, {**others, **variables}, clear=True):
+        try:
+            status = main(words)
+        except SystemExit as ended:
+            status = int(str(ended.code))
+    return Run(printed.getvalue(), told.getvalue(), status)
+
+
+class WithBook(unittest.TestCase):
+    """A switch whose book is open with web-v1."""
+
+    def setUp(self) -> None:
+        self.switch = FakeSwitch("pause")
+        self.addCleanup(self.switch.kill)
+        self.by_hand("open web-v1 1 2", "available 1 2")
+
+    def by_hand(self, *lines: str) -> None:
+        for line in lines:
+            self.switch.book.answer(line)
 
 
 def operator(port: int, *words: str, lines: str = "") -> Run:

@@ -6,7 +6,7 @@ import subprocess
 import time
 from collections.abc import Iterator
 
-from support import TOP
+from support import TOP, processes
 from support.checks import comes
 from support.endpoints import Answer, Request
 from support.ports import HOST, is_open
@@ -33,12 +33,7 @@ def showing(control: int, listen: int, *words: str) -> Iterator[str]:
             raise TimeoutError("the dashboard does not listen")
         yield f"http://{HOST}:{listen}/"
     finally:
-        process.terminate()
-        try:
-            process.wait(WAIT)
-        except subprocess.TimeoutExpired:
-            process.kill()
-            process.wait()
+        processes.end(process, WAIT)
 
 
 def failing(name: bytes, each: int, pause: float = 0.0) -> Answer:

@@ -6,7 +6,7 @@ import resource
 import subprocess
 import threading
 from collections.abc import Sequence
-from typing import NamedTuple
+from typing import Any, NamedTuple
 
 # No program that these scripts start runs for longer, in seconds.
 LONGEST = 160
@@ -39,6 +39,16 @@ def stop(process: subprocess.Popen[str]) -> None:
     """Ends a process at once, and waits for its end."""
     process.kill()
     process.wait(LONGEST)
+
+
+def end(process: "subprocess.Popen[Any]", longest: float = LONGEST) -> None:
+    """Ends a process by SIGTERM, and by SIGKILL if that takes too long. Waits for its end."""
+    process.terminate()
+    try:
+        process.wait(longest)
+    except subprocess.TimeoutExpired:
+        process.kill()
+        process.wait()
 
 
 def descriptors(process: int) -> list[int]:

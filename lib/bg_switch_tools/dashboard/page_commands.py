@@ -34,7 +34,7 @@ def read_page_command(text: bytes) -> PageCommand:
     members = judge.members(told, "the command", ("order", "revision"), ("order", "revision"))
     line = str(members.get("order"))
     if line not in PAGE_COMMANDS:
-        judge.note("order", f"one of {', '.join(PAGE_COMMANDS)} is wanted")
+        judge.note("order", f"it must be one of {', '.join(PAGE_COMMANDS)}")
     number = judge.member(members, "revision", "", lambda value, at: judge.whole_number(value, at, 1, MOST_REVISIONS), 0)
     if judge.problems:
         raise WrongPageCommand("; ".join(judge.problems))
