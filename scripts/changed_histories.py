@@ -698,7 +698,7 @@ def rows() -> list[Row]:
     return [Row(place, settings, script) for place, (settings, script) in enumerate(found) if "compact" not in script]
 
 
-def in_order(judged: Judged) -> tuple[int, str, list[int], str]:
+def sort_key(judged: Judged) -> tuple[int, str, list[int], str]:
     """What the changes are sorted by: their script, their kind and the numbers of their line."""
     row, line = judged.change
     words = line.split()
@@ -734,7 +734,7 @@ def choose() -> tuple[dict[int, History], list[Judged]]:
     while len(chosen) < CHANGES:
         for group in [group for group in groups if group][: CHANGES - len(chosen)]:
             chosen.append(Judged(group.pop(), False))
-    return histories, sorted(chosen, key=in_order)
+    return histories, sorted(chosen, key=sort_key)
 
 
 def main() -> None:

@@ -196,7 +196,7 @@ def check_footprint(end: Footprint, hundred: Footprint, thousand: Footprint) -> 
         check(f"KiB of memory since the first {since} above what is allowed", max(grown - most, 0), 0)
 
 
-def ten_thousand_exchanges() -> None:
+def ten_thousand_requests() -> None:
     """Of the history each thousand is dropped."""
     run = RandomRun(count=1251)
     first, *others = steps_of(*(endpoint.port for endpoint in run.endpoints))
@@ -213,4 +213,4 @@ def ten_thousand_exchanges() -> None:
 
 
 if __name__ == "__main__":
-    checks.run("live_random", [ten_thousand_exchanges])
+    checks.run("live_random", [ten_thousand_requests])

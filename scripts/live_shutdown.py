@@ -17,7 +17,7 @@ from support.messages import ROLLOUT, answer, request
 from support.operators import Operator
 from support.ports import is_open, is_refused
 from support.stderr_lines import accepts_fail, check_told_once, fewer_workers, no_event_loop, told, used_up
-from support.switch import LISTENING, Ended, Switch, opened
+from support.switch import LISTENING, EndedSwitch, Switch, opened
 
 # How long, in seconds, it takes at most until the ports are closed, and until the program has ended once nothing is
 # open. Where a shutdown waited for what it needn't, that would be for the timeout or the sixty seconds of a shutdown.
@@ -38,7 +38,7 @@ end
 """
 
 
-def check_ended(name: str, ended: Ended, calls: int) -> None:
+def check_ended(name: str, ended: EndedSwitch, calls: int) -> None:
     check(f"{name}: the report, the calls and the status", (ended.printed, ended.status),
           (f"{REPORT}calls {calls}\n", 0))
 
@@ -199,7 +199,7 @@ def before_open() -> None:
     check("listening", switch.first, LISTENING)
     with connect(switch.active), contextlib.closing(switch.operator()) as operator:
         operator.send_quit()
-        check("quit before a book is open", switch.wait(), Ended("", 0))
+        check("quit before a book is open", switch.wait(), EndedSwitch("", 0))
 
 
 def late_at_quit() -> None:

@@ -8,7 +8,7 @@ from collections.abc import Callable
 from unittest import mock
 
 from bg_switch_tools.switch import access_log
-from bg_switch_tools.switch.access_log import Follower, LogEntry, Lost, NoLogEntry, read_line, time_text, written
+from bg_switch_tools.switch.access_log import Follower, LogEntry, LostLines, NoLogEntry, read_line, time_text, written
 from tests.synthetic_log import ANSWERED, BEGIN, REFUSALS, GrowingLog, Part, entries, refused
 
 LINE = (b'{"time":"2026-11-25T18:03:12.042Z","service":"active","revision":2,"request":17,"port":9201,"method":"GET",'
@@ -23,8 +23,8 @@ class Lines(unittest.TestCase):
     def test_every_value(self) -> None:
         expected = LogEntry(1795629792.042, "active", 2, 17, 9201, "GET", "/a?<script>", 200, "answered", None, 78, 5, 4.25, 3)
         self.assertEqual(read_line(LINE), expected)
-        self.assertEqual(read_line(b'{"time": "2026-11-25T19:03:12+01:00", "lost": 12}'), Lost(1795629792.0, 12))
-        self.assertEqual(read_line(b'{"time": null, "lost": 12}'), Lost(None, 12))
+        self.assertEqual(read_line(b'{"time": "2026-11-25T19:03:12+01:00", "lost": 12}'), LostLines(1795629792.0, 12))
+        self.assertEqual(read_line(b'{"time": null, "lost": 12}'), LostLines(None, 12))
 
     def test_members_that_a_line_need_not_have(self) -> None:
         expected = read_line(LINE)

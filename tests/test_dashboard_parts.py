@@ -8,9 +8,9 @@ from bg_switch_tools.dashboard import totals, traffic
 from bg_switch_tools.dashboard.alarms import without_endpoint
 from bg_switch_tools.dashboard.board import MOST_HAPPENED, Board
 from bg_switch_tools.dashboard.guard import fault_of, is_token
-from bg_switch_tools.dashboard.page_commands import Moved, PageCommand, WrongPageCommand, read_page_command, send_page_command
+from bg_switch_tools.dashboard.page_commands import NewestHasChanged, PageCommand, WrongPageCommand, read_page_command, send_page_command
 from bg_switch_tools.dashboard.steps import NAMES, SeenPhases, possible_commands, steps
-from bg_switch_tools.dashboard.totals import Labels, Tally, Totals, reasons
+from bg_switch_tools.dashboard.totals import DurationTally, Labels, Totals, reasons
 from bg_switch_tools.dashboard.traffic import Durations, Traffic
 from bg_switch_tools.switch.access_log import Batch
 from bg_switch_tools.switch.report_text import in_one_line
@@ -105,11 +105,11 @@ class Counted(unittest.TestCase):
         self.assertEqual((tally.buckets()[0], tally.buckets()[2], tally.buckets()[-2:]),
                          (("0.001", 2.0), ("0.005", 3.0), [("60.0", 3.0), ("+Inf", 4.0)]))
         self.assertAlmostEqual(tally.sum, 99.0045)
-        self.assertEqual((counted.counted[labels].upstream.is_empty, tally.is_empty, Tally().buckets()[-1]), (True, False, ("+Inf", 0.0)))
+        self.assertEqual((counted.counted[labels].upstream.is_empty, tally.is_empty, DurationTally().buckets()[-1]), (True, False, ("+Inf", 0.0)))
 
     def test_each_end_of_a_bucket_belongs_to_it(self) -> None:
         for place, end in enumerate(totals.BUCKETS):
-            tally = Tally()
+            tally = DurationTally()
             tally.add(end * 1000)
             self.assertEqual(tally.counts.index(1), place, end)
 
@@ -378,11 +378,11 @@ class PageCommands(unittest.TestCase):
     def test_an_order_for_another_revision_is_not_sent(self) -> None:
         switch = FakeSwitch("pause")
         self.addCleanup(switch.kill)
-        with self.assertRaises(Moved):
+        with self.assertRaises(NewestHasChanged):
             send_page_command(switch.port, PageCommand("abort", 1))
         for line in PAUSED:
             switch.book.answer(line)
-        with self.assertRaises(Moved):
+        with self.assertRaises(NewestHasChanged):
             send_page_command(switch.port, PageCommand("promote", 1))
         self.assertEqual(switch.sent_lines(), [])
         self.assertEqual((send_page_command(switch.port, PageCommand("promote", 2)), switch.sent_lines()), ("ok 1", ["promote"]))

@@ -37,7 +37,7 @@ def words_of_serve(active: int, control: int, preview: int | None, workers: int,
             *(["--forever"] if count is None else ["--count", str(count)])]
 
 
-class Ended(NamedTuple):
+class EndedSwitch(NamedTuple):
     """What a switch has printed since it listened, and its status."""
     printed: str
     status: int
@@ -139,16 +139,16 @@ class Switch:
         self.take(port)
         return clients.get(port, path, method, body, fields)
 
-    def wait(self) -> Ended:
+    def wait(self) -> EndedSwitch:
         """Waits for the end by itself, for a while; the status is the signal's where it doesn't come."""
         assert self.process.stdout is not None
         with self.process.stdout:
             printed = self.process.stdout.read()
         status = self.process.wait(processes.LONGEST)
         self.teller.join(processes.LONGEST)
-        return Ended(printed, status)
+        return EndedSwitch(printed, status)
 
-    def end(self) -> Ended:
+    def end(self) -> EndedSwitch:
         """Takes the connections that are left, and waits for the end."""
         for port, count in self.left.items():
             for _ in range(count):

@@ -11,7 +11,7 @@ OWN_ANSWERS = (502, 503)  # statuses that no revision here answers: they come fr
 ACCESS_LOG = "BG_SWITCH_ACCESS_LOG"
 
 
-class Asked(NamedTuple):
+class AnsweredRequest(NamedTuple):
     """A request, and what it was answered: the revision names itself first in each body."""
     target: str
     status: int | None
@@ -20,15 +20,15 @@ class Asked(NamedTuple):
     seconds: float
 
 
-def ask(port: int, target: str = "/") -> Asked:
+def ask(port: int, target: str = "/") -> AnsweredRequest:
     """Asks once."""
     begun, start = time.time(), time.monotonic()
     answer = get(port, target)
     seconds = time.monotonic() - start
     if answer is None:
-        return Asked(target, None, "", begun, seconds)
+        return AnsweredRequest(target, None, "", begun, seconds)
     revision = answer[1].decode() if answer[0] not in OWN_ANSWERS else ""
-    return Asked(target, answer[0], revision, begun, seconds)
+    return AnsweredRequest(target, answer[0], revision, begun, seconds)
 
 
 class Traffic:

@@ -10,7 +10,7 @@ from bg_switch_tools.bgctl.commands import BGCTL_COMMANDS, END, LINE_WORDS, NAME
 from bg_switch_tools.bgctl.suggestion import did_you_mean
 from bg_switch_tools.bgctl.target import BEFORE
 from bg_switch_tools.dashboard.cli import listened_port
-from bg_switch_tools.operator.conditions import FORMS
+from bg_switch_tools.operator.conditions import CONDITION_SYNTAX
 from bg_switch_tools.switch.arguments import count_of, numbered_port, port_of, seconds_of
 from bg_switch_tools.switch.json_values import MOST_PORTS
 
@@ -124,7 +124,7 @@ def _promote(to: argparse.ArgumentParser) -> None:
 
 
 def _wait(to: argparse.ArgumentParser) -> None:
-    to.add_argument("conditions", metavar="CONDITION", nargs="+", help=FORMS)
+    to.add_argument("conditions", metavar="CONDITION", nargs="+", help=CONDITION_SYNTAX)
     _json(to)
     _timeout(to, "it")
 

@@ -3,7 +3,7 @@ import threading
 
 from bg_switch_tools.controller.analysis_process import ANALYSIS_OF_PHASE, Analysis
 from bg_switch_tools.controller.book import Book
-from bg_switch_tools.controller.log import Log, Once
+from bg_switch_tools.controller.log import Log, OncePerRevision
 from bg_switch_tools.controller.memory import Memory
 from bg_switch_tools.controller.plan import Plan
 from bg_switch_tools.controller.probes import Probes
@@ -19,7 +19,7 @@ LAST_GRACE = 0.5  # the same where the controller ends
 class AnalysisRunner:
     """The analysis that runs. At most one does, also where a controller before this one was killed and has left one behind."""
 
-    def __init__(self, folder: str, log: Log, once: Once, memory: Memory, probes: Probes) -> None:
+    def __init__(self, folder: str, log: Log, once: OncePerRevision, memory: Memory, probes: Probes) -> None:
         self.folder = folder
         self.log = log
         self.once = once

@@ -3,7 +3,7 @@ import time
 from collections.abc import Iterable
 
 from bg_switch_tools.controller.book import Book
-from bg_switch_tools.controller.log import Log, Once
+from bg_switch_tools.controller.log import Log, OncePerRevision
 from bg_switch_tools.controller.memory import Revisions
 from bg_switch_tools.controller.plan import Plan, PlannedRevision
 from bg_switch_tools.controller.probes import Probes
@@ -61,7 +61,7 @@ class DownPorts:
 class Availability:
     """Reports the endpoints of each revision, and watches those behind live traffic."""
 
-    def __init__(self, log: Log, once: Once, probes: Probes) -> None:
+    def __init__(self, log: Log, once: OncePerRevision, probes: Probes) -> None:
         self.log = log
         self.once = once
         self.probes = probes

@@ -16,7 +16,7 @@ from bg_switch_tools.switch.reports import Report
 FIRST_PROBE = 1  # seconds for which an opening waits for the first probes
 
 
-class Unfit(Exception):
+class CannotOpen(Exception):
     """The switch can't be opened with the plan's revisions. The text says why."""
 
 
@@ -59,7 +59,7 @@ class BookOpener:
             self._take_opened(plan, revision)
             return True
         if not self.has_had_book:
-            raise Unfit(f"the switch can't be opened with {revision.name}: open {revision.words} => {with_meaning(reply)}")
+            raise CannotOpen(f"the switch can't be opened with {revision.name}: open {revision.words} => {with_meaning(reply)}")
         self.next = now + AGAIN
         return False
 

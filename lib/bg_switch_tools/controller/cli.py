@@ -8,7 +8,7 @@ import time
 from collections.abc import Sequence
 from types import FrameType
 
-from bg_switch_tools.controller.book_opener import Unfit
+from bg_switch_tools.controller.book_opener import CannotOpen
 from bg_switch_tools.controller.controller import Controller
 from bg_switch_tools.controller.log import Log
 from bg_switch_tools.controller.plan import Plan
@@ -71,7 +71,7 @@ LOOK = 0.05  # seconds between two looks at whether a signal has come
 LONGEST_END = 1.2  # seconds for the round to end after a signal
 
 
-class Silence:
+class SwitchSilence:
     """Tells in the log when the switch gives no answer: when that begins, each minute, and when it ends."""
 
     def __init__(self, log: Log) -> None:
@@ -101,7 +101,7 @@ class Runner:
         self.file = file
         self.log = log
         self.controller = Controller(file.path, plan, log, Probes())
-        self.silence = Silence(log)
+        self.silence = SwitchSilence(log)
         self.stopping = threading.Event()
         self.connection: Connection | None = None
         self.unfit = ""
@@ -141,7 +141,7 @@ class Runner:
         except (Unreachable, NoReport) as reason:
             if not self.stopping.is_set():
                 self.silence.begin(str(reason))
-        except Unfit as reason:
+        except CannotOpen as reason:
             self.unfit = str(reason)
         finally:
             self.connection = None

@@ -9,7 +9,7 @@ from bg_switch_tools.controller.book import AGAIN, Book
 from bg_switch_tools.controller.book_opener import BookOpener
 from bg_switch_tools.controller.history_recorder import HistoryRecorder
 from bg_switch_tools.controller.launcher import Launcher
-from bg_switch_tools.controller.log import Log, Once
+from bg_switch_tools.controller.log import Log, OncePerRevision
 from bg_switch_tools.controller.memory import Memory
 from bg_switch_tools.controller.notifier import Notifier
 from bg_switch_tools.controller.pause import Pause
@@ -33,7 +33,7 @@ class Controller:
         self.plan = plan
         self.log = log
         self.probes = probes
-        self.once = Once(log)
+        self.once = OncePerRevision(log)
         self.notifier = Notifier(folder, log, plan.commands)
         log.tell = self.notifier.take
         self.memory = Memory(path, plan, log)

@@ -56,7 +56,7 @@ class Log:
             print(text, file=self.out, flush=True)
 
 
-class Once:
+class OncePerRevision:
     """What is told of a revision, and told once. What a revision is told by is its number, so a new book begins anew."""
 
     def __init__(self, log: Log) -> None:

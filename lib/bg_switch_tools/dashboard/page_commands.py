@@ -14,7 +14,7 @@ class WrongPageCommand(ValueError):
     """A text that is not a command. The message says why."""
 
 
-class Moved(Exception):
+class NewestHasChanged(Exception):
     """The newest revision is another one than the page showed."""
 
 
@@ -47,5 +47,5 @@ def send_page_command(port: int, command: PageCommand) -> str:
         report = read_report(connection.answer(b"report"))
         if report is None or report.newest.number != command.revision:
             newest = report.newest.title() if report else "none"
-            raise Moved(f"the newest revision is {newest} by now: nothing was sent")
+            raise NewestHasChanged(f"the newest revision is {newest} by now: nothing was sent")
         return sent(connection, command.line.encode("ascii"), WAIT)[0]

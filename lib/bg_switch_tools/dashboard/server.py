@@ -14,7 +14,7 @@ from aiohttp import http_exceptions, web
 
 from bg_switch_tools.dashboard import guard, metrics
 from bg_switch_tools.dashboard.board import Board
-from bg_switch_tools.dashboard.page_commands import Moved, WrongPageCommand, read_page_command, send_page_command
+from bg_switch_tools.dashboard.page_commands import NewestHasChanged, WrongPageCommand, read_page_command, send_page_command
 from bg_switch_tools.switch.access_log import Batch, Follower
 from bg_switch_tools.switch.connection import HOST, Unreachable, ask
 from bg_switch_tools.switch.lines import meaning_of, was_carried_out
@@ -193,7 +193,7 @@ class Server:
             return refusal(400, str(wrong))
         try:
             reply = await asyncio.to_thread(send_page_command, self.board.control, command)
-        except Moved as moved:
+        except NewestHasChanged as moved:
             return refusal(409, str(moved))
         except (Unreachable, NoReport) as reason:
             return refusal(503, str(reason))

@@ -20,7 +20,7 @@ class Labels(NamedTuple):
     status: str
 
 
-class Tally:
+class DurationTally:
     """Durations: how many are in each bucket, and their sum in seconds."""
 
     def __init__(self) -> None:
@@ -45,14 +45,14 @@ class Tally:
         return found
 
 
-class Counted:
+class RequestCounts:
     """Requests that are counted together: `redispatched` are those of which another endpoint was dialled than that of the slot,
     `retries` the connects after the first one of each."""
 
     def __init__(self) -> None:
         self.requests = self.bytes = self.redispatched = self.retries = 0
-        self.durations = Tally()
-        self.upstream = Tally()
+        self.durations = DurationTally()
+        self.upstream = DurationTally()
 
     def add(self, entry: LogEntry) -> None:
         self.requests += 1
@@ -68,7 +68,7 @@ class Totals:
     """All that has come since the dashboard began."""
 
     def __init__(self) -> None:
-        self.counted: dict[Labels, Counted] = {}
+        self.counted: dict[Labels, RequestCounts] = {}
         self.events: collections.Counter[str] = collections.Counter()
         self.names: dict[str, None] = {}  # of revisions, by when they were seen first
         self.lost = self.unreadable = 0
@@ -78,7 +78,7 @@ class Totals:
         counted = self.counted.get(labels)
         if counted is None:
             self._know(labels.revision)
-            counted = self.counted[labels] = Counted()
+            counted = self.counted[labels] = RequestCounts()
         counted.add(entry)
 
     def begin(self, report: Report) -> None:
@@ -89,9 +89,9 @@ class Totals:
             if Labels(service, revision, NO_ANSWER) not in self.counted:
                 self._know(revision)
                 for each in CLASSES:
-                    self.counted.setdefault(Labels(service, revision, each), Counted())
+                    self.counted.setdefault(Labels(service, revision, each), RequestCounts())
 
-    def items(self) -> Iterator[tuple[Labels, Counted]]:
+    def items(self) -> Iterator[tuple[Labels, RequestCounts]]:
         yield from self.counted.items()
 
     def _know(self, revision: str) -> None:

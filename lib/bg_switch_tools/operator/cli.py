@@ -8,7 +8,7 @@ from collections.abc import Iterable, Sequence
 from bg_switch_tools.controller.announced_deploy import AnnouncedDeploy
 from bg_switch_tools.controller.plan_reader import WrongPlan
 from bg_switch_tools.operator.commands import COMMAND_NAMES, examples, help_lines
-from bg_switch_tools.operator.conditions import FORMS, Conditions, WrongCondition
+from bg_switch_tools.operator.conditions import CONDITION_SYNTAX, Conditions, WrongCondition
 from bg_switch_tools.operator.line_sender import Reply, send_line
 from bg_switch_tools.operator.prompt import Prompt, PromptCommand, confirm_shutdown
 from bg_switch_tools.operator.wait import TOO_LATE, nothing_comes, wait_for
@@ -25,7 +25,7 @@ ABOUT = """Sends lines to the control port of a running switch, and prints the r
   bin/operator PORT promote          one line or command, given as words
 """
 END = f"""
-Conditions of wait: {FORMS}.
+Conditions of wait: {CONDITION_SYNTAX}.
 
 Exit status: 0 if every line was carried out; 1 if one was refused or faulty, at which it stops; 2 if the switch gave no answer in
 time, or the words are wrong; 3 of `status` if no endpoint of the active revision is available, so that clients are answered 503.
@@ -186,7 +186,7 @@ def judge_words(made: argparse.ArgumentParser, given: argparse.Namespace) -> Non
         except WrongCondition as wrong:
             made.error(str(wrong))
         if len(words) == 1:
-            made.error(f"wait needs one condition or more, of {FORMS}")
+            made.error(f"wait needs one condition or more, of {CONDITION_SYNTAX}")
     if given.timeout is not None and command != "wait":
         made.error("--timeout is only for wait; --wait says how long to wait for an answer")
     if given.idempotent and command not in ("", "deploy"):

@@ -8,7 +8,7 @@ from typing import NamedTuple, Protocol
 from bg_switch_tools.switch.json_values import NAME
 from bg_switch_tools.switch.reports import PHASES, RUNNING, SERVICES, Report
 
-FORMS = "phase=PHASE, active=NAME, preview=NAME, stable=NAME, newest=NAME, open(NAME)=N, scaled-down=NAME, settled"
+CONDITION_SYNTAX = "phase=PHASE, active=NAME, preview=NAME, stable=NAME, newest=NAME, open(NAME)=N, scaled-down=NAME, settled"
 
 
 class Outlook(NamedTuple):
@@ -20,7 +20,7 @@ class Outlook(NamedTuple):
 HOLDS, MAY_COME = Outlook(True), Outlook(False)
 
 
-class Seen:
+class SeenRevisions:
     """What a wait has seen: the names of all revisions that existed, and the number of the one whose attempt it waits for."""
 
     def __init__(self) -> None:
@@ -37,7 +37,7 @@ class Seen:
 class Condition(Protocol):
     """A condition."""
 
-    def outlook(self, report: Report, seen: Seen) -> Outlook:
+    def outlook(self, report: Report, seen: SeenRevisions) -> Outlook:
         """Whether it holds by this report, or can come to hold."""
 
 
@@ -59,7 +59,7 @@ class PhaseIs:
     """The attempt that was the newest at the wait's begin is in this phase, or has ended in it."""
     phase: str
 
-    def outlook(self, report: Report, seen: Seen) -> Outlook:
+    def outlook(self, report: Report, seen: SeenRevisions) -> Outlook:
         if report.newest.number != seen.newest:
             return Outlook(False, f"{report.newest.name} took the place of the revision that it waits for")
         if report.phase == self.phase:
@@ -77,7 +77,7 @@ class ServiceIs:
     service: str
     name: str
 
-    def outlook(self, report: Report, seen: Seen) -> Outlook:
+    def outlook(self, report: Report, seen: SeenRevisions) -> Outlook:
         if report.service(self.service).name == self.name:
             return HOLDS
         exists = report.named(self.name) is not None
@@ -99,7 +99,7 @@ class OpenAre:
     name: str
     count: int
 
-    def outlook(self, report: Report, seen: Seen) -> Outlook:
+    def outlook(self, report: Report, seen: SeenRevisions) -> Outlook:
         revision = report.named(self.name)
         if revision is None and self.name not in seen.names:
             return _no_revision(self.name)
@@ -115,7 +115,7 @@ class ScaledDown:
     """The revision of this name is scaled down, or was removed after that."""
     name: str
 
-    def outlook(self, report: Report, seen: Seen) -> Outlook:
+    def outlook(self, report: Report, seen: SeenRevisions) -> Outlook:
         revision = report.named(self.name)
         if revision is None:
             return HOLDS if self.name in seen.names else _no_revision(self.name)
@@ -130,7 +130,7 @@ class ScaledDown:
 class Settled:
     """No attempt runs: the phase is steady or aborted."""
 
-    def outlook(self, report: Report, _: Seen) -> Outlook:
+    def outlook(self, report: Report, _: SeenRevisions) -> Outlook:
         return MAY_COME if report.is_running else HOLDS
 
 
@@ -147,7 +147,7 @@ def read_condition(text: str) -> Condition:
     opened = re.fullmatch(r"open\((.*)\)", key)
     name = opened[1] if opened else value
     if not sign or not (opened or key in (*SERVICES, "scaled-down")):
-        raise WrongCondition(f"{text}: a condition is needed, one of {FORMS}")
+        raise WrongCondition(f"{text}: a condition is needed, one of {CONDITION_SYNTAX}")
     if not NAME.fullmatch(name):
         raise WrongCondition(f"{text}: the name of a revision is needed, such as web-v2")
     if key == "scaled-down":
@@ -167,7 +167,7 @@ class Conditions:
         self.texts = list(texts)
         self.conditions = [read_condition(text) for text in texts]
         self.newest = [each.name for each in self.conditions if isinstance(each, ServiceIs) and each.service == "newest"]
-        self.seen = Seen()
+        self.seen = SeenRevisions()
 
     def outlook(self, report: Report, coming: str | None = None) -> Outlook:
         """Whether all hold by this report, which is later than those before; `never` tells of the first that can't come. Up to the

@@ -12,7 +12,7 @@ PAUSE = 0.2  # seconds between two reports
 REACHED, NEVER, TOO_LATE = 0, 1, 2
 
 
-class Waited(NamedTuple):
+class WaitResult(NamedTuple):
     """How a wait has ended: `REACHED`, `NEVER` or `TOO_LATE`; the reason of the latter two; the latest report."""
     status: int
     reason: str
@@ -25,7 +25,7 @@ def nothing_comes() -> str | None:
 
 
 def wait_for(port: int, conditions: Conditions, timeout: float, wait: float, see: Callable[[Report], None],
-             announced: Callable[[], str | None] = nothing_comes) -> Waited:
+             announced: Callable[[], str | None] = nothing_comes) -> WaitResult:
     """Waits for conditions, for `timeout` seconds at most. `see` is given each report. `announced` gives the revision whose
     deploy a plan announces: up to that deploy the wait goes on.
 
@@ -45,9 +45,9 @@ def wait_for(port: int, conditions: Conditions, timeout: float, wait: float, see
             see(report)
             outlook = conditions.outlook(report, coming)
             if outlook.holds or outlook.never:
-                return Waited(REACHED if outlook.holds else NEVER, outlook.never, report)
+                return WaitResult(REACHED if outlook.holds else NEVER, outlook.never, report)
         if time.monotonic() + PAUSE >= deadline:
             break
         time.sleep(PAUSE)
     state += f"; the controller has not deployed {coming} by the plan yet" if coming else ""
-    return Waited(TOO_LATE, f"{' '.join(conditions.texts)} does not hold after {timeout:g} seconds: {state}", report)
+    return WaitResult(TOO_LATE, f"{' '.join(conditions.texts)} does not hold after {timeout:g} seconds: {state}", report)

@@ -76,7 +76,7 @@ class LogEntry(NamedTuple):
         return self.time - self.duration_ms / 1000
 
 
-class Lost(NamedTuple):
+class LostLines(NamedTuple):
     """So many lines could not be written. The time is None where the switch had none."""
     time: float | None
     lost: int
@@ -159,12 +159,12 @@ def _object(line: bytes) -> dict[str, object]:
     return told
 
 
-def read_line(line: bytes) -> LogEntry | Lost:
+def read_line(line: bytes) -> LogEntry | LostLines:
     """The values of a line, without its end. `NoEntry` where it is none of an access log; further members are passed over."""
     told = _object(line)
     lost = told.get("lost")
     if type(lost) is int and 0 <= lost < GREATEST:
-        return Lost(None if told.get("time") is None else seconds_of(told["time"]), lost)
+        return LostLines(None if told.get("time") is None else seconds_of(told["time"]), lost)
     entry = LogEntry._make((seconds_of(told.get("time")), *_values(told)))
     if entry.service not in CLIENT_SERVICES or entry.end not in ENDS:
         raise NoLogEntry("its service or end is not one that a line can have")
