@@ -13,19 +13,19 @@ from bg_switch_tools.switch.durations import duration_of, milliseconds_of, posit
 
 USAGE = """bin/analysis --log FILE [--revision NAME] --seconds N [options]
        bin/analysis --prometheus URL --query QUERY (--at-most X | --at-least X) --count N [options]"""
-ABOUT = """Judges a revision, from now on: by its requests in the access log of the switch, of which those with a status from 500 on,
-and those without an answer, are errors; or by a query of Prometheus. Requests that found no endpoint of the revision are errors too."""
+ABOUT = """Judges a revision from now on, by its requests in the access log of the switch or by a query of Prometheus. In the log, errors
+are requests with a status from 500 on, requests without an answer, and requests that found no endpoint of the revision."""
 END = """
-In a plan's "analyses" it finds the revision that it judges by itself:
+As an analysis of a plan it needs no --revision, since the controller names the revision:
   "post": ["/usr/bin/bg-analysis", "--log", "/var/log/bg/access.log", "--seconds", "1m", "--errors-at-most", "1%",
            "--requests-at-least", "50"]
   "post": ["/usr/bin/bg-analysis", "--prometheus", "http://127.0.0.1:9090", "--interval", "10s", "--count", "6", "--at-most", "1%",
            "--query", "sum(rate(errors{revision='{{args.revision}}'}[1m])) / sum(rate(requests{revision='{{args.revision}}'}[1m]))"]
 Elsewhere --revision names it: by its number, or by its name together with --control.
 
-By the access log, every so many seconds (--every) a measurement judges the requests since the one before. One with fewer requests
-than --requests-at-least judges nothing yet: its requests count with the next one's. One without a request, after some with requests,
-has failed. By Prometheus, each measurement is a query; one without data, or whose value is not a number, is inconclusive.
+By the access log, a measurement judges the requests of the last --every seconds. If they are fewer than --requests-at-least, they
+count with those of the next measurement. A measurement without a request, after one with requests, has failed. By Prometheus, each
+measurement is a query; one without data, or with a value that is not a number, is inconclusive.
 
 A duration is 60, 60s, 1m or 1h.
 
@@ -46,7 +46,7 @@ def parser() -> argparse.ArgumentParser:
     source.add_argument("--prometheus", metavar="URL", help="a Prometheus server, such as http://127.0.0.1:9090")
     made.add_argument("--revision", default="", metavar="NAME", help="the name of the revision, or its number")
     made.add_argument("--control", type=port_of, metavar="PORT",
-                      help="the control port, which is asked for the number of a name, and for what services select")
+                      help="the control port: the switch tells the number of a name, and which revisions the services select")
     made.add_argument("--seconds", type=positive_duration_of, metavar="N", help="how long the limits have to hold")
     made.add_argument("--every", "--interval", type=positive_duration_of, default=5.0, metavar="N",
                       help="the seconds between two measurements (5)")

@@ -86,7 +86,7 @@ class PrometheusAnalysis:
             self.errors += 1
             self.tell(f"{seconds:.0f} s: no measurement: {reason}")
             if self.errors > self.condition.errors:
-                raise NotJudged(f"{self.errors} queries in a row had no answer, of which {self.condition.errors} may have none") \
+                raise NotJudged(f"{self.errors} queries in a row had no answer, and the limit is {self.condition.errors}") \
                     from None
             return
         self.errors = 0
@@ -95,7 +95,7 @@ class PrometheusAnalysis:
         self.inconclusive += result.is_inconclusive
         self.tell(f"{seconds:.0f} s: {result.text()}: {result.outcome()}")
         if self.inconclusive > self.condition.inconclusive:
-            raise NotJudged(f"{self.inconclusive} measurements are inconclusive, of which {self.condition.inconclusive} may be")
+            raise NotJudged(f"{self.inconclusive} measurements are inconclusive, and the limit is {self.condition.inconclusive}")
 
     def judge(self, interval: float, delay: float) -> int:
         """Measures at once, or after a delay, and then again after each interval, up to the last measurement or the failure that

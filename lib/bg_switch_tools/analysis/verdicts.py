@@ -16,4 +16,4 @@ def tell(text: str) -> None:
 
 
 def failed_text(failed: int, allowed: int) -> str:
-    return f"failed: {failed} measurements of which {allowed} may fail"
+    return f"failed: {failed} measurements failed, and the limit is {allowed}"

@@ -107,14 +107,14 @@ def _deploy(to: argparse.ArgumentParser) -> None:
     to.add_argument("name", metavar="NAME", help="the name of the revision: lower-case letters, digits and hyphens")
     to.add_argument("ports", metavar="PORT", nargs="+", type=endpoint_port,
                     help=f"the port of each endpoint, at most {MOST_PORTS}")
-    to.add_argument("--wait", action="store_true", help="waits for the end of the attempt, and ends by it")
+    to.add_argument("--wait", action="store_true", help="waits for the end of the attempt, which gives the exit status")
     _timeout(to, "--wait")
 
 
 def _undo(to: argparse.ArgumentParser) -> None:
     to.add_argument("--to", metavar="NAME|NUMBER", help="the revision to be taken again")
     to.add_argument("--ports", metavar="PORT", nargs="+", type=endpoint_port, default=[], help="its ports, if no plan has them")
-    to.add_argument("--wait", action="store_true", help="waits for the end of the attempt, and ends by it")
+    to.add_argument("--wait", action="store_true", help="waits for the end of the attempt, which gives the exit status")
     _timeout(to, "--wait")
 
 

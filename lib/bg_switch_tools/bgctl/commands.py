@@ -20,7 +20,7 @@ BGCTL_COMMANDS = (
             "With a plan, the revision becomes the last one of the plan, in one step, and its controller deploys it. Without a plan, "
             "the line `deploy` is sent to the switch. The revision has one port for each replica."),
     Command("promote", "ends the pause of the attempt, so that live traffic moves to the new revision", "bgctl promote"),
-    Command("undo", "takes the revision again that was stable before the newest one", "bgctl undo --to web-v1",
+    Command("undo", "deploys the revision again that was stable before the newest one", "bgctl undo --to web-v1",
             "With a plan, that revision becomes the last one of the plan. Without a plan, the line `deploy` is sent, and --ports "
             "names the ports, which the switch does not report."),
     Command("abort", "ends the attempt: both services select the stable revision again", "bgctl abort"),

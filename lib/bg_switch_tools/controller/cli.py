@@ -35,21 +35,22 @@ The controller does not change what an operator does (bin/operator): promote, ab
 A plan:
   {"control": 8082,                                         the control port of the switch
    "active": 8080, "preview": 8081,                         its other ports, which no revision may have
-   "health": {"path": "/", "interval": 2,                   asked of each endpoint every so many seconds; it is down after
-              "timeout": 2, "failures": 2},                 so many answers in a row that aren't, whole and in time, 200
-                                                            to 399
+   "health": {"path": "/", "interval": 2,                   how each endpoint is probed: a GET request every "interval"
+              "timeout": 2, "failures": 2},                 seconds, whose whole response has to come within "timeout"
+                                                            seconds, with a status from 200 to 399; after so many failures
+                                                            in a row the endpoint is down
    "analyses": {"pre": ["./smoke_test.sh", "8081"],         the commands of the analyses before and after the switch, run
-                "post": ["./smoke_test.sh", "8080"],        in the plan's folder: status 0 is successful, 1 failed, and
-                "seconds": 600},                            any other, or no end in so many seconds, error
-   "progress": {"seconds": 600, "abort": false,             an attempt for which no further endpoint comes up in so many
-                                                            seconds is named in the log, and aborted if this is true
-                "outage": 5},                               one that has switched ends after so many seconds in which no
-                                                            endpoint of it was up
+                "post": ["./smoke_test.sh", "8080"],        in the plan's folder: status 0 is successful, 1 is failed; any
+                "seconds": 600},                            other status, or a run of more seconds, is an error
+   "progress": {"seconds": 600, "abort": false,             an attempt is named in the log if no further endpoint comes up
+                                                            within so many seconds, and aborted if "abort" is true
+                "outage": 5},                               an attempt that has switched ends if no endpoint of it was up
+                                                            for so many seconds
    "redispatch": true,                                      false for a switch that was started without --redispatch
    "start": ["systemctl", "start", "web@{revision}-{port}"],
    "stop": ["systemctl", "stop", "web@{revision}-{port}"],  run for each port of a revision, also with {number}, the place
-                                                            of the port from 1: before its deploy and where it is down;
-                                                            once it is scaled down or removed
+                                                            of the port from 1: start before its deploy and while it is
+                                                            down, stop once it is scaled down or removed
    "notify": ["./tell_the_chat.sh"],                        gets each line of the log on its standard input, as an object
                                                             of JSON
    "timeout": 60,                                           seconds within which each of these three has to end
@@ -57,7 +58,7 @@ A plan:
                  {"name": "web-v2", "ports": [9201, 9202]}]}
 What "health" and "progress" leave out is as above; an analysis that is left out waits for a verdict by hand; other keys that
 are left out do nothing. A command finds the name, the number and the ports of the revision that it judges in BG_REVISION,
-BG_REVISION_NUMBER and BG_PORTS; bin/analysis is one that judges by the access log. A plan may be in YAML where python3-yaml is
+BG_REVISION_NUMBER and BG_PORTS; bin/analysis is one that judges by the access log. A plan may be in YAML if python3-yaml is
 installed. The key "$schema" can name the JSON schema of plans for editors: share/plan.schema.json. docs/OPERATING.md says what each
 line of the log means.
 
@@ -241,7 +242,7 @@ def main(words: Sequence[str]) -> int:
     parser = argparse.ArgumentParser(prog="controller", usage=USAGE, description="Runs a rollout by a plan.", epilog=ABOUT,
                                      formatter_class=argparse.RawDescriptionHelpFormatter)
     parser.add_argument("--json", action="store_true", help="writes each line of the log as an object of JSON")
-    parser.add_argument("words", nargs="+", metavar="[check | deploy] PLAN", help="the file of the plan; `check` alone judges it, "
+    parser.add_argument("words", nargs="+", metavar="[check | deploy] PLAN", help="the file of the plan; `check` judges it without a run, "
                         "`deploy` makes a revision its last one")
     given = parser.parse_args(words)
     if len(given.words) == 1 and given.words[0] not in ("check", "deploy"):
