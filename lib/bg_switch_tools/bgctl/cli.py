@@ -13,7 +13,6 @@ from bg_switch_tools.bgctl.exit_statuses import DONE, NO_ANSWER, REFUSED
 from bg_switch_tools.bgctl.history_table import show
 from bg_switch_tools.bgctl.session import Session, tell
 from bg_switch_tools.bgctl.target import Target, Unusable
-from bg_switch_tools.controller import cli as controller_cli
 from bg_switch_tools.controller.pause import PauseFile
 from bg_switch_tools.controller.plan import PlannedRevision
 from bg_switch_tools.dashboard import cli as dashboard_cli
@@ -88,9 +87,11 @@ class CommandRun:
         return DONE
 
     def check(self) -> int:
+        from bg_switch_tools.controller import cli as controller_cli  # here, since few commands need it and its HTTP
         return controller_cli.check(self.plan_path("a plan is judged"))
 
     def controller(self) -> int:
+        from bg_switch_tools.controller import cli as controller_cli
         return controller_cli.run(self.plan_path("a controller runs a plan"), self.given.json)
 
     def plan_path(self, why: str) -> str:

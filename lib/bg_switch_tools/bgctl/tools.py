@@ -1,19 +1,12 @@
 """The tools by their names: bin/NAME, the one file that `make tools` makes, and the commands of an installed package start them."""
 import contextlib
+import importlib
 import io
 import os
 import sys
-from collections.abc import Callable, Sequence
+from collections.abc import Sequence
 
-from bg_switch_tools.analysis import cli as analysis_cli
-from bg_switch_tools.bgctl import cli as bgctl_cli
-from bg_switch_tools.controller import cli as controller_cli
-from bg_switch_tools.dashboard import cli as dashboard_cli
-from bg_switch_tools.operator import cli as operator_cli
-
-TOOLS: dict[str, Callable[[Sequence[str]], int]] = {
-    "bgctl": bgctl_cli.main, "operator": operator_cli.main, "controller": controller_cli.main, "analysis": analysis_cli.main,
-    "dashboard": dashboard_cli.main}
+TOOLS = ("bgctl", "operator", "controller", "analysis", "dashboard")  # each a package
 
 
 def prepare_streams() -> None:
@@ -42,7 +35,8 @@ def finish_streams() -> None:
 def run(name: str, words: Sequence[str]) -> int:
     """Runs a tool. Gives the exit status."""
     prepare_streams()
-    status = TOOLS[name](words)
+    # the others are not imported, so that each starts fast
+    status: int = importlib.import_module(f"bg_switch_tools.{name}.cli").main(words)
     finish_streams()
     return status
 

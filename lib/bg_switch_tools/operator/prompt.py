@@ -8,7 +8,7 @@ from bg_switch_tools.switch.lines import with_meaning
 from bg_switch_tools.switch.reports import NoReport
 
 try:
-    import readline as readline  # gives `input` editing and history
+    import readline as readline  # noqa: F401  (gives `input` editing and history)
 except ImportError:
     pass
 
