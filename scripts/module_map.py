@@ -69,8 +69,9 @@ def wrong_imports(library: pathlib.Path = LIBRARY) -> list[str]:
 def table() -> str:
     """The table, with a row for each module."""
     lines = ["| Package | Module | What it has |", "|---|---|---|"]
-    for package in BELOW:
-        lines.append(f"| **`{package}`** | | {sentence_of(LIBRARY / package / '__init__.py')} |")
+    for package, below in BELOW.items():
+        imports = f"imports {', '.join(f'`{name}`' for name in below)}" if below else "imports no other package"
+        lines.append(f"| **`{package}`** | {imports} | {sentence_of(LIBRARY / package / '__init__.py')} |")
         lines += [f"| `{package}` | `{path.stem}` | {sentence_of(path)} |" for path in modules(package)]
     return "".join(f"{row}\n" for row in lines)
 
