@@ -20,7 +20,7 @@ TOP = pathlib.Path(__file__).resolve().parents[1]
 GLOSSARY = "docs/GLOSSARY.md"
 FOLDERS = ("crates", "lib", "scripts", "tests", "bench", "examples", "packaging")
 # Names that libraries give.
-OF_LIBRARIES = {"compare_exchange", "compare_exchange_weak"}
+OF_LIBRARIES = {"compare_exchange", "compare_exchange_weak", "SO_LINGER"}
 COMMENTS = {".rt": r"//.*", ".antt": r"--.*", ".py": r"#.*"}
 TEXTS = {
     ".rt": r'"(?:\\.|[^"\\])*"|\'(?:\\.|[^\'\\])\'',

@@ -179,7 +179,7 @@ def whole_rollout() -> None:
         check_last_report(session, second)
 
 
-def keeping_heads(heads: list[bytes]) -> Answer:
+def buffering_heads(heads: list[bytes]) -> Answer:
     """Answers `ok`, and keeps the head of each request as it came."""
 
     def give(got: Request, connection: socket.socket) -> None:
@@ -192,7 +192,7 @@ def keeping_heads(heads: list[bytes]) -> Answer:
 def byte_for_byte() -> None:
     """Two clients in turn, and what goes to their endpoint."""
     heads: list[bytes] = []
-    switch, operator = opened(Endpoint(keeping_heads(heads)).port, NO_PREVIEW, count=2, preview=False)
+    switch, operator = opened(Endpoint(buffering_heads(heads)).port, NO_PREVIEW, count=2, preview=False)
     for _ in range(2):
         check("an answer", switch.raw(switch.active, b"GET /a HTTP/1.1\r\nHost: web\r\nA: b\r\n\r\n"), answer(b"ok"))
     switch.check_end_after(operator, "calls of two requests", 4)

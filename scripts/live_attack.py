@@ -45,7 +45,7 @@ def dripping_clients() -> None:
     switch.check_end_after(operator, "the end after clients that drip", 14)
 
 
-def cutting_clients() -> None:
+def clients_that_close() -> None:
     """Clients that end, or reset, at each byte of a request, each before a polite one."""
     texts = [request(b"/", b"POST", b"body"), request(b"/", b"POST", b"body", chunked=True)]
     cuts = sum(map(len, texts))
@@ -153,5 +153,5 @@ def operators_that_reset() -> None:
 
 
 if __name__ == "__main__":
-    checks.run("live_attack", [dripping_clients, cutting_clients, hostile_endpoints, silent_peers, clients_that_send_on,
+    checks.run("live_attack", [dripping_clients, clients_that_close, hostile_endpoints, silent_peers, clients_that_send_on,
                                operators_that_end, operators_that_reset], at_once=7)

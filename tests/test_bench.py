@@ -7,7 +7,7 @@ import tempfile
 import unittest
 
 from support.processes import Run
-from tests.scenes import TOP, WAIT
+from tests.tool_runs import TOP, WAIT
 
 COMPARE = TOP / "bench" / "compare.py"
 BENCH = "bench/one.sh"
@@ -153,9 +153,9 @@ class Printed(unittest.TestCase):
             return found
 
     def test_the_ratios_of_a_sample(self) -> None:
-        for name, (printed, wanted) in SAMPLES.items():
+        for name, (printed, expected) in SAMPLES.items():
             with self.subTest(name):
-                self.assertEqual(self.ratios_of(name, printed), wanted)
+                self.assertEqual(self.ratios_of(name, printed), expected)
 
     def test_the_ratios_of_messages(self) -> None:
         found = self.ratios_of("http", TIMES_OF_HTTP)

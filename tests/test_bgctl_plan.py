@@ -57,7 +57,7 @@ class Edits(unittest.TestCase):
         self.assertEqual(read_whole_plan(str(real)).last.name, "web-v3")
 
     @unittest.skipUnless(os.getuid() == 0, "only root gives files away")
-    def test_the_owner_stays(self) -> None:
+    def test_user_and_group_stay(self) -> None:
         """A controller of another user can read the plan after an edit by root."""
         self.path.chmod(0o640)
         os.chown(self.path, 1234, 2345)

@@ -116,7 +116,7 @@ class Outlooks(unittest.TestCase):
 
 
 class Wrong(unittest.TestCase):
-    def test_what_is_wanted_is_named(self) -> None:
+    def test_what_is_expected_is_named(self) -> None:
         for text, expected in (("phase=pause", "the nearest is paused"), ("phase", "a condition is needed"),
                              ("live=web-v2", "a condition is needed"), ("active=", "the name of a revision is needed"),
                              ("active=Web", "the name of a revision is needed"), ("open(web-v1)=x", "a number of open requests"),

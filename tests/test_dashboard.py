@@ -155,11 +155,11 @@ class Pages(Dashboard):
         for path in ("/nothing", "/../server.py", "/index.html", "/page/index.html", "/%2e%2e/server.py"):
             self.assertEqual(self.get(path).status, 404, path)
 
-    def test_a_policy_stands_over_each_answer(self) -> None:
+    def test_each_answer_has_a_content_security_field(self) -> None:
         for path in ("/", "/metrics", "/api/state", "/nothing", "/dashboard.js"):
-            policy = self.get(path).headers["Content-Security-Policy"]
-            self.assertIn("default-src 'none'; script-src 'self';", policy, path)
-            self.assertNotIn("unsafe", policy)
+            content_security = self.get(path).headers["Content-Security-Policy"]
+            self.assertIn("default-src 'none'; script-src 'self';", content_security, path)
+            self.assertNotIn("unsafe", content_security)
 
     def test_the_page_names_no_other_address_and_puts_no_text_in_as_html(self) -> None:
         for path in PAGE.iterdir():

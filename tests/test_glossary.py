@@ -2,7 +2,7 @@
 import unittest
 
 from identifiers import GLOSSARY, Place, places, places_in, words_to_avoid
-from tests.scenes import TOP
+from tests.tool_runs import TOP
 
 LEAST_WORDS = 40
 PAGE = """\

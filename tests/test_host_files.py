@@ -6,7 +6,7 @@ import re
 import unittest
 from typing import Any
 
-from tests.scenes import TOP
+from tests.tool_runs import TOP
 
 FORMS = sorted((TOP / ".github").rglob("*.yml"))
 HOOKS = TOP / ".pre-commit-config.yaml"
@@ -49,15 +49,15 @@ class HostFiles(unittest.TestCase):
         for entry in entries:
             self.judge_command(entry)
 
-    def test_each_form_asks_for_something(self) -> None:
-        forms = [load(form.read_text(encoding="utf-8")) for form in FORMS if form.parent.name == "ISSUE_TEMPLATE"]
+    def test_each_template_asks_for_something(self) -> None:
+        forms = [load(template.read_text(encoding="utf-8")) for template in FORMS if template.parent.name == "ISSUE_TEMPLATE"]
         self.assertTrue(forms)
-        for form in forms:
-            with self.subTest(form["name"]):
-                self.assertTrue(form["description"])
-                required = [field for field in form["body"] if field.get("validations", {}).get("required")]
+        for template in forms:
+            with self.subTest(template["name"]):
+                self.assertTrue(template["description"])
+                required = [field for field in template["body"] if field.get("validations", {}).get("required")]
                 self.assertTrue(required)
-                asked = [field["id"] for field in form["body"] if "id" in field]
+                asked = [field["id"] for field in template["body"] if "id" in field]
                 self.assertEqual(len(asked), len(set(asked)))
 
 

@@ -156,7 +156,7 @@ class Stops(Launched):
         self.start()
         self.await_log("web-v1 is stopped")
 
-    def test_a_revision_that_is_wanted_again_is_started_again(self) -> None:
+    def test_a_revision_that_is_needed_again_is_started_again(self) -> None:
         """An undo by hand while the old revision is stopped. A late answer to a probe does not count for it."""
         self.scale_v1_down()
         self.await_calls(*self.both("stop", "web-v1"))

@@ -7,7 +7,7 @@ import tempfile
 import unittest
 
 from support.processes import Run
-from tests.scenes import TOP, WAIT
+from tests.tool_runs import TOP, WAIT
 
 LINT = TOP / "scripts" / "lint.sh"
 NEEDED = ("sh", "dirname", "git", "sed", "xargs")

@@ -127,7 +127,7 @@ class Waits(Operated):
 
 
 class Words(Operated):
-    def test_wrong_words_name_what_is_wanted(self) -> None:
+    def test_wrong_words_name_what_is_expected(self) -> None:
         for words, expected in ((("wait",), "wait needs one condition or more"), (("wait", "phase=x"), "a phase is needed"),
                               (("wait", "settled", "--timeout", "x"), "a number of seconds from 0 to 86400 is expected, and not 'x'"),
                               (("status", "now"), "status takes no further words"), (("--wait", "-1", "tick", "1"), "a number of seconds"),
