@@ -1,7 +1,7 @@
 //! The log.
 ghost use Rattle.std.specs.Prelude.{◌≡◌, ◌++◌, if◌then◌else◌};
 
-use crate::entry::Entry;
+use crate::log_entry::LogEntry;
 use crate::log_file::LogFile;
 use crate::notices::Notices;
 use crate::time_text::{TimeText, TimeTexts};
@@ -73,7 +73,7 @@ impl AccessLog {
 
     /// Adds a line. If the queue would have more than 16,777,216 bytes, or if an allocation fails, the line
     /// is lost and counted.
-    pub fn add<R: Wait>(&self, rt: &R, entry: &Entry) {
+    pub fn add<R: Wait>(&self, rt: &R, entry: &LogEntry) {
         let line = entry.to_line(self.alloc);
         let mut queue = self.queue.lock(rt);
         let is_kept = match line {

@@ -6,14 +6,14 @@
 #![tactic(auto)]
 
 mod access_log;
-mod entry;
 mod line;
+mod log_entry;
 mod log_file;
 mod notices;
 mod time_text;
 mod trouble;
 
 pub use access_log::AccessLog;
-pub use entry::Entry;
+pub use log_entry::LogEntry;
 pub use time_text::TimeText;
 pub use trouble::LogTrouble;

@@ -1,4 +1,4 @@
--- The rows of a subcommand whose arguments are options with one value, flags, and `--help`: their values pass.
+-- The rows of a subcommand whose arguments are options with one value, flags, and `--help`: their values are accepted.
 use Rattle.std.proofs.Common.{◌≡◌, ℕ, List, [], ◌∷◌, refl, sym, ◌∙◌, ap, subst}
 use Rattle.std.specs.Prelude.{Bool, true, false, Some, find, cond, codes, fold, length}
 use Rattle.std.specs.List.{list_all}
@@ -8,9 +8,9 @@ use Rattle.clap.specs.Kinds.{range_kinds}
 use Rattle.clap.specs.Faults.{level_fault, use_fault, walk_fault, repeat_fault}
 use Rattle.clap.specs.declared.builder.value_parser.Reading.TheVariants as reading
 use Rattle.clap.specs.declared.parser.matches.ValueSource.TheVariants as value_source
-use Rattle.bg_command_line.specs.CommandLine.{number_rule, required_rule, count_rule, wanted_flag_rule, wanted_rule}
+use Rattle.bg_command_line.specs.CommandLine.{number_rule, required_rule, count_rule, flag_rule_required_if, rule_required_if}
 use Rattle.bg_command_line.proofs.WordsTaken.{none_else, walk_keeps, settled_keeps}
-use Rattle.bg_command_line.proofs.ValuesPass.{AreGood, passes, flag_full, option_full, use_keeps, with_values_keeps}
+use Rattle.bg_command_line.proofs.ValuesAccepted.{AreGood, is_accepted, flag_full, option_full, use_keeps, with_values_keeps}
 
 abbrev pub Keeps : List Rule → Rule → Type 0
 Keeps c a = (values : List Text) (rows : List Row) → AreGood c rows → use_fault false a values rows ≡ [] → AreGood c (used a values rows)
@@ -43,11 +43,11 @@ required_keeps c name most own values rows g e =
     let h = none_else (repeat_fault false (required_rule name most).id rows) _ f.1 in
     use_keeps c (held (required_rule name most)) reading.AsWritten value_source.CommandLine _ rows own (option_full (held (required_rule name most)) values f.0) h.1 g
 
-pub wanted_keeps : (c : List Rule) (wanted : Bool) (name : Text) (most : ℕ) → arg_by_id c (wanted_rule wanted name most).id ≡ Some (held (wanted_rule wanted name most)) → Keeps c (held (wanted_rule wanted name most))
-wanted_keeps c wanted name most own values rows g e =
+pub required_if_keeps : (c : List Rule) (required : Bool) (name : Text) (most : ℕ) → arg_by_id c (rule_required_if required name most).id ≡ Some (held (rule_required_if required name most)) → Keeps c (held (rule_required_if required name most))
+required_if_keeps c required name most own values rows g e =
     let f = none_else (range_kinds 1 1 (length values)) _ e in
-    let h = none_else (repeat_fault false (wanted_rule wanted name most).id rows) _ f.1 in
-    use_keeps c (held (wanted_rule wanted name most)) reading.AsWritten value_source.CommandLine _ rows own (option_full (held (wanted_rule wanted name most)) values f.0) h.1 g
+    let h = none_else (repeat_fault false (rule_required_if required name most).id rows) _ f.1 in
+    use_keeps c (held (rule_required_if required name most)) reading.AsWritten value_source.CommandLine _ rows own (option_full (held (rule_required_if required name most)) values f.0) h.1 g
 
 pub count_keeps : (c : List Rule) (forever : Bool) → arg_by_id c (count_rule forever).id ≡ Some (held (count_rule forever)) → Keeps c (held (count_rule forever))
 count_keeps c forever own values rows g e =
@@ -55,11 +55,11 @@ count_keeps c forever own values rows g e =
     let h = none_else (repeat_fault false (count_rule forever).id rows) _ f.1 in
     use_keeps c (held (count_rule forever)) reading.AsWritten value_source.CommandLine _ rows own (option_full (held (count_rule forever)) values f.0) h.1 g
 
-pub flag_keeps : (c : List Rule) (wanted : Bool) (name : Text) → arg_by_id c name ≡ Some (held (wanted_flag_rule wanted name)) → Keeps c (held (wanted_flag_rule wanted name))
-flag_keeps c wanted name own values rows g e =
+pub flag_keeps : (c : List Rule) (required : Bool) (name : Text) → arg_by_id c name ≡ Some (held (flag_rule_required_if required name)) → Keeps c (held (flag_rule_required_if required name))
+flag_keeps c required name own values rows g e =
     let f = none_else (range_kinds 0 0 (length values)) _ e in
     let h = none_else (repeat_fault false name rows) _ f.1 in
-    use_keeps c (held (wanted_flag_rule wanted name)) reading.AsWritten value_source.CommandLine _ rows own (flag_full (held (wanted_flag_rule wanted name)) values refl) h.1 g
+    use_keeps c (held (flag_rule_required_if required name)) reading.AsWritten value_source.CommandLine _ rows own (flag_full (held (flag_rule_required_if required name)) values refl) h.1 g
 
 -- a use of `--help` adds no row
 pub help_keeps : (c : List Rule) → Keeps c (held help_rule)
@@ -80,11 +80,11 @@ no_default_keeps c a e rows g = default_one c (has_row a.id rows) _ rows (go a.d
     go [] e = g
     go (x ∷ xs) e = cc
 
-pub flag_default_keeps : (c : List Rule) (wanted : Bool) (name : Text) → arg_by_id c name ≡ Some (held (wanted_flag_rule wanted name)) → DefaultKeeps c (held (wanted_flag_rule wanted name))
-flag_default_keeps c wanted name own rows g =
-    let pass : list_all (passes c name) (codes "false" ∷ []) ≡ true = rw own refl in
+pub flag_default_keeps : (c : List Rule) (required : Bool) (name : Text) → arg_by_id c name ≡ Some (held (flag_rule_required_if required name)) → DefaultKeeps c (held (flag_rule_required_if required name))
+flag_default_keeps c required name own rows g =
+    let accepted : list_all (is_accepted c name) (codes "false" ∷ []) ≡ true = rw own refl in
     default_one c (has_row name rows) _ rows
-    (with_values_keeps c name reading.AsWritten value_source.DefaultValue (codes "false" ∷ []) rows refl pass g) g
+    (with_values_keeps c name reading.AsWritten value_source.DefaultValue (codes "false" ∷ []) rows refl accepted g) g
 
 pub help_default_keeps : (c : List Rule) → DefaultKeeps c (held help_rule)
 help_default_keeps c = no_default_keeps c (held help_rule) refl

@@ -24,7 +24,7 @@ pub record Enters (a : App) (stop : Option (Text × List Text)) : Type 0 where
   pub among : Among shape a.subs
   pub rest : List Text
   pub is : entered a stop ≡ Some (rows_at shape rest)
-  pub passes : level_fault shape [] nothing_held rest false [] ≡ []
+  pub accepts_rest : level_fault shape [] nothing_held rest false [] ≡ []
 
 -- what `find` found
 found_among : (p : Shape → Bool) (xs : List Shape) (s : Shape) → find p xs ≡ Some s → Among s xs
@@ -46,7 +46,7 @@ enters : (a : App) (stop : Option (Text × List Text)) → is_some (entered a st
 enters a None h e = cc
 enters a (Some p) h e =
     let x = enters_at a.subs p (find (λ s. answers_to p.0 (label_of s)) a.subs) refl h e in
-    record { shape = x.0; among = x.1; rest = p.1; is = x.2; passes = x.3 }
+    record { shape = x.0; among = x.1; rest = p.1; is = x.2; accepts_rest = x.3 }
 
 pub one_entered : (a : App) (words : List Text) → a.top.subcommand_required ≡ true → built_fault a nothing_held words ≡ []
     → Enters a (stop_after a.top.rules (names_of a) words)

@@ -10,17 +10,17 @@ use Rattle.clap.specs.Values.{kind_of}
 use Rattle.clap.specs.declared.error.Error.{Error}
 use Rattle.clap.specs.declared.error.kind.ErrorKind.{ErrorKind}
 use Rattle.clap.specs.declared.error.kind.ErrorKind.TheVariants as kind
-use Rattle.bg_command_line.specs.declared.orders.OrderFault.{OrderFault}
-use Rattle.bg_command_line.specs.declared.orders.OrderFault.TheVariants.{OutOfMemory, Words}
+use Rattle.bg_command_line.specs.declared.invocation.InvocationFault.{InvocationFault}
+use Rattle.bg_command_line.specs.declared.invocation.InvocationFault.TheVariants.{OutOfMemory, Words}
 use Rattle.bg_command_line.specs.CommandLine.{IsFaultFrom, IsFaultIn, flags_of, is_in_conflict, kinds_of, program}
-use Rattle.bg_command_line.proofs.Accepted.{is_free_program}
+use Rattle.bg_command_line.proofs.AcceptedWords.{is_free_program}
 
 among_first : (k : ErrorKind) (first second : Kinds) → IsAmong k first → IsAmong k (or_else first second)
 among_first k [] second among = absurd among
 among_first k (x ∷ xs) second among = among
 
 -- an error of `clap` is among those that the words may give
-pub fault_as : (words : List Text) (app : App) (e : Error) (fault : OrderFault) → app ≡ program (flags_of words)
+pub fault_as : (words : List Text) (app : App) (e : Error) (fault : InvocationFault) → app ≡ program (flags_of words)
     → (is_simple_and_free app ≡ true → HasKind (fault_of app words) e) → IsFaultFrom e fault → IsFaultIn words fault
 fault_as words app e OutOfMemory is has from = tt
 fault_as words app e (Words x) is has from =

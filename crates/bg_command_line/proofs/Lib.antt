@@ -1,8 +1,8 @@
 pub mod WordsTaken
-pub mod ValuesPass
+pub mod ValuesAccepted
 pub mod Entered
 pub mod ArgumentRows
 pub mod SubcommandRows
-pub mod Accepted
+pub mod AcceptedWords
 pub mod ErrorKinds
 mod Additions

@@ -12,11 +12,11 @@ use Rattle.clap.specs.Kinds.{check_kinds}
 use Rattle.clap.specs.Faults.{level_fault, walk_fault, settle_fault, defaults_fault}
 use Rattle.clap.specs.declared.builder.value_parser.ValueParser.TheVariants as value_parser
 use Rattle.clap.proofs.ValueTestLemmas.{accepts-Accepts}
-use Rattle.bg_command_line.specs.CommandLine.{IsIn, HasWordsOfServe, program, replay_app, serve_app, number_rule, required_rule, count_rule, flag_rule, forever_rule, wanted_rule}
-use Rattle.bg_command_line.specs.declared.orders.Flags.{Flags}
+use Rattle.bg_command_line.specs.CommandLine.{IsIn, HasWordsOfServe, program, replay_app, serve_app, number_rule, required_rule, count_rule, flag_rule, forever_rule, rule_required_if}
+use Rattle.bg_command_line.specs.declared.invocation.Flags.{Flags}
 use Rattle.bg_command_line.proofs.WordsTaken.{none_else}
-use Rattle.bg_command_line.proofs.ValuesPass.{AreGood, has_none, first_passes}
-use Rattle.bg_command_line.proofs.ArgumentRows.{Keeps, Each, held, number_keeps, required_keeps, wanted_keeps, count_keeps, flag_keeps, help_keeps, DefaultKeeps, no_default_keeps, flag_default_keeps, help_default_keeps, leaf_good}
+use Rattle.bg_command_line.proofs.ValuesAccepted.{AreGood, has_none, first_accepted}
+use Rattle.bg_command_line.proofs.ArgumentRows.{Keeps, Each, held, number_keeps, required_keeps, required_if_keeps, count_keeps, flag_keeps, help_keeps, DefaultKeeps, no_default_keeps, flag_default_keeps, help_default_keeps, leaf_good}
 
 abbrev pub built_sub : Shape → Shape
 built_sub s = built_leaf (inherited (with_leaf_noted (marked_built (program (record { forever = false; concurrency = false })).top)) s)
@@ -31,9 +31,9 @@ replay_keeps = (number_keeps replay.rules (codes "seats") 8 refl, (help_keeps re
 in_range : (c : List Rule) (r : Rule) (id : Text) (most : ℕ) (rows : List Row) → arg_by_id c id ≡ Some r → r.ignore_case ≡ false
     → r.parser ≡ Some (value_parser.Unsigned 1 most) → AreGood c rows → IsIn 1 most id rows
 in_range c r id most rows own plain parser good t at =
-    let pass : option_map_or (λ a. value_passes a t) (arg_by_id c id) true ≡ true = first_passes c id rows t good at in
-    let own_pass : value_passes r t ≡ true = rw own at pass in
-    let test : accepts false (value_parser.Unsigned 1 most) t ≡ true = rw (plain, parser) at own_pass in
+    let accepted : option_map_or (λ a. value_passes a t) (arg_by_id c id) true ≡ true = first_accepted c id rows t good at in
+    let own_accepted : value_passes r t ≡ true = rw own at accepted in
+    let test : accepts false (value_parser.Unsigned 1 most) t ≡ true = rw (plain, parser) at own_accepted in
     accepts-Accepts false (value_parser.Unsigned 1 most) t test
 
 -- `--seats` has a number from 1 to 8, if it is given
@@ -66,9 +66,9 @@ serve_keeps flags = let c = (serve flags).rules in (
     (
       required_keeps c (codes "control") 65535 refl,
       (
-        wanted_keeps c (not flags.concurrency) (codes "workers") 7 refl,
+        required_if_keeps c (not flags.concurrency) (codes "workers") 7 refl,
         (
-          wanted_keeps c flags.concurrency (codes "concurrency") 1023 refl,
+          required_if_keeps c flags.concurrency (codes "concurrency") 1023 refl,
           (number_keeps c (codes "preview-concurrency") 1023 refl, endpoint_and_count_keep flags),
         ),
       ),
@@ -98,9 +98,9 @@ serve_defaults flags = let c = (serve flags).rules in (
     (
       no_default_keeps c (held (required_rule (codes "control") 65535)) refl,
       (
-        no_default_keeps c (held (wanted_rule (not flags.concurrency) (codes "workers") 7)) refl,
+        no_default_keeps c (held (rule_required_if (not flags.concurrency) (codes "workers") 7)) refl,
         (
-          no_default_keeps c (held (wanted_rule flags.concurrency (codes "concurrency") 1023)) refl,
+          no_default_keeps c (held (rule_required_if flags.concurrency (codes "concurrency") 1023)) refl,
           (
             no_default_keeps c (held (number_rule (codes "preview-concurrency") 1023)) refl,
             endpoint_and_count_defaults flags,
@@ -126,11 +126,11 @@ given_has c id (r ∷ rs) g e = go (bytes_eq r.id id) e (λ h. given_has c id rs
     go true h rest = first_some r.values g.0.0
     go false h rest = rest h
 
-none_wanted : (help sub wanted : Bool) → check_kinds help sub wanted ≡ [] → wanted ≡ false
-none_wanted true sub wanted e = cc
-none_wanted false true wanted e = cc
-none_wanted false false true e = cc
-none_wanted false false false e = refl
+none_required : (help sub required : Bool) → check_kinds help sub required ≡ [] → required ≡ false
+none_required true sub required e = cc
+none_required false true required e = cc
+none_required false false true e = cc
+none_required false false false e = refl
 
 -- what is required is given
 all_given : (s : Shape) (words : List Text) → s.subcommand_negates_reqs ≡ false → level_fault s [] nothing_held words false [] ≡ []
@@ -141,22 +141,22 @@ all_given s words plain e =
     let f = none_else (walk_fault s [] (walk_from nothing_held) words) _ e in
     let g = none_else (settle_fault s.rules s.args_override_self end) _ f.1 in
     let h = none_else (defaults_fault (settled s.rules end).rows s.rules) _ g.1 in
-    let wanted : list_any (λ a. a.required && not (is_given a.id rows)) s.rules ≡ false = none_wanted
+    let required : list_any (λ a. a.required && not (is_given a.id rows)) s.rules ≡ false = none_required
     (not false && (s.arg_required_else_help && not (list_any (λ r. explicit_source r.source) rows)))
     (not false && s.subcommand_required)
     (list_any (λ a. a.required && not (is_given a.id rows)) s.rules)
     (rw plain at h.1) in
-    wanted
+    required
 
 first_given : (given other : Bool) → (not given || other) ≡ false → (given ≡ true) × (other ≡ false)
 first_given true other e = (refl, e)
 first_given false other e = cc
 
--- an argument that is required if `wanted` holds
-wanted_given : (wanted given other : Bool) → ((wanted && not given) || other) ≡ false → (wanted ≡ true → given ≡ true) × (other ≡ false)
-wanted_given true true other e = (λ _. refl, e)
-wanted_given true false other e = cc
-wanted_given false given other e = (λ h. cc, e)
+-- an argument that is required if `required` holds
+required_given : (required given other : Bool) → ((required && not given) || other) ≡ false → (required ≡ true → given ≡ true) × (other ≡ false)
+required_given true true other e = (λ _. refl, e)
+required_given true false other e = cc
+required_given false given other e = (λ h. cc, e)
 
 not_true : (b : Bool) → b ≡ false → not b ≡ true
 not_true false e = refl
@@ -170,16 +170,16 @@ serve_known flags words e =
     let good : AreGood c rows = leaf_good (serve flags) words refl (serve_keeps flags) (serve_defaults flags) e in
     let active = first_given (is_given (codes "active") rows) _ (all_given (serve flags) words refl e) in
     let control = first_given (is_given (codes "control") rows) _ active.1 in
-    let workers = wanted_given (not flags.concurrency) (is_given (codes "workers") rows) _ control.1 in
-    let concurrency = wanted_given flags.concurrency (is_given (codes "concurrency") rows) _ workers.1 in
-    let count = wanted_given (not flags.forever) (is_given (codes "count") rows) _ concurrency.1 in
+    let workers = required_given (not flags.concurrency) (is_given (codes "workers") rows) _ control.1 in
+    let concurrency = required_given flags.concurrency (is_given (codes "concurrency") rows) _ workers.1 in
+    let count = required_given (not flags.forever) (is_given (codes "count") rows) _ concurrency.1 in
     record {
       active = (given_has c (codes "active") rows good active.0, in_range c (held (required_rule (codes "active") 65535)) (codes "active") 65535 rows refl refl refl good);
       preview = in_range c (held (number_rule (codes "preview") 65535)) (codes "preview") 65535 rows refl refl refl good;
       control = (given_has c (codes "control") rows good control.0, in_range c (held (required_rule (codes "control") 65535)) (codes "control") 65535 rows refl refl refl good);
-      workers = in_range c (held (wanted_rule (not flags.concurrency) (codes "workers") 7)) (codes "workers") 7 rows refl refl refl good;
+      workers = in_range c (held (rule_required_if (not flags.concurrency) (codes "workers") 7)) (codes "workers") 7 rows refl refl refl good;
       workers_given = λ few. given_has c (codes "workers") rows good (workers.0 (not_true flags.concurrency few));
-      concurrency = in_range c (held (wanted_rule flags.concurrency (codes "concurrency") 1023)) (codes "concurrency") 1023 rows refl refl refl good;
+      concurrency = in_range c (held (rule_required_if flags.concurrency (codes "concurrency") 1023)) (codes "concurrency") 1023 rows refl refl refl good;
       concurrency_given = λ many. given_has c (codes "concurrency") rows good (concurrency.0 many);
       preview_concurrency = in_range c (held (number_rule (codes "preview-concurrency") 1023)) (codes "preview-concurrency") 1023 rows refl refl refl good;
       endpoint_limit = in_range c (held (number_rule (codes "endpoint-limit") 1023)) (codes "endpoint-limit") 1023 rows refl refl refl good;

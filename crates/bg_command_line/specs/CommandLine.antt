@@ -1,4 +1,4 @@
--- The program's command line, and the order that words give.
+-- The program's command line, and what the words ask for.
 use Rattle.std.specs.Prelude.{◌≡◌, ◌≢◌, ◌≤◌, ◌/◌, max, eqb, ◌&&◌, ◌||◌, ℕ, Bool, List, [], ◌∷◌, codes, drop, Option, Some, None, IfSome, if◌then◌else◌, is_some, not, false, true, option_map, unwrap_or}
 use Rattle.std.specs.List.{list_any, starts_with}
 use Rattle.std.specs.Option.{option_map_or}
@@ -10,14 +10,14 @@ use Rattle.clap.specs.declared.error.Error.{Error}
 use Rattle.clap.specs.declared.error.kind.ErrorKind.TheVariants as kind
 use Rattle.clap.specs.declared.builder.action.ArgAction.TheVariants.{SetTrue}
 use Rattle.clap.specs.declared.builder.value_parser.ValueParser.TheVariants as value_parser
-use Rattle.bg_command_line.specs.declared.orders.Connections.{Connections}
-use Rattle.bg_command_line.specs.declared.orders.Connections.TheVariants.{Count, Forever}
-use Rattle.bg_command_line.specs.declared.orders.Flags.{Flags}
-use Rattle.bg_command_line.specs.declared.orders.Order.{Order}
-use Rattle.bg_command_line.specs.declared.orders.Order.TheVariants.{Check, Replay, Serve}
-use Rattle.bg_command_line.specs.declared.orders.Site.{Site}
-use Rattle.bg_command_line.specs.declared.orders.OrderFault.{OrderFault}
-use Rattle.bg_command_line.specs.declared.orders.OrderFault.TheVariants.{Words, OutOfMemory}
+use Rattle.bg_command_line.specs.declared.invocation.Connections.{Connections}
+use Rattle.bg_command_line.specs.declared.invocation.Connections.TheVariants.{Count, Forever}
+use Rattle.bg_command_line.specs.declared.invocation.Flags.{Flags}
+use Rattle.bg_command_line.specs.declared.invocation.Invocation.{Invocation}
+use Rattle.bg_command_line.specs.declared.invocation.Invocation.TheVariants.{Check, Replay, Serve}
+use Rattle.bg_command_line.specs.declared.invocation.Site.{Site}
+use Rattle.bg_command_line.specs.declared.invocation.InvocationFault.{InvocationFault}
+use Rattle.bg_command_line.specs.declared.invocation.InvocationFault.TheVariants.{Words, OutOfMemory}
 
 -- `--NAME N`, with N from 1 to `most`
 abbrev pub number_rule : Text → ℕ → Rule
@@ -31,9 +31,9 @@ number_rule name most = record (new_rule name) {
 abbrev pub required_rule : Text → ℕ → Rule
 required_rule name most = record (number_rule name most) { required = true }
 
--- `--NAME N`, with N from 1 to `most`, which is required if `wanted` says so
-abbrev pub wanted_rule : Bool → Text → ℕ → Rule
-wanted_rule wanted name most = record (number_rule name most) { required = wanted }
+-- `--NAME N`, with N from 1 to `most`, which is required if `required` says so
+abbrev pub rule_required_if : Bool → Text → ℕ → Rule
+rule_required_if required name most = record (number_rule name most) { required = required }
 
 -- `check`
 abbrev pub check_app : App
@@ -56,20 +56,20 @@ count_rule forever = record (number_rule (codes "count") 1000000) { required = n
 abbrev pub flag_rule : Text → Rule
 flag_rule name = record (new_rule name) { long = Some name; action = Some SetTrue }
 
--- the flag `--NAME`, which is required if `wanted` says so
-abbrev pub wanted_flag_rule : Bool → Text → Rule
-wanted_flag_rule wanted name = record (flag_rule name) { required = wanted }
+-- the flag `--NAME`, which is required if `required` says so
+abbrev pub flag_rule_required_if : Bool → Text → Rule
+flag_rule_required_if required name = record (flag_rule name) { required = required }
 
 -- `--forever`, which is required if the words have it
 abbrev pub forever_rule : Bool → Rule
-forever_rule forever = wanted_flag_rule forever (codes "forever")
+forever_rule forever = flag_rule_required_if forever (codes "forever")
 
 -- `--workers N`, `--concurrency N` and `[--preview-concurrency M]`; of the first two the second is required if
 -- `concurrency` holds, else the first
 abbrev pub with_worker_rules : Bool → App → App
 with_worker_rules concurrency a = with_rule (with_rule (with_rule a
-    (wanted_rule (not concurrency) (codes "workers") 7))
-    (wanted_rule concurrency (codes "concurrency") 1023))
+    (rule_required_if (not concurrency) (codes "workers") 7))
+    (rule_required_if concurrency (codes "concurrency") 1023))
     (number_rule (codes "preview-concurrency") 1023)
 
 -- `[--redispatch] [--endpoint-limit M]`
@@ -195,33 +195,33 @@ pub record IsServe (flags : Flags) (rows : List Row) (site : Site) : Type 0 wher
   pub endpoint_limit_range : IfSome site.endpoint_limit (IsBetween 1 1023)
   pub connections_are : AreConnections flags.forever rows site.connections
 
--- the order is the subcommand of this name with these matches; 4 seats if no number is given
-abbrev pub IsOrderOf : Flags → Text → List Row → Order → Type 0
-IsOrderOf flags name rows Check = name ≡ codes "check"
-IsOrderOf flags name rows (Replay seats) = (name ≡ codes "replay")
+-- the invocation is the subcommand of this name with these matches; 4 seats if no number is given
+abbrev pub IsInvocationOf : Flags → Text → List Row → Invocation → Type 0
+IsInvocationOf flags name rows Check = name ≡ codes "check"
+IsInvocationOf flags name rows (Replay seats) = (name ≡ codes "replay")
     × (seats ≡ unwrap_or (number_of (codes "seats") rows) 4) × IsBetween 1 8 seats
-IsOrderOf flags name rows (Serve site) = (name ≡ codes "serve") × IsServe flags rows site
+IsInvocationOf flags name rows (Serve site) = (name ≡ codes "serve") × IsServe flags rows site
 
--- the words are accepted, and the order is the subcommand of their matches
-abbrev pub IsOrderIn : List Text → Order → Type 0
-IsOrderIn words o = (kinds_of words ≡ [])
+-- the words are accepted, and the invocation is the subcommand of their matches
+abbrev pub IsInvocationIn : List Text → Invocation → Type 0
+IsInvocationIn words o = (kinds_of words ≡ [])
     × ((name : Text) × (rows : List Row)
     × (subcommand_of (program (flags_of words)) words ≡ Some (name, rows))
-    × IsOrderOf (flags_of words) name rows o)
+    × IsInvocationOf (flags_of words) name rows o)
 
 -- an allocation failed, or the words are refused with this error
-abbrev pub IsFaultIn : List Text → OrderFault → Type 0
+abbrev pub IsFaultIn : List Text → InvocationFault → Type 0
 IsFaultIn words OutOfMemory = Unit {0}
 IsFaultIn words (Words e) =
     IsAmong (kind_of e) (kinds_of words) × (kind_of e ≢ kind.OutOfMemory)
 
 -- the words ask for the program's version
-abbrev pub AsksForVersion : OrderFault → Type 0
+abbrev pub AsksForVersion : InvocationFault → Type 0
 AsksForVersion OutOfMemory = ⊥
 AsksForVersion (Words e) = kind_of e ≡ kind.DisplayVersion
 
 -- the fault for an error of `clap`
-abbrev pub IsFaultFrom : Error → OrderFault → Type 0
+abbrev pub IsFaultFrom : Error → InvocationFault → Type 0
 IsFaultFrom e OutOfMemory = kind_of e ≡ kind.OutOfMemory
 IsFaultFrom e (Words x) = (x ≡ e) × (kind_of e ≢ kind.OutOfMemory)
 

@@ -2,9 +2,9 @@
 ghost use Rattle.std.specs.Prelude.{◌≡◌, IfOk, false};
 ghost use Rattle.clap.specs.Words.{app_of, kind_of, rule_of};
 ghost use Rattle.clap.specs.declared.builder.command.Command.TheViews.{out-Command as fields_of};
-ghost use Rattle.bg_command_line.specs.CommandLine.{check_app, count_rule, flag_rule, forever_rule, number_rule, program, replay_app, required_rule, serve_app, top_app, wanted_rule, with_connection_rules, with_endpoint_rules, with_port_rules, with_worker_rules};
+ghost use Rattle.bg_command_line.specs.CommandLine.{check_app, count_rule, flag_rule, forever_rule, number_rule, program, replay_app, required_rule, serve_app, top_app, rule_required_if, with_connection_rules, with_endpoint_rules, with_port_rules, with_worker_rules};
 
-use crate::orders::Flags;
+use crate::invocation::Flags;
 use clap::builder::ValueParser;
 use clap::error::ErrorKind;
 use clap::{Arg, ArgAction, Command, Error};
@@ -85,18 +85,18 @@ fn required_option<'a>(alloc: Global, name: &'a str, most: u64, help: &'a str) -
     number_option(alloc, name, most, help).required(true)
 }
 
-/// `--NAME N`, with N from 1 to `most`, which is required if `wanted` says so.
-fn wanted_option<'a>(
+/// `--NAME N`, with N from 1 to `most`, which is required if `required` says so.
+fn option_required_if<'a>(
     alloc: Global,
-    wanted: bool,
+    required: bool,
     name: &'a str,
     most: u64,
     help: &'a str,
 ) -> Arg<'a>
-    ensures rule { rule_of result ≡ wanted_rule wanted name.entry.now most }
+    ensures rule { rule_of result ≡ rule_required_if required name.entry.now most }
     ensures local { result.global ≡ false }
 {
-    number_option(alloc, name, most, help).required(wanted)
+    number_option(alloc, name, most, help).required(required)
 }
 
 /// The optional flag `--NAME`, which has no value.
@@ -178,7 +178,7 @@ fn with_workers<'a>(
     ensures app { IfOk result (λ c. app_of c ≡ with_worker_rules concurrency (app_of command.entry)) }
     ensures local { IfOk result (λ c. (fields_of c).has_globals ≡ false) }
 {
-    let workers = wanted_option(
+    let workers = option_required_if(
         alloc,
         !concurrency,
         "workers",
@@ -186,7 +186,7 @@ fn with_workers<'a>(
         "How many workers the active port has, 1 to 7; each forwards one request at a time; has to be given, unless --concurrency is",
     );
     let with_workers = command.arg(workers)?;
-    let active = wanted_option(
+    let active = option_required_if(
         alloc,
         concurrency,
         "concurrency",

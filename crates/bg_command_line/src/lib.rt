@@ -2,10 +2,10 @@
 #![tactic(auto)]
 
 mod command_line;
+mod invocation;
 mod message_timeout;
-mod orders;
 mod words;
 
+pub use invocation::{Connections, Invocation, InvocationFault, Site};
 pub use message_timeout::{MessageTimeout, TIMEOUT_VARIABLE};
-pub use orders::{Connections, Order, OrderFault, Site};
-pub use words::order;
+pub use words::parse_command_line;

@@ -2,10 +2,10 @@
 ghost use Rattle.std.specs.Prelude.{◌≡◌, IfOk, IfErr, IfSome, map, codes, option_map, is_some, false, true, unwrap_or};
 ghost use Rattle.std.specs.List.{list_any};
 ghost use Rattle.clap.specs.Words.{IsUnsignedIn, first_of, found_of, rows_of};
-ghost use Rattle.bg_command_line.specs.CommandLine.{AreConnections, AreWorkers, HasWordsOfServe, IsBetween, IsFaultFrom, IsFaultIn, IsIn, IsKnown, IsOrderIn, IsOrderOf, default_preview_workers, flags_of, has_concurrency, has_flag, has_word, is_concurrency, is_in_conflict, number, number_of};
+ghost use Rattle.bg_command_line.specs.CommandLine.{AreConnections, AreWorkers, HasWordsOfServe, IsBetween, IsFaultFrom, IsFaultIn, IsIn, IsKnown, IsInvocationIn, IsInvocationOf, default_preview_workers, flags_of, has_concurrency, has_flag, has_word, is_concurrency, is_in_conflict, number, number_of};
 
 use crate::command_line::{conflict, program_command};
-use crate::orders::{Connections, Flags, Order, OrderFault, Site};
+use crate::invocation::{Connections, Flags, Invocation, InvocationFault, Site};
 use clap::error::ErrorKind;
 use clap::{ArgMatches, Error};
 use std::alloc::Global;
@@ -23,8 +23,8 @@ const DEFAULT_SEATS: u8 = 4;
 /// The error is `Words` only if `clap` refuses the words, if they ask for help or for the version, or if
 /// both `--count` and `--forever` are given, or both `--workers` and `--concurrency`. It is `OutOfMemory` if an
 /// allocation fails.
-pub fn order(alloc: Global, words: &[&str]) -> Result<Order, OrderFault>
-    ensures ok { IfOk result (IsOrderIn (map (λ w. w.now) words.now)) }
+pub fn parse_command_line(alloc: Global, words: &[&str]) -> Result<Invocation, InvocationFault>
+    ensures ok { IfOk result (IsInvocationIn (map (λ w. w.now) words.now)) }
     ensures fault { IfErr result (IsFaultIn (map (λ w. w.now) words.now)) }
 {
     let flags = flags_in(words);
@@ -36,9 +36,9 @@ pub fn order(alloc: Global, words: &[&str]) -> Result<Order, OrderFault>
     let (name, inner) = matches.subcommand().unwrap();
     if is_in_conflict(flags, inner) {
         let message = conflict_message(inner);
-        return Err(OrderFault::Words(conflict(alloc, name, message)?));
+        return Err(InvocationFault::Words(conflict(alloc, name, message)?));
     }
-    Ok(order_of(flags, name, inner))
+    Ok(invocation_of(flags, name, inner))
 }
 
 /// The flags among the words after the program's name.
@@ -104,23 +104,23 @@ fn conflict_message(matches: &ArgMatches) -> &'static str {
     }
 }
 
-fn fault_of(error: Error) -> OrderFault
+fn fault_of(error: Error) -> InvocationFault
     ensures { IsFaultFrom error result }
 {
     match error.kind() {
-        ErrorKind::OutOfMemory => OrderFault::OutOfMemory,
-        _ => OrderFault::Words(error),
+        ErrorKind::OutOfMemory => InvocationFault::OutOfMemory,
+        _ => InvocationFault::Words(error),
     }
 }
 
-fn order_of(flags: Flags, name: &str, matches: &ArgMatches) -> Order
+fn invocation_of(flags: Flags, name: &str, matches: &ArgMatches) -> Invocation
     requires { IsKnown flags name.now (rows_of (found_of matches.now)) }
-    ensures { IsOrderOf flags name.now (rows_of (found_of matches.now)) result }
+    ensures { IsInvocationOf flags name.now (rows_of (found_of matches.now)) result }
 {
     if name == "check" {
-        Order::Check
+        Invocation::Check
     } else if name == "replay" {
-        Order::Replay {
+        Invocation::Replay {
             seats: seats_of(matches),
         }
     } else {
@@ -140,12 +140,12 @@ fn seats_of(matches: &ArgMatches) -> u8
     }
 }
 
-fn serve_of(flags: Flags, matches: &ArgMatches) -> Order
+fn serve_of(flags: Flags, matches: &ArgMatches) -> Invocation
     requires { HasWordsOfServe flags (rows_of (found_of matches.now)) }
-    ensures { IsOrderOf flags (codes "serve") (rows_of (found_of matches.now)) result }
+    ensures { IsInvocationOf flags (codes "serve") (rows_of (found_of matches.now)) result }
 {
     let workers = workers_of(flags.concurrency, matches);
-    Order::Serve(Site {
+    Invocation::Serve(Site {
         active: port_in(required_text(matches, "active")),
         preview: match argument_text(matches, "preview") {
             Some(text) => Some(port_in(text)),

@@ -5,13 +5,13 @@ use Rattle.std.specs.List.{list_any}
 use Rattle.std.specs.Str.{bytes_eq, str_eq_ignore_ascii_case, str_to_ascii_lowercase}
 use Rattle.std.proofs.lemmas.Bool.{or_left, or_right}
 use Rattle.std.proofs.lemmas.Slice.Eq.{bytes_eq-Decides}
-use Rattle.bg_http.specs.Elements.{HeaderField, is_named, has_field, elements_named}
+use Rattle.bg_http.specs.Elements.{Field, is_named, has_field, elements_named}
 use Rattle.bg_http.specs.RequestRules.{expects_continue}
 use Rattle.bg_http.specs.Removed.{is_of_connection, is_named_by_connection, is_removed, is_removed_from_request}
 use Rattle.bg_http.specs.Laws.{StaysHere}
 
 -- no field that passes a test is kept if each such field is removed
-none_kept : (test removed : HeaderField → Bool) (fields : List HeaderField) → ((f : HeaderField) → test f ≡ true → removed f ≡ true)
+none_kept : (test removed : Field → Bool) (fields : List Field) → ((f : Field) → test f ≡ true → removed f ≡ true)
     → list_any test (filter (λ f. not (removed f)) fields) ≡ false
 none_kept test removed [] h = refl
 none_kept test removed (f ∷ fields) h = by_test (removed f) refl (test f) refl (none_kept test removed fields h)
@@ -23,14 +23,14 @@ none_kept test removed (f ∷ fields) h = by_test (removed f) refl (test f) refl
     by_test false e false u later = rw u later
 
 -- no field of a name is forwarded if each field of the name is removed
-pub stays : (fields : List HeaderField) (name : List ℕ) → ((f : HeaderField) → is_named name f ≡ true → is_removed fields f ≡ true) → StaysHere fields name
+pub stays : (fields : List Field) (name : List ℕ) → ((f : Field) → is_named name f ≡ true → is_removed fields f ≡ true) → StaysHere fields name
 stays fields name h = (
   none_kept (is_named name) (is_removed_from_request fields) fields (λ f e. or_left (is_removed fields f) (expects_continue f) (h f e)),
   none_kept (is_named name) (is_removed fields) fields h,
 )
 
 -- no field of a single connection is forwarded
-pub stays_of_connection : (fields : List HeaderField) (name : List ℕ) → ((f : HeaderField) → is_named name f ≡ true → is_of_connection f ≡ true) → StaysHere fields name
+pub stays_of_connection : (fields : List Field) (name : List ℕ) → ((f : Field) → is_named name f ≡ true → is_of_connection f ≡ true) → StaysHere fields name
 stays_of_connection fields name h = stays fields name (λ f e. or_left (is_of_connection f) _ (h f e))
 
 -- names that differ only in case are equal in lower case
@@ -38,7 +38,7 @@ one_name : (a b : List ℕ) → str_eq_ignore_ascii_case a b ≡ true → str_to
 one_name a b e = (bytes_eq-Decides (str_to_ascii_lowercase a) (str_to_ascii_lowercase b)).0 e
 
 -- a field that Connection names is removed unless it is Host
-pub removed_where_named : (fields : List HeaderField) (name : List ℕ) (f : HeaderField) → is_named_by_connection fields name ≡ true → str_eq_ignore_ascii_case name (codes "host") ≡ false
+pub removed_where_named : (fields : List Field) (name : List ℕ) (f : Field) → is_named_by_connection fields name ≡ true → str_eq_ignore_ascii_case name (codes "host") ≡ false
     → is_named name f ≡ true → is_removed fields f ≡ true
 removed_where_named fields name f named other e =
     let low = one_name f.0 name e in
@@ -55,7 +55,7 @@ removed_where_named fields name f named other e =
     both true b h k = cc
 
 -- if no field has the name, there are no elements of that name
-no_elements : (name : List ℕ) (fields : List HeaderField) → has_field name fields ≡ false → elements_named name fields ≡ []
+no_elements : (name : List ℕ) (fields : List Field) → has_field name fields ≡ false → elements_named name fields ≡ []
 no_elements name [] none = refl
 no_elements name (f ∷ fields) none = by_test (is_named name f) refl none (no_elements name fields)
   where
@@ -65,5 +65,5 @@ no_elements name (f ∷ fields) none = by_test (is_named name f) refl none (no_e
     by_test false e h later = rw e (later h)
 
 -- if there is no Connection field, it names no field
-pub none_named : (fields : List HeaderField) (name : List ℕ) → has_field (codes "connection") fields ≡ false → is_named_by_connection fields name ≡ false
+pub none_named : (fields : List Field) (name : List ℕ) → has_field (codes "connection") fields ≡ false → is_named_by_connection fields name ≡ false
 none_named fields name none = rw (no_elements (codes "connection") fields none) refl

@@ -16,15 +16,15 @@ part_of_front t n a b ab bn =
     let part : ℕ → List ℕ = λ m. slice_range (take m t) a b in
     ap part whole ∙ ap (take (b - a)) (drop-take a (n - a) t) ∙ take-take (b - a) (n - a) (drop a t) (omega arith)
 
-header_of_front : (t : List ℕ) (n : ℕ) (s : HeaderSpan) → IsHeaderWithin n s → header_bytes (take n t) s ≡ header_bytes t s
-header_of_front t n s h =
+span_of_front : (t : List ℕ) (n : ℕ) (s : HeaderSpan) → IsHeaderWithin n s → header_bytes (take n t) s ≡ header_bytes t s
+span_of_front t n s h =
     ap₂ (λ x y. (x, y)) (part_of_front t n s.name.start s.name.end h.0.0 h.0.1) (part_of_front t n s.value.start s.value.end h.1.0 h.1.1)
 
 -- the fields of a text are those of its front if they lie in the front
-pub headers_of_front : (t : List ℕ) (n : ℕ) (ss : List HeaderSpan) → All (IsHeaderWithin n) ss → map (header_bytes (take n t)) ss ≡ map (header_bytes t) ss
-headers_of_front t n [] h = refl
-headers_of_front t n (s ∷ ss) h =
-    ap₂ (λ x xs. x ∷ xs) (header_of_front t n s (All-head (IsHeaderWithin n) s ss h)) (headers_of_front t n ss (All-tail (IsHeaderWithin n) s ss h))
+pub spans_of_front : (t : List ℕ) (n : ℕ) (ss : List HeaderSpan) → All (IsHeaderWithin n) ss → map (header_bytes (take n t)) ss ≡ map (header_bytes t) ss
+spans_of_front t n [] h = refl
+spans_of_front t n (s ∷ ss) h =
+    ap₂ (λ x xs. x ∷ xs) (span_of_front t n s (All-head (IsHeaderWithin n) s ss h)) (spans_of_front t n ss (All-tail (IsHeaderWithin n) s ss h))
 
 -- a field within the first bytes is within a longer front too
 pub within_more : (m n : ℕ) → m ≤ n → (s : HeaderSpan) → IsHeaderWithin m s → IsHeaderWithin n s
@@ -82,7 +82,7 @@ place_at_end t n v p a b c d ruled =
 pub fields_of_spans : (text copy : List ℕ) (n : ℕ) (ps : List FieldPlace) (ss : List HeaderSpan) → copy ≡ take n text → map (λ (p : FieldPlace). p.spans) ps ≡ ss
     → All (IsHeaderWithin n) ss → map (field_at copy) ps ≡ map (header_bytes text) ss
 fields_of_spans text copy n ps ss e f h =
-    ap (λ t. map (field_at t) ps) e ∙ fields_by_spans (take n text) ps ∙ ap (map (header_bytes (take n text))) f ∙ headers_of_front text n ss h
+    ap (λ t. map (field_at t) ps) e ∙ fields_by_spans (take n text) ps ∙ ap (map (header_bytes (take n text))) f ∙ spans_of_front text n ss h
   where
     fields_by_spans : (t : List ℕ) (ps : List FieldPlace) → map (field_at t) ps ≡ map (header_bytes t) (map (λ (p : FieldPlace). p.spans) ps)
     fields_by_spans t [] = refl

@@ -2,7 +2,7 @@
 use Rattle.std.proofs.Common.{◌≡◌, ℕ, Bool, true, false, List, [], ◌∷◌, refl}
 use Rattle.std.specs.Fmt.{digits}
 use Rattle.std.specs.Prelude.{Some, None, Result, Ok, Err, codes}
-use Rattle.bg_http.specs.Elements.{HeaderField}
+use Rattle.bg_http.specs.Elements.{Field}
 use Rattle.bg_http.specs.RequestRules.{request_framing, owes_continue}
 use Rattle.bg_http.specs.ResponseRules.{response_framing, length_told}
 use Rattle.bg_http.specs.Texts.{request_text, response_text, refusal_text}
@@ -18,23 +18,23 @@ use Rattle.bg_http.specs.declared.response_fault.ResponseFault.{ResponseFault}
 use Rattle.bg_http.specs.declared.response_rules.ResponseFraming.TheVariants as ending
 use Rattle.bg_http.specs.declared.response_fault.ResponseFault.TheVariants as wrong
 
-abbrev host : HeaderField
+abbrev host : Field
 host = (codes "Host", codes "x")
 
 -- the head of a request for `/p`
-abbrev head_of : List ℕ → ℕ → List HeaderField → RequestHead
+abbrev head_of : List ℕ → ℕ → List Field → RequestHead
 head_of method minor fields =
     record { method = method; target = codes "/p"; minor = minor; fields = fields }
 
 -- the framing of a POST in version 1.1 with a Host and these fields, or the fault
-abbrev posted : List HeaderField → Result Framing RequestFault
+abbrev posted : List Field → Result Framing RequestFault
 posted fields = request_framing (head_of (codes "POST") 1 (host ∷ fields))
 
 -- a Content-Length field
-abbrev length_field : List ℕ → HeaderField
+abbrev length_field : List ℕ → Field
 length_field value = (codes "Content-Length", value)
 
-abbrev coding_field : List ℕ → HeaderField
+abbrev coding_field : List ℕ → Field
 coding_field value = (codes "Transfer-Encoding", value)
 
 -- a request without Content-Length and Transfer-Encoding has no body
@@ -216,14 +216,14 @@ unfolding digits
 fields_go_on = refl
 
 -- the head of a response, and its framing as a response to a GET and to a HEAD
-abbrev answer : ℕ → ℕ → List HeaderField → ResponseHead
+abbrev answer : ℕ → ℕ → List Field → ResponseHead
 answer minor code fields = record { minor = minor; code = code; reason = codes "R"; fields = fields }
 
 abbrev head_request : Request
 head_request =
     record { method = codes "HEAD"; target = codes "/a"; minor = 1; fields = host ∷ []; body = None }
 
-abbrev got : ℕ → ℕ → List HeaderField → Result ResponseFraming ResponseFault
+abbrev got : ℕ → ℕ → List Field → Result ResponseFraming ResponseFault
 got minor code fields = response_framing get_request (answer minor code fields)
 
 -- a code below 100 is refused, and 101 too; other codes are interim, or have no body

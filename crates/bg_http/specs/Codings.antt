@@ -1,7 +1,7 @@
 -- The codings that Transfer-Encoding fields name (RFC 9112 section 6.1).
 use Rattle.std.specs.Prelude.{ℕ, Bool, true, false, not, List, [], ◌∷◌, filter, codes}
 use Rattle.std.specs.Str.{str_eq_ignore_ascii_case}
-use Rattle.bg_http.specs.Elements.{HeaderField, elements_named}
+use Rattle.bg_http.specs.Elements.{Field, elements_named}
 
 -- an empty element
 abbrev pub is_empty : List ℕ → Bool
@@ -9,7 +9,7 @@ is_empty [] = true
 is_empty (byte ∷ more) = false
 
 -- the elements of all Transfer-Encoding fields in order, without the empty ones
-abbrev pub codings : List HeaderField → List (List ℕ)
+abbrev pub codings : List Field → List (List ℕ)
 codings fields =
     filter (λ element. not (is_empty element)) (elements_named (codes "transfer-encoding") fields)
 

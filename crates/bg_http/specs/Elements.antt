@@ -5,19 +5,19 @@ use Rattle.std.specs.List.{list_any, slice_split}
 use Rattle.std.specs.Str.{str_eq_ignore_ascii_case}
 
 -- a name and a value
-abbrev pub HeaderField : Type 0
-HeaderField = List ℕ × List ℕ
+abbrev pub Field : Type 0
+Field = List ℕ × List ℕ
 
 -- the field that two texts make, a name and a value
-abbrev pub field_lent : Bor (List ℕ) × Bor (List ℕ) → HeaderField
+abbrev pub field_lent : Bor (List ℕ) × Bor (List ℕ) → Field
 field_lent texts = (texts.0.now, texts.1.now)
 
 -- the field has the name, in any case of its letters
-abbrev pub is_named : List ℕ → HeaderField → Bool
+abbrev pub is_named : List ℕ → Field → Bool
 is_named name field = str_eq_ignore_ascii_case field.0 name
 
 -- a field has the name
-abbrev pub has_field : List ℕ → List HeaderField → Bool
+abbrev pub has_field : List ℕ → List Field → Bool
 has_field name fields = list_any (is_named name) fields
 
 -- a space or a tab
@@ -41,6 +41,6 @@ abbrev pub elements : List ℕ → List (List ℕ)
 elements value = map trimmed (slice_split is_comma value)
 
 -- the elements of all fields of the name, in order
-abbrev pub elements_named : List ℕ → List HeaderField → List (List ℕ)
+abbrev pub elements_named : List ℕ → List Field → List (List ℕ)
 elements_named name fields =
     flat_map (λ field. if is_named name field then elements field.1 else []) fields

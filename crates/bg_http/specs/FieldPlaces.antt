@@ -2,12 +2,12 @@
 -- them.
 use Rattle.std.specs.Prelude.{ℕ, List, length}
 use Rattle.httparse.specs.Spans.{IsHeaderWithin, header_bytes, span_bytes}
-use Rattle.bg_http.specs.Elements.{HeaderField}
+use Rattle.bg_http.specs.Elements.{Field}
 use Rattle.bg_http.specs.Names.{IsRuledAs}
 use Rattle.bg_http.specs.declared.field_place.FieldPlace.{FieldPlace}
 
 -- the field at this position
-abbrev pub field_at : List ℕ → FieldPlace → HeaderField
+abbrev pub field_at : List ℕ → FieldPlace → Field
 field_at text place = header_bytes text place.spans
 
 -- the field lies in the text, and its name was looked up

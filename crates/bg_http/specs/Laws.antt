@@ -1,14 +1,14 @@
 -- The laws of the rules and of the writers.
 use Rattle.std.specs.Prelude.{◌≡◌, ℕ, true, false, ◌&&◌, List, codes, Ok}
 use Rattle.std.specs.Str.{str_eq_ignore_ascii_case}
-use Rattle.bg_http.specs.Elements.{HeaderField, has_field}
+use Rattle.bg_http.specs.Elements.{Field, has_field}
 use Rattle.bg_http.specs.RequestRules.{request_framing}
 use Rattle.bg_http.specs.Removed.{is_named_by_connection, kept_in_request, kept_in_response}
 use Rattle.bg_http.specs.declared.request.RequestHead.{RequestHead}
 use Rattle.bg_http.specs.declared.request_rules.Framing.{Framing}
 
 -- no field with the name is forwarded
-abbrev pub StaysHere : List HeaderField → List ℕ → Type 0
+abbrev pub StaysHere : List Field → List ℕ → Type 0
 StaysHere fields name =
     (has_field name (kept_in_request fields) ≡ false)
     × (has_field name (kept_in_response fields) ≡ false)
@@ -21,7 +21,7 @@ IsFramedOnce head framing =
     && has_field (codes "content-length") head.fields) ≡ false
 
 -- a field that Connection names is not forwarded, except Host
-abbrev pub StaysWhereNamed : List HeaderField → List ℕ → Type 0
+abbrev pub StaysWhereNamed : List Field → List ℕ → Type 0
 StaysWhereNamed fields name =
     is_named_by_connection fields name ≡ true
     → str_eq_ignore_ascii_case name (codes "host") ≡ false → StaysHere fields name

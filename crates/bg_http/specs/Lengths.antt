@@ -4,7 +4,7 @@ use Rattle.std.specs.List.{list_all}
 use Rattle.std.specs.Char.{is_ascii_digit}
 use Rattle.std.specs.Str.{bytes_eq}
 use Rattle.std.specs.Str.Parse.{digits_value}
-use Rattle.bg_http.specs.Elements.{HeaderField, elements_named}
+use Rattle.bg_http.specs.Elements.{Field, elements_named}
 
 -- one or more digits
 abbrev pub is_digits : List ℕ → Bool
@@ -33,7 +33,7 @@ length_of (element ∷ more) =
     then is (without_zeros element) else wrong
 
 -- the result of reading all Content-Length fields together
-abbrev pub content_length : List HeaderField → Length
+abbrev pub content_length : List Field → Length
 content_length fields = length_of (elements_named (codes "content-length") fields)
 
 -- the number that the digits stand for, if it is at most `most`

@@ -3,7 +3,7 @@ use Rattle.std.specs.Prelude.{ℕ, Bool, true, false, not, if◌then◌else◌, 
 use Rattle.std.specs.Str.{bytes_eq, str_eq_ignore_ascii_case}
 use Rattle.std.specs.List.{list_any}
 use Rattle.std.specs.Result.{result_err}
-use Rattle.bg_http.specs.Elements.{HeaderField, is_named, has_field}
+use Rattle.bg_http.specs.Elements.{Field, is_named, has_field}
 use Rattle.bg_http.specs.Lengths.{Length, absent, is, wrong, content_length, number_within}
 use Rattle.bg_http.specs.Codings.{codings, ends_in_chunked}
 use Rattle.bg_http.specs.declared.request.RequestHead.{RequestHead}
@@ -98,7 +98,7 @@ abbrev pub request_framing : RequestHead → Result Framing RequestFault
 request_framing head = unless_broken (first_broken request_rules head) (framing_of head)
 
 -- the field is an Expect that is `100-continue`, in any case of its letters
-abbrev pub expects_continue : HeaderField → Bool
+abbrev pub expects_continue : Field → Bool
 expects_continue field =
     is_named (codes "expect") field
     && str_eq_ignore_ascii_case field.1 (codes "100-continue")

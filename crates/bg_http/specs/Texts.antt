@@ -1,14 +1,14 @@
 -- The bytes in which messages are written (RFC 9112 sections 2.1, 3, 4 and 5).
 use Rattle.std.specs.Prelude.{ℕ, not, if◌then◌else◌, ◌==◌, ◌&&◌, List, [], ◌++◌, length, flat_map, codes, Option, Some, None}
 use Rattle.std.specs.Fmt.{decimal}
-use Rattle.bg_http.specs.Elements.{HeaderField, has_field}
+use Rattle.bg_http.specs.Elements.{Field, has_field}
 use Rattle.bg_http.specs.Removed.{kept_in_request, kept_in_response}
 use Rattle.bg_http.specs.ResponseRules.{has_no_body}
 use Rattle.bg_http.specs.declared.request.Request.{Request}
 use Rattle.bg_http.specs.declared.response.Response.{Response}
 
 -- a field's line
-abbrev pub field_line : HeaderField → List ℕ
+abbrev pub field_line : Field → List ℕ
 field_line field = field.0 ++ codes ": " ++ field.1 ++ codes "\r\n"
 
 -- a request is forwarded as HTTP/1.1, whatever its own version is

@@ -3,7 +3,7 @@ ghost use Rattle.std.specs.Prelude.{◌≡◌, length};
 ghost use Rattle.httparse.specs.Spans.{IsHeaderWithin};
 ghost use Rattle.bg_http.specs.FieldPlaces.{IsPlaceIn, field_at};
 
-use crate::header_field::HeaderField;
+use crate::field::Field;
 use crate::names::{RuledName, ruled_name};
 use httparse::spans::HeaderSpan;
 
@@ -27,12 +27,12 @@ impl FieldPlace {
     }
 
     /// The field at this position.
-    pub(crate) fn field_in(self, text: &[u8]) -> HeaderField<'_>
+    pub(crate) fn field_in(self, text: &[u8]) -> Field<'_>
         requires { IsPlaceIn text.now self }
         ensures { result ≡ field_at text.now self }
     {
         let name = self.spans.name.of(text);
         let value = self.spans.value.of(text);
-        HeaderField::new(name, value, self.ruled)
+        Field::new(name, value, self.ruled)
     }
 }

@@ -5,8 +5,8 @@ ghost use Rattle.bg_http.specs.Elements.{field_lent};
 ghost use Rattle.bg_http.specs.FieldPlaces.{IsPlaceIn};
 ghost use Rattle.bg_http.specs.declared.field_place.FieldPlace.{FieldPlace};
 
+use crate::field::Field;
 use crate::field_place::FieldPlace;
-use crate::header_field::HeaderField;
 use crate::names::ruled_name;
 use httparse::spans::{HeaderSpan, Span};
 use std::alloc::{AllocError, Global};
@@ -128,7 +128,7 @@ impl Fields {
     }
 
     /// The field at `place`, counted from 0.
-    pub fn at(&self, place: usize) -> Option<HeaderField<'_>>
+    pub fn at(&self, place: usize) -> Option<Field<'_>>
         ensures { result ≡ slice_get self.now place }
     {
         let place = self.places.get(place)?;
@@ -167,13 +167,13 @@ impl<'a> Model for FieldIter<'a> {
 impl<'a> Iterator for FieldIter<'a> {
     ghost use Rattle.std.specs.Iterator.{YieldsFirst, item_count};
 
-    type Item = HeaderField<'a>;
+    type Item = Field<'a>;
 
     ghost next_gives = { YieldsFirst (λ left. left) };
 
     ghost remaining = { item_count (λ left. left) };
 
-    fn next(&mut self) -> Option<HeaderField<'a>> {
+    fn next(&mut self) -> Option<Field<'a>> {
         let [place, rest @ ..] = self.places else {
             return None;
         };

@@ -1,6 +1,6 @@
 //! The laws of the rules and of the writers, for every message.
 ghost use Rattle.std.specs.Prelude.{List, ℕ, codes};
-ghost use Rattle.bg_http.specs.Elements.{HeaderField};
+ghost use Rattle.bg_http.specs.Elements.{Field};
 ghost use Rattle.bg_http.specs.Laws.{IsFramedOnce, StaysHere, StaysWhereNamed};
 ghost use Rattle.bg_http.specs.declared.request.RequestHead.{RequestHead};
 ghost use Rattle.bg_http.specs.declared.request_rules.Framing.{Framing};
@@ -13,13 +13,13 @@ pub fn framed_once()
 /// No field that gives the end of a body is forwarded, and no Connection field. So the only such
 /// fields are those that the writers write.
 pub fn only_one_length_goes_on()
-    ensures codings { (fields : List HeaderField) → StaysHere fields (codes "transfer-encoding") }
-    ensures lengths { (fields : List HeaderField) → StaysHere fields (codes "content-length") }
-    ensures connections { (fields : List HeaderField) → StaysHere fields (codes "connection") }
+    ensures codings { (fields : List Field) → StaysHere fields (codes "transfer-encoding") }
+    ensures lengths { (fields : List Field) → StaysHere fields (codes "content-length") }
+    ensures connections { (fields : List Field) → StaysHere fields (codes "connection") }
 {}
 
 /// No field that an element of a Connection field names is forwarded, except Host (RFC 9110 section
 /// 7.6.1).
 pub fn named_fields_stay()
-    ensures { (fields : List HeaderField) (name : List ℕ) → StaysWhereNamed fields name }
+    ensures { (fields : List Field) (name : List ℕ) → StaysWhereNamed fields name }
 {}

@@ -8,9 +8,9 @@
 mod bytes;
 mod codings;
 mod elements;
+mod field;
 mod field_place;
 mod fields;
-mod header_field;
 pub mod laws;
 mod lengths;
 mod memory_stream;
@@ -26,8 +26,8 @@ mod stream;
 mod writers;
 
 pub use bytes::Bytes;
+pub use field::Field;
 pub use fields::{FieldIter, Fields};
-pub use header_field::HeaderField;
 pub use memory_stream::MemoryStream;
 pub use request::{Request, RequestHead};
 pub use request_fault::RequestFault;

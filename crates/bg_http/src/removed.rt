@@ -7,14 +7,14 @@ ghost use Rattle.bg_http.specs.Held.{elements_left};
 ghost use Rattle.bg_http.specs.Removed as spec;
 
 use crate::elements::{Elements, elements_named, is_same_name};
+use crate::field::Field;
 use crate::fields::Fields;
-use crate::header_field::HeaderField;
 use crate::names::RuledName;
 use crate::request_rules::expects_continue;
 
 /// Whether the field is not forwarded (RFC 9110 section 7.6.1). `has_connection` says whether there
 /// is a Connection field; the caller determines it once for each message.
-pub(crate) fn is_removed(fields: &Fields, has_connection: bool, field: &HeaderField<'_>) -> bool
+pub(crate) fn is_removed(fields: &Fields, has_connection: bool, field: &Field<'_>) -> bool
     requires { has_connection ≡ has_named (codes "connection") fields.now }
     ensures { result ≡ spec.is_removed fields.now field.now }
 {
@@ -27,7 +27,7 @@ pub(crate) fn is_removed(fields: &Fields, has_connection: bool, field: &HeaderFi
 pub(crate) fn is_removed_from_request(
     fields: &Fields,
     has_connection: bool,
-    field: &HeaderField<'_>,
+    field: &Field<'_>,
 ) -> bool
     requires { has_connection ≡ has_named (codes "connection") fields.now }
     ensures { result ≡ spec.is_removed_from_request fields.now field.now }
@@ -35,7 +35,7 @@ pub(crate) fn is_removed_from_request(
     is_removed(fields, has_connection, field) || expects_continue(field)
 }
 
-fn is_of_connection(field: &HeaderField<'_>) -> bool
+fn is_of_connection(field: &Field<'_>) -> bool
     ensures { result ≡ spec.is_of_connection field.now }
 {
     field.is(RuledName::Connection)

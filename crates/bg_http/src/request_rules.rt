@@ -7,8 +7,8 @@ ghost use Rattle.bg_http.specs.RequestRules as spec;
 
 use crate::codings::named_codings;
 use crate::elements::{has_field, is_same_name};
+use crate::field::Field;
 use crate::fields::Fields;
-use crate::header_field::HeaderField;
 use crate::lengths::{OneLength, content_length, value_within};
 use crate::names::RuledName;
 use crate::request::RequestHead;
@@ -64,7 +64,7 @@ fn has_expectation(fields: &Fields) -> bool
 }
 
 /// Whether the field is an Expect field whose value is `100-continue`.
-pub(crate) fn expects_continue(field: &HeaderField<'_>) -> bool
+pub(crate) fn expects_continue(field: &Field<'_>) -> bool
     ensures { result ≡ spec.expects_continue field.now }
 {
     field.is(RuledName::Expect) && is_same_name(field.value(), b"100-continue")

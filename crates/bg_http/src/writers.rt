@@ -10,8 +10,8 @@ ghost use Rattle.bg_http.specs.Texts as spec;
 
 use crate::bytes::Bytes;
 use crate::elements::has_field;
+use crate::field::Field;
 use crate::fields::Fields;
-use crate::header_field::HeaderField;
 use crate::names::RuledName;
 use crate::removed::{is_removed, is_removed_from_request};
 use crate::request::Request;
@@ -73,7 +73,7 @@ fn write_via<W: Write>(request: &Request, writer: &mut W) -> io::Result<()>
     }
 }
 
-fn write_field<W: Write>(field: &HeaderField<'_>, writer: &mut W) -> io::Result<()>
+fn write_field<W: Write>(field: &Field<'_>, writer: &mut W) -> io::Result<()>
     ensures { OnOk result (Appends (W.contents writer.old) (W.contents writer.new)
         (spec.field_line field.now)) }
 {

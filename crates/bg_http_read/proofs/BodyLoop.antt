@@ -3,8 +3,8 @@ use Rattle.std.proofs.Common.{◌≡◌, ℕ, zero, suc, ◌==◌, List, [], ◌
 use Rattle.std.proofs.lemmas.List.{append-nil}
 use Rattle.std.proofs.lemmas.Bool.{eqb-true}
 use Rattle.bg_http_read.specs.declared.body.Body.{Body}
-use Rattle.bg_http_read.specs.declared.body.Stage.{Stage}
-use Rattle.bg_http_read.specs.declared.body.Stage.TheVariants as stage
+use Rattle.bg_http_read.specs.declared.body.BodyStage.{BodyStage}
+use Rattle.bg_http_read.specs.declared.body.BodyStage.TheVariants as stage
 use Rattle.bg_http_read.specs.Bodies.{ReadsOn, Reads, Fails, Takes, Follows, is_whole, can_end}
 use Rattle.bg_http_read.specs.BodyFaults.{cut}
 
@@ -48,7 +48,7 @@ wants_first one other next first bytes count h t none wanting =
     (h.fails cut [] (subst (Fails other cut) (sym (append-nil bytes)) (t.1.wants none wanting)))
 
 -- if the body is complete, the input that is left is the rest
-pub whole_reads : (s : Stage) (done input : List ℕ) → is_whole s ≡ true → ReadsOn s done input done input
+pub whole_reads : (s : BodyStage) (done input : List ℕ) → is_whole s ≡ true → ReadsOn s done input done input
 whole_reads (stage.Length left) done input h = record {
   bytes = [];
   size_is = sym (is_zero left h);
@@ -65,7 +65,7 @@ whole_reads stage.Trailers done input h = cc
 whole_reads stage.ToTheEnd done input h = cc
 whole_reads stage.Whole done input h = (refl, refl)
 
-pub end_reads : (s : Stage) (done input : List ℕ) → can_end s ≡ true → (s ≡ stage.ToTheEnd → input ≡ [])
+pub end_reads : (s : BodyStage) (done input : List ℕ) → can_end s ≡ true → (s ≡ stage.ToTheEnd → input ≡ [])
     → ReadsOn s done input done input
 end_reads (stage.Length left) done input h e = whole_reads (stage.Length left) done input h
 end_reads stage.Line done input h e = cc

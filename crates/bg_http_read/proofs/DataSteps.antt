@@ -6,8 +6,8 @@ use Rattle.httparse.specs.Ascii.{crlf_bytes}
 use Rattle.bg_http_read.specs.BodyFaults.{Failure, malformed, large, cut, LengthFails, LineEndFails, TrailersFail, EndFails, ChunksFail}
 use Rattle.bg_http_read.specs.Chunks.{ReadsTrailers}
 use Rattle.bg_http_read.specs.Bodies.{ReadsMoreChunks, ReadsLength, ReadsData, can_end, FailsOn, TakesOn}
-use Rattle.bg_http_read.specs.declared.body.Stage.{Stage}
-use Rattle.bg_http_read.specs.declared.body.Stage.TheVariants as stage
+use Rattle.bg_http_read.specs.declared.body.BodyStage.{BodyStage}
+use Rattle.bg_http_read.specs.declared.body.BodyStage.TheVariants as stage
 use Rattle.bg_http_read.proofs.Fronts.{front_more}
 use Rattle.bg_http_read.proofs.TrailersFound.{trailers_more}
 
@@ -15,7 +15,7 @@ no_false : IsFalse true → ⊥
 no_false e = cc
 
 -- no byte is taken
-pub takes_nothing : (limit : ℕ) (s : Stage) (done bytes : List ℕ)
+pub takes_nothing : (limit : ℕ) (s : BodyStage) (done bytes : List ℕ)
     → (IsFalse (can_end s) → FailsOn cut limit s (length done) bytes)
     → (s ≡ stage.ToTheEnd → bytes ≡ []) → TakesOn limit s done s done bytes 0
 takes_nothing limit s done bytes wants empty = record {

@@ -20,8 +20,8 @@ use Rattle.bg_http_read.specs.Requests.{FramedBodyFails, JudgedHead, ReadsReques
 use Rattle.bg_http_read.specs.RequestStates.{FailsAsked, IsReadAsked, IsRefusedAsked, LacksRequest, OwesContinue}
 use Rattle.bg_http_read.specs.RequestsFed.{Advances, AdvancesTo, AwaitsHead, HasParts, IsAt, IsFedBody, IsFedStage, IsOpenStage, IsSeen, LacksHead, StartsBody, first_stage, framed_body, is_head, most_of, stage_seen, was_asked}
 use Rattle.bg_http_read.specs.declared.body.Body.{Body}
-use Rattle.bg_http_read.specs.declared.body.Stage.{Stage}
-use Rattle.bg_http_read.specs.declared.body.Stage.TheVariants as stage
+use Rattle.bg_http_read.specs.declared.body.BodyStage.{BodyStage}
+use Rattle.bg_http_read.specs.declared.body.BodyStage.TheVariants as stage
 use Rattle.bg_http_read.specs.declared.head_end.HeadEnd.{HeadEnd}
 use Rattle.bg_http_read.specs.declared.head_end.HeadEnd.TheVariants as head_end
 use Rattle.bg_http_read.specs.declared.message_fault.MessageFault.{MessageFault}
@@ -319,7 +319,7 @@ never_to_the_end framing.NoBody e = cc
 never_to_the_end framing.Chunks e = cc
 never_to_the_end (framing.Length size) e = cc
 
-cannot_end : (s : Stage) → is_whole s ≡ false → (s ≡ stage.ToTheEnd → ⊥) → can_end s ≡ false
+cannot_end : (s : BodyStage) → is_whole s ≡ false → (s ≡ stage.ToTheEnd → ⊥) → can_end s ≡ false
 cannot_end (stage.Length left) missing never = missing
 cannot_end stage.Line missing never = refl
 cannot_end (stage.Data left) missing never = refl

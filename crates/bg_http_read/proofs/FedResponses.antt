@@ -14,8 +14,8 @@ use Rattle.bg_http_read.specs.Responses.{AfterInterim, IsFinalHead, SkipsInterim
 use Rattle.bg_http_read.specs.ResponsesFed.{AwaitsHead, IsSeen, Starts, stage_seen, HasParts, IsFedBody, IsFedStage, IsOpenStage, StartsBody, WantsBody, WantsStage, first_stage, most_of}
 use Rattle.bg_http_read.specs.ResponseStates.{LacksResponse, GoesToTheEnd, IsRead, IsRefused, NeedsMore}
 use Rattle.bg_http_read.specs.declared.body.Body.{Body}
-use Rattle.bg_http_read.specs.declared.body.Stage.{Stage}
-use Rattle.bg_http_read.specs.declared.body.Stage.TheVariants as stage
+use Rattle.bg_http_read.specs.declared.body.BodyStage.{BodyStage}
+use Rattle.bg_http_read.specs.declared.body.BodyStage.TheVariants as stage
 use Rattle.bg_http_read.specs.MessageFaults.{as_response}
 use Rattle.bg_http_read.specs.declared.message_fault.MessageFault.{MessageFault}
 use Rattle.bg_http_read.specs.declared.message_fault.MessageFault.TheVariants as message_fault
@@ -200,7 +200,7 @@ fed_cut_off request p waits seen h fails =
     (framed request p waits seen [] cut h (subst (Fails p.body cut) (sym (append-nil waits)) fails)))
 
 -- a body that may end and is not complete goes to the end of the input
-to_the_end : (s : Stage) → can_end s ≡ true → is_whole s ≡ false → s ≡ stage.ToTheEnd
+to_the_end : (s : BodyStage) → can_end s ≡ true → is_whole s ≡ false → s ≡ stage.ToTheEnd
 to_the_end (stage.Length left) ends missing = absurd (both left ends missing)
   where
     both : (n : ℕ) → (n == 0) ≡ true → (n == 0) ≡ false → ⊥

@@ -4,7 +4,7 @@ use Rattle.std.proofs.lemmas.List.{append-nil, length-append}
 use Rattle.bg_http_read.specs.BodyFaults.{Failure, large, cut, malformed, LineFails, LineEndFails, FailsAt, at_line, at_size, after_data, at_trailers, ChunksFail}
 use Rattle.bg_http_read.specs.Chunks.{ReadsLine, ReadsChunk, ReadsTrailers, Leads, joined}
 use Rattle.bg_http_read.specs.Bodies.{ReadsMoreChunks, ReadsData, FailsAfterData, TakesOn}
-use Rattle.bg_http_read.specs.declared.body.Stage.TheVariants as stage
+use Rattle.bg_http_read.specs.declared.body.BodyStage.TheVariants as stage
 use Rattle.bg_http_read.proofs.ChunkLines.{line_more, malformed_line_more}
 use Rattle.bg_http_read.proofs.DataSteps.{takes_nothing}
 

@@ -3,7 +3,7 @@ use Rattle.std.proofs.Common.{◌≡◌, true, IsFalse, ℕ, ◌≤◌, ◌-◌,
 use Rattle.bg_http.specs.declared.response_rules.ResponseFraming.{ResponseFraming}
 use Rattle.bg_http.specs.declared.response_rules.ResponseFraming.TheVariants as framing
 use Rattle.bg_http_read.specs.declared.body.Body.{Body}
-use Rattle.bg_http_read.specs.declared.body.Stage.TheVariants as stage
+use Rattle.bg_http_read.specs.declared.body.BodyStage.TheVariants as stage
 use Rattle.bg_http_read.specs.BodyFaults.{Failure, malformed, large, cut, ChunksFail, LengthFails, EndFails}
 use Rattle.bg_http_read.specs.Bodies.{ReadsOn, FailsOn, Reads, Fails}
 use Rattle.bg_http_read.specs.Responses.{most_response_body, names_another, ReadsResponseBody, FramedResponseBodyFails}

@@ -3,8 +3,8 @@ use Rattle.std.specs.Prelude.{◌≡◌, ◌⊎◌, ℕ, ◌≤◌, ◌+◌, ◌
 use Rattle.httparse.specs.Ascii.{crlf_bytes}
 use Rattle.bg_http_read.specs.BodyFaults.{Failure, malformed, large, cut, ChunksFail, LengthFails, LineEndFails, TrailersFail, EndFails}
 use Rattle.bg_http_read.specs.Chunks.{ReadsChunks, ReadsTrailers}
-use Rattle.bg_http_read.specs.declared.body.Stage.{Stage}
-use Rattle.bg_http_read.specs.declared.body.Stage.TheVariants as stage
+use Rattle.bg_http_read.specs.declared.body.BodyStage.{BodyStage}
+use Rattle.bg_http_read.specs.declared.body.BodyStage.TheVariants as stage
 use Rattle.bg_http_read.specs.declared.body.Body.{Body}
 use Rattle.bg_http_read.specs.declared.message_fault.MessageFault.{MessageFault}
 use Rattle.bg_http_read.specs.declared.message_fault.MessageFault.TheVariants as fault
@@ -32,7 +32,7 @@ pub record ReadsData (size : ℕ) (done input body rest : List ℕ) : Type 0 whe
 
 -- at a stage, after the bytes `done`, the input is the rest of the body `body` and the bytes after
 -- it
-abbrev pub ReadsOn : Stage → List ℕ → List ℕ → List ℕ → List ℕ → Type 0
+abbrev pub ReadsOn : BodyStage → List ℕ → List ℕ → List ℕ → List ℕ → Type 0
 ReadsOn (stage.Length left) done input body rest = ReadsLength left done input body rest
 ReadsOn stage.Line done input body rest = ReadsMoreChunks done input body rest
 ReadsOn (stage.Data left) done input body rest = ReadsData left done input body rest
@@ -49,7 +49,7 @@ pub record FailsAfterData (failure : Failure) (limit sum size : ℕ) (input : Li
   pub fails : ChunksFail failure limit (sum + size) after
 
 -- at a stage, after this many bytes, the input fails with this failure
-abbrev pub FailsOn : Failure → ℕ → Stage → ℕ → List ℕ → Type 0
+abbrev pub FailsOn : Failure → ℕ → BodyStage → ℕ → List ℕ → Type 0
 FailsOn failure limit (stage.Length left) sum input = LengthFails failure left input
 FailsOn failure limit stage.Line sum input = ChunksFail failure limit sum input
 FailsOn failure limit (stage.Data left) sum input =
@@ -59,7 +59,7 @@ FailsOn failure limit stage.ToTheEnd sum input = EndFails failure (limit - sum) 
 FailsOn failure limit stage.Whole sum input = ⊥
 
 -- the body is complete
-abbrev pub is_whole : Stage → Bool
+abbrev pub is_whole : BodyStage → Bool
 is_whole (stage.Length left) = left == 0
 is_whole stage.Line = false
 is_whole (stage.Data left) = false
@@ -68,7 +68,7 @@ is_whole stage.ToTheEnd = false
 is_whole stage.Whole = true
 
 -- the body may end at the end of the input
-abbrev pub can_end : Stage → Bool
+abbrev pub can_end : BodyStage → Bool
 can_end (stage.Length left) = left == 0
 can_end stage.Line = false
 can_end (stage.Data left) = false
@@ -77,7 +77,7 @@ can_end stage.ToTheEnd = true
 can_end stage.Whole = true
 
 -- the number of bytes that are known to come
-abbrev pub announced : Stage → ℕ
+abbrev pub announced : BodyStage → ℕ
 announced (stage.Length left) = left
 announced stage.Line = 0
 announced (stage.Data left) = left
@@ -100,7 +100,7 @@ pub record Unchanged (old new : Body) : Type 0 where
 -- stage. If none were taken, more are needed. The second stage goes to the end of the input only if
 -- the first does
 pub record TakesOn
-    (limit : ℕ) (before : Stage) (done : List ℕ) (next : Stage) (now bytes : List ℕ) (count : ℕ)
+    (limit : ℕ) (before : BodyStage) (done : List ℕ) (next : BodyStage) (now bytes : List ℕ) (count : ℕ)
     : Type 0 where
   pub fits : count ≤ length bytes
   pub read : (more body rest : List ℕ) → ReadsOn next now (drop count bytes ++ more) body rest
@@ -137,7 +137,7 @@ pub record Follows (one : Body) (first : List ℕ) (other : Body) (second : List
   pub ends : other.stage ≡ stage.ToTheEnd → one.stage ≡ stage.ToTheEnd
 
 -- what a fault says about every continuation of bytes
-abbrev pub RefusesOn : ℕ → Stage → List ℕ → List ℕ → MessageFault → Type 0
+abbrev pub RefusesOn : ℕ → BodyStage → List ℕ → List ℕ → MessageFault → Type 0
 RefusesOn limit before done bytes fault.Bad =
     (more : List ℕ) → FailsOn malformed limit before (length done) (bytes ++ more)
 RefusesOn limit before done bytes fault.HeadTooLarge = ⊥

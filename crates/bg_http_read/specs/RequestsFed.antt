@@ -14,8 +14,8 @@ use Rattle.bg_http_read.specs.RequestStates.{FailsAsked, IsReadAsked, IsRefusedA
 use Rattle.bg_http_read.specs.Streams.{waiting}
 use Rattle.bg_http_read.specs.declared.head_end.HeadEnd.TheVariants as head_end
 use Rattle.bg_http_read.specs.declared.body.Body.{Body}
-use Rattle.bg_http_read.specs.declared.body.Stage.{Stage}
-use Rattle.bg_http_read.specs.declared.body.Stage.TheVariants as stage
+use Rattle.bg_http_read.specs.declared.body.BodyStage.{BodyStage}
+use Rattle.bg_http_read.specs.declared.body.BodyStage.TheVariants as stage
 use Rattle.bg_http_read.specs.declared.request_body.RequestBody.{RequestBody}
 use Rattle.bg_http_read.specs.declared.request_feed.RequestFeed.{RequestFeed}
 use Rattle.bg_http_read.specs.declared.request_progress.RequestAdvance.{RequestAdvance}
@@ -25,7 +25,7 @@ use Rattle.bg_http_read.specs.declared.request_step.RequestStep.{RequestStep}
 use Rattle.bg_http_read.specs.declared.request_step.RequestStep.TheVariants as step
 
 -- the first stage of a body
-abbrev pub first_stage : Framing → Stage
+abbrev pub first_stage : Framing → BodyStage
 first_stage framing.NoBody = stage.Length 0
 first_stage framing.Chunks = stage.Line
 first_stage (framing.Length size) = stage.Length size

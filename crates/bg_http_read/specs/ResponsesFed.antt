@@ -13,8 +13,8 @@ use Rattle.bg_http_read.specs.Streams.{waiting}
 use Rattle.bg_http_read.specs.HeadEnds.{after_bytes, is_over}
 use Rattle.bg_http_read.specs.declared.head_end.HeadEnd.TheVariants as head_end
 use Rattle.bg_http_read.specs.declared.body.Body.{Body}
-use Rattle.bg_http_read.specs.declared.body.Stage.{Stage}
-use Rattle.bg_http_read.specs.declared.body.Stage.TheVariants as stage
+use Rattle.bg_http_read.specs.declared.body.BodyStage.{BodyStage}
+use Rattle.bg_http_read.specs.declared.body.BodyStage.TheVariants as stage
 use Rattle.bg_http_read.specs.declared.final_head.HeadSearch.{HeadSearch}
 use Rattle.bg_http_read.specs.declared.response_body.ResponseBody.{ResponseBody}
 use Rattle.bg_http_read.specs.declared.response_feed.ResponseFeed.{ResponseFeed}
@@ -28,7 +28,7 @@ abbrev pub IsReady : HeadSearch → Type 0
 IsReady search = search.interim ≤ MOST_INTERIM
 
 -- the first stage of a body
-abbrev pub first_stage : ResponseFraming → Stage
+abbrev pub first_stage : ResponseFraming → BodyStage
 first_stage framing.Interim = stage.Length 0
 first_stage framing.NoBody = stage.Length 0
 first_stage framing.Chunks = stage.Line

@@ -6,7 +6,7 @@ ghost use Rattle.bg_http_read.specs.Bodies.{Fails, Follows, KeepsLimit, Refuses,
 ghost use Rattle.bg_http_read.specs.Bodies.{can_end, is_whole};
 ghost use Rattle.bg_http_read.specs.BodyFaults.{cut};
 ghost use Rattle.bg_http_read.specs.Streams.{CameStraight};
-ghost use Rattle.bg_http_read.specs.declared.body.Stage.TheVariants as stage;
+ghost use Rattle.bg_http_read.specs.declared.body.BodyStage.TheVariants as stage;
 
 use crate::arrival::Straight;
 use crate::chunk_lines::find_line;
@@ -19,7 +19,7 @@ use std::alloc::{AllocError, Global};
 
 /// The part of a body that comes next.
 #[derive(Clone, Copy, PartialEq, Eq, Debug, Drop)]
-pub(crate) enum Stage {
+pub(crate) enum BodyStage {
     /// This many bytes, and then nothing.
     Length(usize),
     /// The line of a chunk.
@@ -38,7 +38,7 @@ pub(crate) enum Stage {
 #[derive(Drop)]
 pub(crate) struct Body {
     limit: usize,
-    stage: Stage,
+    stage: BodyStage,
     bytes: Vec<u8>,
 }
 
@@ -52,7 +52,7 @@ impl Body {
         let bytes = Vec::with_capacity(alloc, size)?;
         Ok(Body {
             limit: size,
-            stage: Stage::Length(size),
+            stage: BodyStage::Length(size),
             bytes,
         })
     }
@@ -65,7 +65,7 @@ impl Body {
     {
         Body {
             limit,
-            stage: Stage::Line,
+            stage: BodyStage::Line,
             bytes: Vec::new(alloc),
         }
     }
@@ -78,7 +78,7 @@ impl Body {
     {
         Body {
             limit,
-            stage: Stage::ToTheEnd,
+            stage: BodyStage::ToTheEnd,
             bytes: Vec::new(alloc),
         }
     }
@@ -95,9 +95,10 @@ impl Body {
         ensures { result ≡ is_whole self.now.stage }
     {
         match self.stage {
-            Stage::Length(left) => left == 0,
-            Stage::Whole => true,
-            Stage::Line | Stage::Data(_) | Stage::Trailers | Stage::ToTheEnd => false,
+            BodyStage::Length(left) => left == 0,
+            BodyStage::Whole => true,
+            BodyStage::Line | BodyStage::Data(_) | BodyStage::Trailers | BodyStage::ToTheEnd =>
+                false,
         }
     }
 
@@ -106,9 +107,9 @@ impl Body {
         ensures { result ≡ can_end self.now.stage }
     {
         match self.stage {
-            Stage::Length(left) => left == 0,
-            Stage::ToTheEnd | Stage::Whole => true,
-            Stage::Line | Stage::Data(_) | Stage::Trailers => false,
+            BodyStage::Length(left) => left == 0,
+            BodyStage::ToTheEnd | BodyStage::Whole => true,
+            BodyStage::Line | BodyStage::Data(_) | BodyStage::Trailers => false,
         }
     }
 
@@ -123,13 +124,13 @@ impl Body {
         ensures within { KeepsLimit self.new }
         ensures limit { self.new.limit ≡ self.old.limit }
     {
-        let Stage::Length(left) = self.stage else {
+        let BodyStage::Length(left) = self.stage else {
             return Straight::Unread;
         };
         let start = self.bytes.len();
         let read = read_behind(stream, &mut self.bytes, left);
         let came = behind(self.bytes.as_slice(), start);
-        self.stage = Stage::Length(left - came.len());
+        self.stage = BodyStage::Length(left - came.len());
         seen.add(came);
         read
     }
@@ -169,13 +170,13 @@ impl Body {
         ensures within { KeepsLimit self.new }
     {
         match self.stage {
-            Stage::Length(left) => self.take_length(bytes, left),
-            Stage::Line => self.take_line(bytes),
-            Stage::Data(0) => self.take_line_end(bytes),
-            Stage::Data(left) => self.take_data(bytes, left),
-            Stage::Trailers => self.take_trailers(bytes),
-            Stage::ToTheEnd => self.take_all(bytes),
-            Stage::Whole => Ok(0),
+            BodyStage::Length(left) => self.take_length(bytes, left),
+            BodyStage::Line => self.take_line(bytes),
+            BodyStage::Data(0) => self.take_line_end(bytes),
+            BodyStage::Data(left) => self.take_data(bytes, left),
+            BodyStage::Trailers => self.take_trailers(bytes),
+            BodyStage::ToTheEnd => self.take_all(bytes),
+            BodyStage::Whole => Ok(0),
         }
     }
 
@@ -190,7 +191,7 @@ impl Body {
     {
         let count = bytes.len().min(left);
         self.bytes.extend_from_slice(&bytes[..count])?;
-        self.stage = Stage::Length(left - count);
+        self.stage = BodyStage::Length(left - count);
         Ok(count)
     }
 
@@ -214,10 +215,10 @@ impl Body {
             return Err(MessageFault::TooLarge);
         }
         if size == 0 {
-            self.stage = Stage::Trailers;
+            self.stage = BodyStage::Trailers;
             return Ok(count);
         }
-        self.stage = Stage::Data(size as usize);
+        self.stage = BodyStage::Data(size as usize);
         Ok(count)
     }
 
@@ -233,7 +234,7 @@ impl Body {
     {
         let count = bytes.len().min(left);
         self.bytes.extend_from_slice(&bytes[..count])?;
-        self.stage = Stage::Data(left - count);
+        self.stage = BodyStage::Data(left - count);
         Ok(count)
     }
 
@@ -249,7 +250,7 @@ impl Body {
         match bytes {
             [] | [b'\r'] => Ok(0),
             [b'\r', b'\n', ..] => {
-                self.stage = Stage::Line;
+                self.stage = BodyStage::Line;
                 Ok(2)
             }
             _ => Err(MessageFault::Bad),
@@ -267,7 +268,7 @@ impl Body {
     {
         match find_trailers(bytes) {
             Ok(Some(count)) => {
-                self.stage = Stage::Whole;
+                self.stage = BodyStage::Whole;
                 Ok(count)
             }
             Ok(None) => Ok(0),

@@ -8,7 +8,7 @@ ghost use Rattle.bg_http_read.specs.RequestsFed.{IsOpenStage, stage_seen, was_as
 ghost use Rattle.bg_http_read.specs.Streams.{SeesStraight};
 ghost use Rattle.bg_http.specs.RequestRules.{owes_continue as owed};
 ghost use Rattle.bg_http_read.specs.declared.head_end.HeadEnd.TheVariants as end;
-ghost use Rattle.bg_http_read.specs.declared.request_progress.RequestStage.{RequestStage as Stage};
+ghost use Rattle.bg_http_read.specs.declared.request_progress.RequestStage.{RequestStage as StageValue};
 ghost use Rattle.bg_http_read.specs.declared.request_progress.RequestStage.TheVariants as part;
 
 use crate::arrival::Straight;
@@ -157,7 +157,7 @@ impl RequestProgress {
         requires within { KeepsLimit part.body }
         requires place { at ≤ length bytes.now }
         ensures fits { IfOk result (λ advance. advance.taken ≤ length bytes.now) }
-        ensures answer { (old : Stage) (seen : List ℕ)
+        ensures answer { (old : StageValue) (seen : List ℕ)
             → owed part.head part.framing ≡ was_asked old
             → IsFedBody part (drop at bytes.now) seen
             → Advances old seen bytes.now result self.new.stage }

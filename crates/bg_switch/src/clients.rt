@@ -3,7 +3,7 @@
 use crate::ports::{Ports, service_name};
 use crate::request_line::request_line;
 use crate::telling::Telling;
-use bg_access_log::{AccessLog, Entry};
+use bg_access_log::{AccessLog, LogEntry};
 use bg_client_port::Connection;
 use bg_forward::{Accept, ClientStream, End, Reason, Served};
 use bg_http::Duplex;
@@ -133,7 +133,7 @@ fn add_to_log<R: Clock + Wait>(
     let entered = served.entered;
     log.add(
         rt,
-        &Entry {
+        &LogEntry {
             time: log.time(rt),
             service: service_name(client.service),
             revision: entered.map(|ticket| ticket.revision),

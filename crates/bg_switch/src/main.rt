@@ -17,7 +17,9 @@ use crate::carrying_out::{check_buffered, replay_buffered};
 use crate::operator_users::operator_users;
 use crate::serve::{Settings, serve};
 use bg_access_log::AccessLog;
-use bg_command_line::{MessageTimeout, Order, OrderFault, TIMEOUT_VARIABLE, order};
+use bg_command_line::{
+    Invocation, InvocationFault, MessageTimeout, TIMEOUT_VARIABLE, parse_command_line,
+};
 use bg_operator::{Keeping, tell_reasons, tell_reasons_before_script};
 use bg_script::RunEnd;
 use std::env::VarError;
@@ -41,9 +43,9 @@ fn main(rt: HostRuntime) -> ExitCode {
         Err(fault) => return ended_without_order(&rt, &fault),
     };
     let done = match order {
-        Order::Check => checked(&rt),
-        Order::Replay { seats } => replayed(&rt, seats),
-        Order::Serve(site) => {
+        Invocation::Check => checked(&rt),
+        Invocation::Replay { seats } => replayed(&rt, seats),
+        Invocation::Serve(site) => {
             let mut input = Keeping::new(rt.alloc(), rt.stdin());
             let (mut output, mut errors) = (rt.stdout(), rt.stderr());
             let timeout = message_timeout(&rt, &mut errors);
@@ -141,17 +143,19 @@ fn access_log<R: Env + AllocGlobal, E: Write>(
 }
 
 /// Writes the version, or why the words are not an order.
-fn ended_without_order(rt: &HostRuntime, fault: &OrderFault) -> ExitCode {
+fn ended_without_order(rt: &HostRuntime, fault: &InvocationFault) -> ExitCode {
     match fault {
-        OrderFault::Words(version) if fault.asks_for_version() => match print!(rt; "{version}") {
+        InvocationFault::Words(version) if fault.asks_for_version() => match print!(rt;
+            "{version}"
+        ) {
             Ok(()) => ExitCode::SUCCESS,
             Err(_) => ended(rt, RunEnd::WriteFailed),
         },
-        OrderFault::Words(error) => {
+        InvocationFault::Words(error) => {
             let _ = eprint!(rt; "{error}");
             ExitCode::from(2)
         }
-        OrderFault::OutOfMemory => ended(rt, RunEnd::OutOfMemory),
+        InvocationFault::OutOfMemory => ended(rt, RunEnd::OutOfMemory),
     }
 }
 
@@ -163,18 +167,18 @@ fn ended(rt: &HostRuntime, end: RunEnd) -> ExitCode {
 
 /// The order of the process's words. If a word is not UTF-8, the word U+FFFD stands for all of
 /// them.
-fn process_order<R: Env + AllocGlobal>(rt: &R) -> Result<Order, OrderFault> {
+fn process_order<R: Env + AllocGlobal>(rt: &R) -> Result<Invocation, InvocationFault> {
     let alloc = rt.alloc();
     let texts = match env::args(rt) {
         Ok(texts) => texts,
         Err(error) => {
             if error.kind() == ErrorKind::OutOfMemory {
-                return Err(OrderFault::OutOfMemory);
+                return Err(InvocationFault::OutOfMemory);
             }
-            return order(alloc, &["bg_switch", "\u{FFFD}"]);
+            return parse_command_line(alloc, &["bg_switch", "\u{FFFD}"]);
         }
     };
     let texts: Vec<String> = texts.collect(alloc)?;
     let words: Vec<&str> = texts.iter().map(|text| text.as_str()).collect(alloc)?;
-    order(alloc, &words)
+    parse_command_line(alloc, &words)
 }

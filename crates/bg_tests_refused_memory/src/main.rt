@@ -1,7 +1,7 @@
 //! Makes the allocating calls of the libraries up to `bg_book`, and of `bg_audit`, `bg_http` and `bg_http_read`, and
-//! from the libraries above them `order`, `parse_line`, `check` and `serve_in_memory`. After an allocation failure, it
-//! checks the state that the refused call has left, and repeats the call. All allocations fail while a request leaves
-//! or seats are gathered.
+//! from the libraries above them `parse_command_line`, `parse_line`, `check` and `serve_in_memory`. After an allocation
+//! failure, it checks the state that the refused call has left, and repeats the call. All allocations fail while a
+//! request leaves or seats are gathered.
 //!
 //! Standard output names each call that was made, with its result. It is the same whichever allocation fails, unless
 //! a refused call has changed something. Standard error names each call that was refused.

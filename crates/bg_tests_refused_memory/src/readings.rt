@@ -3,7 +3,7 @@
 use crate::asking::{made, made_again, show};
 use crate::page::Page;
 use crate::stop::Stop;
-use bg_command_line::{Order, order};
+use bg_command_line::{Invocation, parse_command_line};
 use bg_operator::{Command, parse_line};
 use bg_script::check;
 use std::alloc::Global;
@@ -20,7 +20,7 @@ pub fn make_calls<R: AllocGlobal + Print + Eprint>(rt: &R) -> Result<(), Stop> {
     show(rt, &settings)
 }
 
-fn make_order<R: AllocGlobal + Print + Eprint>(rt: &R) -> Result<Order, Stop> {
+fn make_order<R: AllocGlobal + Print + Eprint>(rt: &R) -> Result<Invocation, Stop> {
     let alloc = rt.alloc();
     match made(rt, "order", new_order(alloc))? {
         Some(order) => Ok(order),
@@ -28,8 +28,8 @@ fn make_order<R: AllocGlobal + Print + Eprint>(rt: &R) -> Result<Order, Stop> {
     }
 }
 
-fn new_order(alloc: Global) -> Result<Order, Stop> {
-    Ok(order(alloc, &["bg_switch", "replay", "--seats", "2"])?)
+fn new_order(alloc: Global) -> Result<Invocation, Stop> {
+    Ok(parse_command_line(alloc, &["bg_switch", "replay", "--seats", "2"])?)
 }
 
 fn make_command<R: AllocGlobal + Print + Eprint>(rt: &R) -> Result<Command, Stop> {

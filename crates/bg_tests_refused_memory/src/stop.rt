@@ -2,7 +2,7 @@
 
 use bg_audit::AuditFault;
 use bg_book::{ControlFault, EnterFault, OpenFault, Reply, RunFault};
-use bg_command_line::OrderFault;
+use bg_command_line::InvocationFault;
 use bg_http::{RequestFault, ResponseFault};
 use bg_operator::LineFault;
 use bg_revisions::RevisionFault;
@@ -127,11 +127,11 @@ impl From<AuditFault> for Stop {
     }
 }
 
-impl From<OrderFault> for Stop {
-    fn from(fault: OrderFault) -> Stop {
+impl From<InvocationFault> for Stop {
+    fn from(fault: InvocationFault) -> Stop {
         match fault {
-            OrderFault::OutOfMemory => Stop::OutOfMemory,
-            OrderFault::Words(_) => Stop::OtherFault,
+            InvocationFault::OutOfMemory => Stop::OutOfMemory,
+            InvocationFault::Words(_) => Stop::OtherFault,
         }
     }
 }

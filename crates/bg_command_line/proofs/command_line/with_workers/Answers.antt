@@ -5,8 +5,8 @@ use Rattle.bg_command_line.proofs.command_line.with_workers.Goals as goal
 
 pub returns-clause-app : goal.returns-clause-app
 returns-clause-app c =
-    let workers = c.wanted_option-workers in
-    let active = c.wanted_option-active in
+    let workers = c.option_required_if-workers in
+    let active = c.option_required_if-active in
     let preview = c.number_option-preview in
     let has_workers = rule_added c.args.command c.in_ok-with_workers.with_workers workers.result _ _ c.in_ok-with_workers.ensures refl workers.ensures.rule workers.ensures.local in
     let has_active = rule_added c.in_ok-with_workers.with_workers c.in_ok-with_concurrency.with_concurrency active.result _ _ c.in_ok-with_concurrency.ensures has_workers active.ensures.rule active.ensures.local in

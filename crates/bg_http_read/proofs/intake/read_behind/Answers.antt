@@ -17,12 +17,12 @@ returns-in-Some-clause-came g c =
     let fits = c.in-Some.ensures.fits in
     let came = length-take-le count piece fits in
     let few : length (take count piece) ≤ c.args.most = omega (arith, all, came) in
-    let wanted : 0 < c.min.result = omega arith in (
+    let positive : 0 < c.min.result = omega arith in (
       take count piece,
       room_filled old _ now piece _ _ c.truncate.new.self.items start count (start + count) end size c.truncate.ensures.items
           room (omega arith) (omega arith) fits refl (omega (arith, all, fits)),
       few,
-      (came, c.in-Some.ensures.bytes, λ none. c.in-Some.ensures.end none (omega (arith, all, wanted))),
+      (came, c.in-Some.ensures.bytes, λ none. c.in-Some.ensures.end none (omega (arith, all, positive))),
     )
 
 pub returns-in-None-clause-came : goal.returns-in-None-clause-came

@@ -1,6 +1,6 @@
 use Rattle.std.proofs.Common.{subst, sym, refl, ◌-◌}
 use Rattle.bg_http_read.specs.Bodies.{TakesOn}
-use Rattle.bg_http_read.specs.declared.body.Stage.TheVariants as stage
+use Rattle.bg_http_read.specs.declared.body.BodyStage.TheVariants as stage
 use Rattle.bg_http_read.proofs.DataSteps.{takes_length}
 use Rattle.bg_http_read.proofs.body.Body.take_length.Goals as goal
 

@@ -2,7 +2,7 @@ use Rattle.std.proofs.Common.{◌++◌, ◌<◌, ◌≤◌, ◌+◌, length, dro
 use Rattle.bg_http_read.specs.BodyFaults.{malformed, large}
 use Rattle.bg_http_read.specs.Bodies.{FailsOn, TakesOn}
 use Rattle.bg_http_read.specs.Chunks.{ReadsLine}
-use Rattle.bg_http_read.specs.declared.body.Stage.TheVariants as stage
+use Rattle.bg_http_read.specs.declared.body.BodyStage.TheVariants as stage
 use Rattle.bg_http_read.proofs.LineSteps.{takes_line, takes_end, takes_no_line, never_without_line, large_by_line}
 use Rattle.bg_http_read.proofs.body.Body.take_line.Goals as goal
 

@@ -1,7 +1,7 @@
 use Rattle.std.proofs.Common.{◌++◌, length, refl, subst, sym}
 use Rattle.bg_http_read.specs.BodyFaults.{malformed}
 use Rattle.bg_http_read.specs.Bodies.{FailsOn, TakesOn}
-use Rattle.bg_http_read.specs.declared.body.Stage.TheVariants as stage
+use Rattle.bg_http_read.specs.declared.body.BodyStage.TheVariants as stage
 use Rattle.bg_http_read.proofs.DataSteps.{takes_trailers, takes_no_trailers}
 use Rattle.bg_http_read.proofs.TrailersFound.{malformed_trailers_more}
 use Rattle.bg_http_read.proofs.body.Body.take_trailers.Goals as goal

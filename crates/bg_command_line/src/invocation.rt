@@ -1,16 +1,16 @@
-//! The orders of the program's words.
+//! What the words of the command line ask for.
 ghost use Rattle.std.specs.Prelude.{◌≡◌, ◌↔◌, IsTrue};
 ghost use Rattle.bg_command_line.specs.CommandLine.{AsksForVersion};
-ghost use Rattle.bg_command_line.specs.declared.orders.OrderFault.TheVariants.{OutOfMemory};
+ghost use Rattle.bg_command_line.specs.declared.invocation.InvocationFault.TheVariants.{OutOfMemory};
 
 use clap::Error;
 use clap::error::ErrorKind;
 use std::alloc::AllocError;
 use thiserror::Error as DeriveError;
 
-/// The orders of the program's words.
+/// What the words of the command line ask for.
 #[derive(Clone, Copy, Debug, Drop, PartialEq, Eq)]
-pub enum Order {
+pub enum Invocation {
     /// Write what the strategy on standard input means.
     Check,
     /// Answer the script after the strategy, with this many seats, 1 to 8.
@@ -63,9 +63,9 @@ pub struct Site {
     pub connections: Connections,
 }
 
-/// Why the words are not an order.
+/// Why the words are not an invocation of the program.
 #[derive(Debug, Drop, DeriveError)]
-pub enum OrderFault {
+pub enum InvocationFault {
     /// `clap` refuses the words, or they ask for help or for the version. The program prints its error.
     #[error("the words are no order")]
     Words(Error),
@@ -73,22 +73,22 @@ pub enum OrderFault {
     OutOfMemory,
 }
 
-impl OrderFault {
+impl InvocationFault {
     /// Whether the words ask for the program's version, which the error of `Words` then tells.
     pub fn asks_for_version(&self) -> bool
         ensures { IsTrue result ↔ AsksForVersion self.now }
     {
         match self {
-            OrderFault::Words(error) => matches!(error.kind(), ErrorKind::DisplayVersion),
-            OrderFault::OutOfMemory => false,
+            InvocationFault::Words(error) => matches!(error.kind(), ErrorKind::DisplayVersion),
+            InvocationFault::OutOfMemory => false,
         }
     }
 }
 
-impl From<AllocError> for OrderFault {
+impl From<AllocError> for InvocationFault {
     ghost from_gives = { λ _ e. e ≡ OutOfMemory };
 
-    fn from(_refused: AllocError) -> OrderFault {
-        OrderFault::OutOfMemory
+    fn from(_refused: AllocError) -> InvocationFault {
+        InvocationFault::OutOfMemory
     }
 }

@@ -7,9 +7,9 @@ use Rattle.clap.specs.Faults.{fault_of, level_fault}
 use Rattle.clap.specs.Words.{HasMatchesOf, subcommand_name_of, is_simple, is_simple_and_free, subcommand_rows_of}
 use Rattle.clap.specs.declared.parser.matches.ArgMatches.{ArgMatches}
 use Rattle.clap.proofs.OnLiterals.{clap_on_literals}
-use Rattle.bg_command_line.specs.declared.orders.Flags.{Flags}
-use Rattle.bg_command_line.specs.declared.orders.Order.{Order}
-use Rattle.bg_command_line.specs.CommandLine.{IsOrderOf, IsIn, is_in_conflict, IsKnown, HasWordsOfServe, program, check_app}
+use Rattle.bg_command_line.specs.declared.invocation.Flags.{Flags}
+use Rattle.bg_command_line.specs.declared.invocation.Invocation.{Invocation}
+use Rattle.bg_command_line.specs.CommandLine.{IsInvocationOf, IsIn, is_in_conflict, IsKnown, HasWordsOfServe, program, check_app}
 use Rattle.bg_command_line.proofs.Entered.{Among, one_entered}
 use Rattle.bg_command_line.proofs.SubcommandRows.{built_sub, replay, replay_known, serve, serve_known}
 
@@ -109,7 +109,7 @@ met flags app words m is none has =
       rows = rows_after x.shape.rules [] x.rest;
       is = x.is;
       same = (has simple).1 ∙ (ap (λ (a : App). subcommand_of a words) is ∙ x.is);
-      known = known_of flags x.shape x.rest x.among x.passes;
+      known = known_of flags x.shape x.rest x.among x.accepts_rest;
     }
 
 pub inner_rows : {P : Type 0} (f : P → List Row) (o : Option P) (v : P) (q : Option (Text × List Row)) (x : Text × List Row)
@@ -131,9 +131,9 @@ inner_name f o v m x e same is =
 pub known_as : (flags : Flags) (n name : Text) (r rows : List Row) → n ≡ name → r ≡ rows → IsKnown flags name rows → IsKnown flags n r
 known_as flags n name r rows e f h = rw (e, f) h
 
-pub order_as : {f flags : Flags} {n name : Text} {r rows : List Row} (o : Order) → f ≡ flags → n ≡ name → r ≡ rows → IsOrderOf f n r o → IsOrderOf flags name rows o
-order_as {f} {flags} {n} {name} {r} {rows} o d e k h =
-    subst (λ (b : Flags). IsOrderOf b name rows o) d (subst (λ (t : Text). IsOrderOf f t rows o) e (subst (λ (x : List Row). IsOrderOf f n x o) k h))
+pub invocation_as : {f flags : Flags} {n name : Text} {r rows : List Row} (o : Invocation) → f ≡ flags → n ≡ name → r ≡ rows → IsInvocationOf f n r o → IsInvocationOf flags name rows o
+invocation_as {f} {flags} {n} {name} {r} {rows} o d e k h =
+    subst (λ (b : Flags). IsInvocationOf b name rows o) d (subst (λ (t : Text). IsInvocationOf f t rows o) e (subst (λ (x : List Row). IsInvocationOf f n x o) k h))
 
 pub still_in_conflict : {f flags : Flags} {b : Bool} {r rows : List Row} → f ≡ flags → r ≡ rows → b ≡ is_in_conflict f r → is_in_conflict flags rows ≡ b
 still_in_conflict d k h = rw (← d, ← k) (sym h)

@@ -9,14 +9,14 @@ use std::marker::Model;
 /// A field of a head. Contracts see it as its name and its value. It borrows both from the head's
 /// `Fields`.
 #[derive(Drop, Debug)]
-pub struct HeaderField<'a> {
+pub struct Field<'a> {
     name: &'a [u8],
     value: &'a [u8],
     /// The name as the rules know it.
     ruled: Option<RuledName>,
 }
 
-impl<'a> Model for HeaderField<'a> {
+impl<'a> Model for Field<'a> {
     ghost use Rattle.std.specs.Prelude.{List, ℕ};
     ghost use Rattle.bg_http.specs.Names.{IsRuledAs};
 
@@ -27,13 +27,13 @@ impl<'a> Model for HeaderField<'a> {
     ghost invariant = { λ f. IsRuledAs f.name.now f.ruled };
 }
 
-impl<'a> HeaderField<'a> {
+impl<'a> Field<'a> {
     /// The field with the name and the value. `ruled` is the result of looking the name up.
-    pub(crate) fn new(name: &'a [u8], value: &'a [u8], ruled: Option<RuledName>) -> HeaderField<'a>
+    pub(crate) fn new(name: &'a [u8], value: &'a [u8], ruled: Option<RuledName>) -> Field<'a>
         requires { IsRuledAs name.now ruled }
         ensures { result ≡ (name.now, value.now) }
     {
-        HeaderField { name, value, ruled }
+        Field { name, value, ruled }
     }
 
     /// The name, as it was received.

@@ -1,4 +1,4 @@
--- The values of each argument pass its parser.
+-- The parser of each argument accepts its values.
 use Rattle.std.proofs.Common.{◌≡◌, List, [], ◌∷◌, ◌++◌, refl, sym, ap, subst, length}
 use Rattle.std.specs.Prelude.{Bool, true, false, ◌&&◌, Option, Some, find, cond, bytes_eq, option_and_then, slice_get}
 use Rattle.std.specs.List.{list_all}
@@ -15,16 +15,16 @@ use Rattle.clap.specs.declared.builder.value_parser.Reading.{Reading}
 use Rattle.clap.specs.declared.parser.matches.ValueSource.{ValueSource}
 use Rattle.bg_command_line.proofs.WordsTaken.{none_else}
 
-abbrev pub passes : List Rule → Text → Text → Bool
-passes c id v = option_map_or (λ a. value_passes a v) (arg_by_id c id) true
+abbrev pub is_accepted : List Rule → Text → Text → Bool
+is_accepted c id v = option_map_or (λ a. value_passes a v) (arg_by_id c id) true
 
 abbrev pub has_none : List Text → Bool
 has_none [] = true
 has_none (x ∷ xs) = false
 
--- the row has a value, and each passes
+-- the row has a value, and each is accepted
 abbrev pub IsRowGood : List Rule → Row → Type 0
-IsRowGood c r = (has_none r.values ≡ false) × (list_all (passes c r.id) r.values ≡ true)
+IsRowGood c r = (has_none r.values ≡ false) × (list_all (is_accepted c r.id) r.values ≡ true)
 
 abbrev pub AreGood : List Rule → List Row → Type 0
 AreGood c [] = Unit {0}
@@ -57,22 +57,22 @@ full_both [] ys e = cc
 full_both (x ∷ xs) ys e = refl
 
 pub with_values_keeps : (c : List Rule) (id : Text) (how : Reading) (from : ValueSource) (values : List Text) (rows : List Row)
-    → has_none values ≡ false → list_all (passes c id) values ≡ true → AreGood c rows → AreGood c (with_values id how from values rows)
-with_values_keeps c id how from values rows full pass g =
+    → has_none values ≡ false → list_all (is_accepted c id) values ≡ true → AreGood c rows → AreGood c (with_values id how from values rows)
+with_values_keeps c id how from values rows full accepted g =
     at_row_keeps c id (more_values from values) _ rows
     (λ r same h. let e : r.id ≡ id = (bytes_eq-Decides r.id id).0 same in
-    ((full_both r.values values h.0, all_both (passes c r.id) r.values values h.1 (rw e pass)), tt))
-    ((full, pass), tt)
+    ((full_both r.values values h.0, all_both (is_accepted c r.id) r.values values h.1 (rw e accepted)), tt))
+    ((full, accepted), tt)
     g
 
 without_keeps : (c : List Rule) (id : Text) (rows : List Row) → AreGood c rows → AreGood c (without id rows)
 without_keeps c id rows g = at_row_keeps c id (λ _. []) [] rows (λ r same h. tt) tt g
 
-values_pass : (ignore_case : Bool) (parser : ValueParser) (values : List Text) → values_kinds ignore_case parser values ≡ [] → list_all (accepts ignore_case parser) values ≡ true
-values_pass ignore_case parser [] e = refl
-values_pass ignore_case parser (v ∷ vs) e =
+values_accepted : (ignore_case : Bool) (parser : ValueParser) (values : List Text) → values_kinds ignore_case parser values ≡ [] → list_all (accepts ignore_case parser) values ≡ true
+values_accepted ignore_case parser [] e = refl
+values_accepted ignore_case parser (v ∷ vs) e =
     let f = none_else (value_kinds ignore_case parser v) _ e in
-    go (accepts ignore_case parser v) f.0 (values_pass ignore_case parser vs f.1)
+    go (accepts ignore_case parser v) f.0 (values_accepted ignore_case parser vs f.1)
   where
     go : (b : Bool) → cond b [] (refused_kind parser ∷ []) ≡ [] → list_all (accepts ignore_case parser) vs ≡ true → (b && list_all (accepts ignore_case parser) vs) ≡ true
     go true e h = h
@@ -86,15 +86,15 @@ all_same p q (v ∷ vs) e h = go (p v) (e v) h (all_same p q vs e)
     go true is all rest = rw (← is) (rest all)
     go false is all rest = cc
 
-passes_own : (c : List Rule) (a : Rule) (v : Text) → arg_by_id c a.id ≡ Some a → value_passes a v ≡ passes c a.id v
-passes_own c a v own = sym (ap (λ (o : Option Rule). option_map_or (λ x. value_passes x v) o true) own)
+accepted_own : (c : List Rule) (a : Rule) (v : Text) → arg_by_id c a.id ≡ Some a → value_passes a v ≡ is_accepted c a.id v
+accepted_own c a v own = sym (ap (λ (o : Option Rule). option_map_or (λ x. value_passes x v) o true) own)
 
 -- a use that has these values
 pub use_keeps : (c : List Rule) (a : Rule) (how : Reading) (from : ValueSource) (values : List Text) (rows : List Row) → arg_by_id c a.id ≡ Some a
     → has_none values ≡ false → values_fault a values ≡ [] → AreGood c rows → AreGood c (with_values a.id how from values (without a.id rows))
-use_keeps c a how from values rows own full pass g =
-    let all : list_all (value_passes a) values ≡ true = values_pass _ _ values pass in
-    let same : list_all (passes c a.id) values ≡ true = all_same (value_passes a) (passes c a.id) values (λ x. passes_own c a x own) all in
+use_keeps c a how from values rows own full accepted g =
+    let all : list_all (value_passes a) values ≡ true = values_accepted _ _ values accepted in
+    let same : list_all (is_accepted c a.id) values ≡ true = all_same (value_passes a) (is_accepted c a.id) values (λ x. accepted_own c a x own) all in
     with_values_keeps c a.id how from values (without a.id rows) full same (without_keeps c a.id rows g)
 
 -- a use of an option that wants one value has one
@@ -115,14 +115,14 @@ first_value test (v ∷ vs) t all at = go (test v) refl all
     go true e h = let same : v ≡ t = cc in rw (← same) e
     go false e h = cc
 
-pub first_passes : (c : List Rule) (id : Text) (rows : List Row) (t : Text) → AreGood c rows → first_of id rows ≡ Some t → passes c id t ≡ true
-first_passes c id [] t g at = cc
-first_passes c id (r ∷ rs) t g at = go (bytes_eq r.id id) refl at (λ h. first_passes c id rs t g.1 h)
+pub first_accepted : (c : List Rule) (id : Text) (rows : List Row) (t : Text) → AreGood c rows → first_of id rows ≡ Some t → is_accepted c id t ≡ true
+first_accepted c id [] t g at = cc
+first_accepted c id (r ∷ rs) t g at = go (bytes_eq r.id id) refl at (λ h. first_accepted c id rs t g.1 h)
   where
     go : (b : Bool) → bytes_eq r.id id ≡ b → option_and_then (λ x. slice_get x.values 0) (cond b (Some r) (find (λ x. bytes_eq x.id id) rs)) ≡ Some t
-        → (first_of id rs ≡ Some t → passes c id t ≡ true) → passes c id t ≡ true
+        → (first_of id rs ≡ Some t → is_accepted c id t ≡ true) → is_accepted c id t ≡ true
     go true e h rest =
         let same : r.id ≡ id = (bytes_eq-Decides r.id id).0 e in
-        let ok : passes c r.id t ≡ true = first_value (passes c r.id) r.values t g.0.1 h in
-        subst (λ (x : Text). passes c x t ≡ true) same ok
+        let ok : is_accepted c r.id t ≡ true = first_value (is_accepted c r.id) r.values t g.0.1 h in
+        subst (λ (x : Text). is_accepted c x t ≡ true) same ok
     go false e h rest = rest h

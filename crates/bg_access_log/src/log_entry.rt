@@ -9,7 +9,7 @@ use std::borrow::CowStr;
 /// What is logged of a connection. The line has these keys in this order. The value of a key that is
 /// `None` is null; `slot_port` and `tries` are left out then.
 #[derive(Drop)]
-pub struct Entry<'a> {
+pub struct LogEntry<'a> {
     /// When the connection ended, as `AccessLog::time` gives it.
     pub time: Option<TimeText>,
     /// `active` or `preview`.
@@ -44,7 +44,7 @@ pub struct Entry<'a> {
     pub tries: Option<u32>,
 }
 
-impl Entry<'_> {
+impl LogEntry<'_> {
     /// The line, with its end.
     pub(crate) fn to_line(&self, alloc: Global) -> Result<Vec<u8>, Error> {
         let mut line = Line::new(alloc)?;
