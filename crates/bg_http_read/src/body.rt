@@ -18,7 +18,7 @@ use bg_http::{Bytes, Duplex};
 use std::alloc::{AllocError, Global};
 
 /// The part of a body that comes next.
-#[derive(Clone, Copy, PartialEq, Eq, Debug, Drop)]
+#[derive(Clone, Copy, Drop)]
 pub(crate) enum BodyStage {
     /// This many bytes, and then nothing.
     Length(usize),

@@ -19,7 +19,7 @@ fn from_line_end(bytes: &[u8]) -> &[u8]
 
 /// The position that the bytes of a head reach. A head ends at the first empty line after a line
 /// that is not empty, so bytes that follow others are not parsed before that line.
-#[derive(Clone, Copy, PartialEq, Eq, Debug, Drop)]
+#[derive(Clone, Copy, Drop)]
 pub(crate) enum HeadEnd {
     /// Only empty lines came.
     Blank,
@@ -85,6 +85,6 @@ impl HeadEnd {
     pub(crate) fn is_over(&self) -> bool
         ensures { result ≡ is_over self.now }
     {
-        *self == HeadEnd::Over
+        matches!(self, HeadEnd::Over)
     }
 }

@@ -3,7 +3,7 @@ use bg_http::{RequestFault, ResponseFault};
 use std::alloc::AllocError;
 
 /// Why bytes and every continuation of them are not a message.
-#[derive(Clone, Copy, PartialEq, Eq, Debug, Drop)]
+#[derive(Clone, Copy, Drop)]
 pub(crate) enum MessageFault {
     /// The head or the body is malformed.
     Bad,

@@ -15,6 +15,17 @@ pub(crate) struct RequestBody {
     pub(crate) body: Body,
 }
 
+/// The body before its first byte.
+fn body_of(alloc: Global, framing: Framing) -> Result<Body, AllocError>
+    ensures { IfOk result (StartsBody framing) }
+{
+    match framing {
+        Framing::NoBody => Body::of_length(alloc, 0),
+        Framing::Chunks => Ok(Body::of_chunks(alloc, MOST_REQUEST_BODY)),
+        Framing::Length(size) => Body::of_length(alloc, size),
+    }
+}
+
 impl RequestBody {
     /// The state before the first byte of the body. The only error is an allocation failure.
     pub(crate) fn new(
@@ -26,11 +37,7 @@ impl RequestBody {
         ensures framing { IfOk result (λ part. part.framing ≡ framing) }
         ensures body { IfOk result (λ part. StartsBody framing part.body) }
     {
-        let body = match framing {
-            Framing::NoBody => Body::of_length(alloc, 0)?,
-            Framing::Chunks => Body::of_chunks(alloc, MOST_REQUEST_BODY),
-            Framing::Length(size) => Body::of_length(alloc, size)?,
-        };
+        let body = body_of(alloc, framing)?;
         Ok(RequestBody {
             head,
             framing,

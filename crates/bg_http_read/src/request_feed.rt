@@ -114,19 +114,15 @@ impl RequestFeed {
         Ok(step)
     }
 
-    /// The request in an input that ends here.
-    pub(crate) fn end(self) -> Result<Request, RequestFault>
-        requires { IsOpenStage self.progress.stage }
-        ensures answer { (seen : List ℕ) → IsFed self seen
-            → EndsTo (was_asked self.progress.stage) seen result }
+    /// The request in an input that ends here. Nothing more is fed.
+    pub(crate) fn end(&mut self) -> Result<Request, RequestFault>
+        requires { IsOpenStage self.old.progress.stage }
+        ensures answer { (seen : List ℕ) → IsFed self.old seen
+            → EndsTo (was_asked self.old.progress.stage) seen result }
         ensures read { IfErr result (λ fault. ¬ (fault ≡ request_fault.ReadFailed)) }
         ensures write { IfErr result (λ fault. ¬ (fault ≡ request_fault.WriteFailed)) }
     {
-        let RequestFeed {
-            intake,
-            mut progress,
-        } = self;
-        let RequestAdvance { step, taken: _ } = progress.advance(intake.get())?;
+        let RequestAdvance { step, taken: _ } = self.progress.advance(self.intake.get())?;
         match step {
             RequestStep::Whole(request) => Ok(request),
             RequestStep::More | RequestStep::Continue => Err(RequestFault::Closed),

@@ -123,7 +123,7 @@ impl RequestParser {
 
     /// The request in an input that ends here. Otherwise the fault is Closed, a fault that was not
     /// reported yet, or OutOfMemory.
-    pub fn end(self) -> Result<Request, RequestFault>
+    pub fn end(mut self) -> Result<Request, RequestFault>
         requires { IsTrue self.is_open }
         ensures request { IfOk result (λ request.
             ReadsAsked self.asked request self.seen) }
@@ -132,6 +132,20 @@ impl RequestParser {
         ensures read { IfErr result (λ fault. ¬ (fault ≡ request_fault.ReadFailed)) }
         ensures write { IfErr result (λ fault. ¬ (fault ≡ request_fault.WriteFailed)) }
     {
+        self.finish()
+    }
+
+    /// As `end`, for a caller that keeps the parser. It neither feeds nor ends the parser again.
+    pub(crate) fn finish(&mut self) -> Result<Request, RequestFault>
+        requires { IsTrue self.old.is_open }
+        ensures request { IfOk result (λ request.
+            ReadsAsked self.old.asked request self.old.seen) }
+        ensures refused { IfErr result (λ fault.
+            FailsAsked self.old.asked self.old.seen fault) }
+        ensures read { IfErr result (λ fault. ¬ (fault ≡ request_fault.ReadFailed)) }
+        ensures write { IfErr result (λ fault. ¬ (fault ≡ request_fault.WriteFailed)) }
+    {
+        self.is_open = false;
         self.feed.end()
     }
 }

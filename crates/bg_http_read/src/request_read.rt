@@ -1,5 +1,5 @@
 //! A request, read from a stream.
-ghost use Rattle.std.specs.Prelude.{◌≡◌, ◌++◌, true, List, ℕ, Option, IfErr, IfNone, IfOk, IfSome, IsTrue, OnOk};
+ghost use Rattle.std.specs.Prelude.{◌≡◌, ◌++◌, [], false, true, List, ℕ, Option, IfErr, IfNone, IfOk, IfSome, IsTrue, OnOk};
 ghost use Rattle.std.specs.Io.KnownBytes.{Appends, Keeps};
 ghost use Rattle.bg_http_read.specs.Requests.{ReadsRequest, RequestFails, WritesContinue, WroteFor};
 ghost use Rattle.bg_http_read.specs.Requests.{continue_text};
@@ -71,6 +71,33 @@ fn feed_piece<S: Duplex>(
     }
 }
 
+/// Reads a request as `read_request` does, with a parser that was fed nothing.
+fn read_with<S: Duplex>(parser: &mut RequestParser, stream: &mut S) -> Result<Request, RequestFault>
+    requires { parser.old ≡ record { seen = []; asked = false; is_open = true } }
+    ensures request { IfOk result (λ request. IfSome (S.remaining stream.old)
+        (λ input. (rest : List ℕ) × ReadsRequest input request rest)) }
+    ensures fault { IfErr result (λ fault. IfSome (S.remaining stream.old)
+        (λ input. RequestFails input fault)) }
+    ensures written { WroteFor (S.remaining stream.old) (S.contents stream.old)
+        (S.contents stream.new) result }
+{
+    let mut piece = [0; PIECE];
+    for _ in 0..MOST_TURNS {
+        let Some(arrival) = parser.read_more(stream, &mut piece) else {
+            return Err(RequestFault::ReadFailed);
+        };
+        let Arrival::Piece(count) = arrival else {
+            return parser.finish();
+        };
+        match feed_piece(stream, parser, &piece[..count]) {
+            Ok(Some(request)) => return Ok(request),
+            Ok(None) => {}
+            Err(fault) => return Err(fault),
+        }
+    }
+    Err(RequestFault::ReadFailed)
+}
+
 /// Reads a request with its whole body (RFC 9112). Bytes after the request may be read, and are
 /// dropped. An interrupted read is repeated.
 ///
@@ -94,19 +121,5 @@ pub fn read_request<S: Duplex>(alloc: Global, stream: &mut S) -> Result<Request,
         (S.contents stream.new) result }
 {
     let mut parser = RequestParser::new(alloc);
-    let mut piece = [0; PIECE];
-    for _ in 0..MOST_TURNS {
-        let Some(arrival) = parser.read_more(stream, &mut piece) else {
-            return Err(RequestFault::ReadFailed);
-        };
-        let Arrival::Piece(count) = arrival else {
-            return parser.end();
-        };
-        match feed_piece(stream, &mut parser, &piece[..count]) {
-            Ok(Some(request)) => return Ok(request),
-            Ok(None) => {}
-            Err(fault) => return Err(fault),
-        }
-    }
-    Err(RequestFault::ReadFailed)
+    read_with(&mut parser, stream)
 }

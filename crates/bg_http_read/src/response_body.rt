@@ -38,6 +38,18 @@ pub(crate) struct ResponseBody {
     pub(crate) body: Body,
 }
 
+/// The body before its first byte.
+fn body_of(alloc: Global, framing: ResponseFraming) -> Result<Body, AllocError>
+    ensures { IfOk result (StartsBody framing) }
+{
+    match framing {
+        ResponseFraming::Interim | ResponseFraming::NoBody => Body::of_length(alloc, 0),
+        ResponseFraming::Chunks => Ok(Body::of_chunks(alloc, MOST_RESPONSE_BODY)),
+        ResponseFraming::Length(size) => Body::of_length(alloc, size),
+        ResponseFraming::ToTheEnd => Ok(Body::to_the_end(alloc, MOST_RESPONSE_BODY)),
+    }
+}
+
 impl ResponseBody {
     /// The state before the first byte of the body. The only error is an allocation failure.
     pub(crate) fn new(
@@ -49,12 +61,7 @@ impl ResponseBody {
         ensures framing { IfOk result (λ part. part.framing ≡ framing) }
         ensures body { IfOk result (λ part. StartsBody framing part.body) }
     {
-        let body = match framing {
-            ResponseFraming::Interim | ResponseFraming::NoBody => Body::of_length(alloc, 0)?,
-            ResponseFraming::Chunks => Body::of_chunks(alloc, MOST_RESPONSE_BODY),
-            ResponseFraming::Length(size) => Body::of_length(alloc, size)?,
-            ResponseFraming::ToTheEnd => Body::to_the_end(alloc, MOST_RESPONSE_BODY),
-        };
+        let body = body_of(alloc, framing)?;
         Ok(ResponseBody {
             head,
             framing,

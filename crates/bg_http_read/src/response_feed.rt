@@ -139,23 +139,19 @@ impl<'a> ResponseFeed<'a> {
         Ok(response)
     }
 
-    /// The response in an input that ends here.
-    pub(crate) fn end(self) -> Result<Response, ResponseFault>
-        requires { IsOpen self }
-        ensures response { (request : RequestValue) (seen : List ℕ) → IsFed self.entry request seen
+    /// The response in an input that ends here. Nothing more is fed.
+    pub(crate) fn end(&mut self) -> Result<Response, ResponseFault>
+        requires { IsOpen self.old }
+        ensures response { (request : RequestValue) (seen : List ℕ) → IsFed self.old request seen
             → IfOk result (λ response. ReadsResponse request response seen) }
-        ensures refused { (request : RequestValue) (seen : List ℕ) → IsFed self.entry request seen
+        ensures refused { (request : RequestValue) (seen : List ℕ) → IsFed self.old request seen
             → IfErr result (λ fault. ResponseFails request seen fault) }
         ensures fault { IfErr result (λ fault. ¬ (fault ≡ response_fault.ReadFailed)) }
     {
-        let ResponseFeed {
-            intake,
-            mut progress,
-        } = self;
-        let Advance { response, taken: _ } = progress.advance(intake.get())?;
+        let Advance { response, taken: _ } = self.progress.advance(self.intake.get())?;
         match response {
             Some(response) => Ok(response),
-            None => progress.close(),
+            None => self.progress.close(),
         }
     }
 }

@@ -120,7 +120,7 @@ impl<'a> ResponseParser<'a> {
 
     /// The response in an input that ends here. Otherwise the fault is Closed, a fault that was not
     /// reported yet, or OutOfMemory.
-    pub fn end(self) -> Result<Response, ResponseFault>
+    pub fn end(mut self) -> Result<Response, ResponseFault>
         requires { IsTrue self.is_open }
         ensures response { IfOk result (λ response.
             ReadsResponse self.entry.request response self.entry.seen) }
@@ -128,6 +128,19 @@ impl<'a> ResponseParser<'a> {
             ResponseFails self.entry.request self.entry.seen fault) }
         ensures fault { IfErr result (λ fault. ¬ (fault ≡ response_fault.ReadFailed)) }
     {
+        self.finish()
+    }
+
+    /// As `end`, for a caller that keeps the parser. It neither feeds nor ends the parser again.
+    pub(crate) fn finish(&mut self) -> Result<Response, ResponseFault>
+        requires { IsTrue self.old.is_open }
+        ensures response { IfOk result (λ response.
+            ReadsResponse self.old.request response self.old.seen) }
+        ensures refused { IfErr result (λ fault.
+            ResponseFails self.old.request self.old.seen fault) }
+        ensures fault { IfErr result (λ fault. ¬ (fault ≡ response_fault.ReadFailed)) }
+    {
+        self.is_open = false;
         self.feed.end()
     }
 }

@@ -1,5 +1,5 @@
 //! A response, read from a stream.
-ghost use Rattle.std.specs.Prelude.{IfErr, IfOk, IfSome};
+ghost use Rattle.std.specs.Prelude.{◌≡◌, [], IfErr, IfOk, IfSome, IsTrue};
 ghost use Rattle.bg_http_read.specs.Responses.{ReadsResponse, ResponseFails};
 
 use crate::arrival::Arrival;
@@ -10,25 +10,25 @@ use bg_http::{Duplex, MOST_TURNS, Request, Response, ResponseFault};
 use std::alloc::Global;
 use std::io::Read;
 
-/// Reads the response to `request` with its whole body. Writes nothing to the stream.
-fn read_response_from<S: Duplex>(
-    alloc: Global,
-    request: &Request,
+/// Reads the response with its whole body, with a parser that was fed nothing. Writes nothing to the stream.
+fn read_with<S: Duplex>(
+    parser: &mut ResponseParser,
     stream: &mut S,
 ) -> Result<Response, ResponseFault>
+    requires seen { parser.old.seen ≡ [] }
+    requires is_open { IsTrue parser.old.is_open }
     ensures response { IfOk result (λ response. IfSome (S.remaining stream.old)
-        (λ input. ReadsResponse request.now response input)) }
+        (λ input. ReadsResponse parser.old.request response input)) }
     ensures fault { IfErr result (λ fault. IfSome (S.remaining stream.old)
-        (λ input. ResponseFails request.now input fault)) }
+        (λ input. ResponseFails parser.old.request input fault)) }
 {
-    let mut parser = ResponseParser::new(alloc, request);
     let mut piece = [0; PIECE];
     for _ in 0..MOST_TURNS {
         let Some(arrival) = parser.read_more(stream, &mut piece) else {
             return Err(ResponseFault::ReadFailed);
         };
         let Arrival::Piece(count) = arrival else {
-            return parser.end();
+            return parser.finish();
         };
         if let Some(response) = parser.feed(&piece[..count])? {
             return Ok(response);
@@ -61,5 +61,6 @@ pub fn read_response<R: Read>(
         (λ input. ResponseFails request.now input fault)) }
 {
     let mut stream = OneWay { reader };
-    read_response_from(alloc, request, &mut stream)
+    let mut parser = ResponseParser::new(alloc, request);
+    read_with(&mut parser, &mut stream)
 }

@@ -5,11 +5,11 @@ use Rattle.bg_http_read.proofs.request_feed.RequestFeed.end.Goals as goal
 
 pub returns-in_err-step-clause-answer : goal.returns-in_err-step-clause-answer
 returns-in_err-step-clause-answer c seen fed =
-    let waits = subst (λ w. IsFedStage c.args.self.progress.stage w seen) (sym c.get.ensures) fed.fed in
+    let waits = subst (λ w. IsFedStage c.args.self.now.progress.stage w seen) (sym c.get.ensures) fed.fed in
     ends_err _ seen _ c.in_err-step.field-0.0 c.from_residual.ensures.1
     (c.in_err-step.ensures.answer seen waits)
 
 pub returns-in-Whole-clause-answer : goal.returns-in-Whole-clause-answer
 returns-in-Whole-clause-answer c seen fed =
-    let waits = subst (λ w. IsFedStage c.args.self.progress.stage w seen) (sym c.get.ensures) fed.fed in
+    let waits = subst (λ w. IsFedStage c.args.self.now.progress.stage w seen) (sym c.get.ensures) fed.fed in
     read_here _ c.in-Whole.request seen (rw c.in-Whole.is at c.in_ok-step.ensures.answer seen waits)

@@ -3,7 +3,7 @@ use Rattle.bg_http_read.specs.Streams.{Leaves}
 use Rattle.bg_http_read.specs.Requests.{WritesContinue}
 use Rattle.bg_http_read.specs.RequestPieces.{OwesIf}
 use Rattle.bg_http_read.proofs.Pieces.{Came}
-use Rattle.bg_http_read.proofs.request_read.read_request.Given as goal
+use Rattle.bg_http_read.proofs.request_read.read_with.Given as goal
 
 abbrev pub invariant-loop : goal.invariant-loop
 invariant-loop g l = record {

@@ -2,7 +2,7 @@ use Rattle.std.proofs.Common.{IfErr, IfOk, IsTrue, ap, subst, ◌∙◌}
 use Rattle.bg_http_read.specs.RequestStates.{FailsAsked, ReadsAsked}
 use Rattle.bg_http_read.specs.RequestsFed.{was_asked}
 use Rattle.bg_http_read.proofs.RequestSteps.{ends_read, ends_refused}
-use Rattle.bg_http_read.proofs.request_parser.RequestParser.end.Goals as goal
+use Rattle.bg_http_read.proofs.request_parser.RequestParser.finish.Goals as goal
 
 pub returns-clause-request : goal.returns-clause-request
 returns-clause-request c =

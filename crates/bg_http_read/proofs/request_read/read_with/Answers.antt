@@ -6,17 +6,17 @@ use Rattle.bg_http_read.specs.RequestPieces.{OwesIf}
 use Rattle.bg_http_read.specs.RequestStates.{ReadsAsked}
 use Rattle.bg_http_read.proofs.Pieces.{Came, came_behind, came_kept, came_straight, none_came, whole_input}
 use Rattle.bg_http_read.proofs.RequestPieces.{ended_fault, ended_wrote, owes_straight, piece_fault, piece_wrote, request_of, wrote_reading, wrote_request, wrote_straight, writes_kept}
-use Rattle.bg_http_read.proofs.request_read.read_request.Goals as goal
+use Rattle.bg_http_read.proofs.request_read.read_with.Goals as goal
 
 pub loop-init : goal.loop-init
 loop-init g c =
     let first = g.S.Read.remaining c.args.stream.now in
     let written = g.S.Write.contents c.args.stream.now in
     record {
-      came = subst (λ p. Leaves (Came p.seen) first first) (sym c.new-parser.ensures) (none_came first);
-      goes_on = ap (λ p. p.is_open) c.new-parser.ensures;
-      wrote = subst (λ p. WritesContinue p.asked written written) (sym c.new-parser.ensures) (Keeps-refl written);
-      owed = subst (λ p. OwesIf p.asked p.seen) (sym c.new-parser.ensures) (λ is. cc);
+      came = subst (λ p. Leaves (Came p.seen) first first) (sym c.requires) (none_came first);
+      goes_on = ap (λ p. p.is_open) c.requires;
+      wrote = subst (λ p. WritesContinue p.asked written written) (sym c.requires) (Keeps-refl written);
+      owed = subst (λ p. OwesIf p.asked p.seen) (sym c.requires) (λ is. cc);
       size = refl;
     }
 
@@ -41,7 +41,7 @@ returns-in_default-arrival-clause-fault g c =
     let parser = c.read_more.new.self in
     let end = rw c.in_default-arrival.is at more.2 in
     let came = came_straight c.loop.parser.seen more.0 parser.seen first (g.S.Read.remaining c.loop.stream) next c.loop.invariant.came (ap (λ p. p.seen) more.1) end.0 in
-    ended_fault parser.asked parser.seen first next c.end.result came end.1 c.end.ensures.refused
+    ended_fault parser.asked parser.seen first next c.finish.result came end.1 c.finish.ensures.refused
 
 pub returns-in_default-arrival-clause-written : goal.returns-in_default-arrival-clause-written
 returns-in_default-arrival-clause-written g c =
@@ -54,8 +54,8 @@ returns-in_default-arrival-clause-written g c =
     let written = g.S.Write.contents c.args.stream.now in
     let before = g.S.Write.contents c.read_more.new.stream in
     let wrote = wrote_straight c.loop.parser parser more.0 written (g.S.Write.contents c.loop.stream) before more.1 c.loop.invariant.wrote c.read_more.ensures.kept in
-    ended_wrote parser.asked parser.seen first next written before c.end.result came end.1 wrote
-    c.end.ensures.request c.end.ensures.refused
+    ended_wrote parser.asked parser.seen first next written before c.finish.result came end.1 wrote
+    c.finish.ensures.request c.finish.ensures.refused
 
 pub returns-in-Ok-Some-clause-request : goal.returns-in-Ok-Some-clause-request
 returns-in-Ok-Some-clause-request g c =

@@ -5,53 +5,53 @@ use Rattle.bg_http_read.specs.ResponseStates.{IsRead, IsRefused}
 use Rattle.bg_http_read.proofs.InterimTaken.{machine_reading}
 use Rattle.bg_http_read.proofs.Pieces.{Came, came_behind, came_straight, ended_err, ended_ok, none_came, whole_input}
 use Rattle.bg_http_read.proofs.StreamFaults.{if_err_is}
-use Rattle.bg_http_read.proofs.response_read.read_response_from.Goals as goal
+use Rattle.bg_http_read.proofs.response_read.read_with.Goals as goal
 
 pub loop-init : goal.loop-init
 loop-init g c =
     let first = g.S.Read.remaining c.args.stream.now in
     record {
-      came = subst (λ p. Leaves (Came p.seen) first first) (sym c.new-parser.ensures) (none_came first);
-      request = ap (λ p. p.request) c.new-parser.ensures;
-      goes_on = ap (λ p. p.is_open) c.new-parser.ensures;
+      came = subst (λ l. Leaves (Came l) first first) (sym c.requires.seen) (none_came first);
+      request = refl;
+      goes_on = c.requires.is_open;
       size = refl;
     }
 
 pub returns-in_default-clause-fault : goal.returns-in_default-clause-fault
 returns-in_default-clause-fault g c =
-    machine_reading c.args.request.now (g.S.Read.remaining c.args.stream.now)
+    machine_reading c.args.parser.now.request (g.S.Read.remaining c.args.stream.now)
 
 pub returns-clause-fault : goal.returns-clause-fault
 returns-clause-fault g c =
-    machine_reading c.args.request.now (g.S.Read.remaining c.args.stream.now)
+    machine_reading c.args.parser.now.request (g.S.Read.remaining c.args.stream.now)
 
 pub returns-in_default-arrival-clause-response : goal.returns-in_default-arrival-clause-response
 returns-in_default-arrival-clause-response g c =
-    let request = c.args.request.now in
+    let request = c.args.parser.now.request in
     let first = g.S.Read.remaining c.args.stream.now in
     let next = g.S.Read.remaining c.read_more.new.stream in
     let more = c.in-Some.ensures.came in
     let seen = c.read_more.new.self.seen in
     let end = rw c.in_default-arrival.is at more.2 in
     let came = came_straight c.loop.parser.seen more.0 seen first (g.S.Read.remaining c.loop.stream) next c.loop.invariant.came (ap (λ p. p.seen) more.1) end.0 in
-    ended_ok (ReadsResponse request) c.end.result seen first next came end.1
-    (subst (λ r. IfOk c.end.result (λ response. ReadsResponse r response seen)) (ap (λ p. p.request) more.1 ∙ c.loop.invariant.request) c.end.ensures.response)
+    ended_ok (ReadsResponse request) c.finish.result seen first next came end.1
+    (subst (λ r. IfOk c.finish.result (λ response. ReadsResponse r response seen)) (ap (λ p. p.request) more.1 ∙ c.loop.invariant.request) c.finish.ensures.response)
 
 pub returns-in_default-arrival-clause-fault : goal.returns-in_default-arrival-clause-fault
 returns-in_default-arrival-clause-fault g c =
-    let request = c.args.request.now in
+    let request = c.args.parser.now.request in
     let first = g.S.Read.remaining c.args.stream.now in
     let next = g.S.Read.remaining c.read_more.new.stream in
     let more = c.in-Some.ensures.came in
     let seen = c.read_more.new.self.seen in
     let end = rw c.in_default-arrival.is at more.2 in
     let came = came_straight c.loop.parser.seen more.0 seen first (g.S.Read.remaining c.loop.stream) next c.loop.invariant.came (ap (λ p. p.seen) more.1) end.0 in
-    ended_err (λ e i. ResponseFails request i e) c.end.result seen first next came end.1
-    (subst (λ r. IfErr c.end.result (ResponseFails r seen)) (ap (λ p. p.request) more.1 ∙ c.loop.invariant.request) c.end.ensures.refused)
+    ended_err (λ e i. ResponseFails request i e) c.finish.result seen first next came end.1
+    (subst (λ r. IfErr c.finish.result (ResponseFails r seen)) (ap (λ p. p.request) more.1 ∙ c.loop.invariant.request) c.finish.ensures.refused)
 
 pub returns-in_err-response-clause-fault : goal.returns-in_err-response-clause-fault
 returns-in_err-response-clause-fault g c =
-    let request = c.args.request.now in
+    let request = c.args.parser.now.request in
     let first = g.S.Read.remaining c.args.stream.now in
     let next = g.S.Read.remaining c.read_more.new.stream in
     let more = c.in-Some.ensures.came in
@@ -66,7 +66,7 @@ returns-in_err-response-clause-fault g c =
 
 pub returns-in-Some-2-clause-response : goal.returns-in-Some-2-clause-response
 returns-in-Some-2-clause-response g c =
-    let request = c.args.request.now in
+    let request = c.args.parser.now.request in
     let first = g.S.Read.remaining c.args.stream.now in
     let next = g.S.Read.remaining c.read_more.new.stream in
     let more = c.in-Some.ensures.came in
