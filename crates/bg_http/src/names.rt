@@ -1,5 +1,6 @@
 //! The field names that the rules know.
-ghost use Rattle.bg_http.specs.Names.{IsRuledAs};
+ghost use Rattle.std.specs.Prelude.{◌≡◌, IfNone, IfSome, bytes_eq, false};
+ghost use Rattle.bg_http.specs.Names.{IsRuledAs, spelled};
 
 use http_header::HeaderName;
 
@@ -21,7 +22,15 @@ pub(crate) fn ruled_name(name: &[u8]) -> Option<RuledName>
     ensures { IsRuledAs name.now result }
 {
     let found = HeaderName::standard(name)?;
-    match found.as_str() {
+    ruled_as(found.as_str())
+}
+
+/// The name that a text in lower case is, if a rule uses it.
+fn ruled_as(name: &str) -> Option<RuledName>
+    ensures found { IfSome result (λ ruled. name.now ≡ spelled ruled) }
+    ensures none { IfNone result ((ruled : RuledName) → bytes_eq name.now (spelled ruled) ≡ false) }
+{
+    match name {
         "connection" => Some(RuledName::Connection),
         "content-length" => Some(RuledName::ContentLength),
         "expect" => Some(RuledName::Expect),
