@@ -12,7 +12,7 @@ use Rattle.clap.specs.declared.error.kind.ErrorKind.{ErrorKind}
 use Rattle.clap.specs.declared.error.kind.ErrorKind.TheVariants as kind
 use Rattle.bg_command_line.specs.declared.invocation.InvocationFault.{InvocationFault}
 use Rattle.bg_command_line.specs.declared.invocation.InvocationFault.TheVariants.{OutOfMemory, Words}
-use Rattle.bg_command_line.specs.CommandLine.{IsFaultFrom, IsFaultIn, flags_of, is_in_conflict, kinds_of, program}
+use Rattle.bg_command_line.specs.CommandLine.{IsConflict, IsFaultFrom, IsFaultIn, flags_of, is_in_conflict, kinds_of, program}
 use Rattle.bg_command_line.proofs.AcceptedWords.{is_free_program}
 
 among_first : (k : ErrorKind) (first second : Kinds) → IsAmong k first → IsAmong k (or_else first second)
@@ -43,9 +43,10 @@ pub no_kinds : (words : List Text) (name : Text) (rows : List Row) → fault_of 
     → kinds_of words ≡ []
 no_kinds words name rows none is conflict = kinds_are words name rows false none is conflict
 
-pub conflict_as : (words : List Text) (name : Text) (rows : List Row) (e : Error) → fault_of (program (flags_of words)) words ≡ []
+pub conflict_as : (words : List Text) (name : Text) (rows : List Row) (fault : InvocationFault) → fault_of (program (flags_of words)) words ≡ []
     → subcommand_of (program (flags_of words)) words ≡ Some (name, rows) → is_in_conflict (flags_of words) rows ≡ true
-    → kind_of e ≡ kind.ArgumentConflict → IsFaultIn words (Words e)
-conflict_as words name rows e none is conflict e_is =
+    → IsConflict fault → IsFaultIn words fault
+conflict_as words name rows OutOfMemory none is conflict e_is = tt
+conflict_as words name rows (Words e) none is conflict e_is =
     let kinds : kinds_of words ≡ kind.ArgumentConflict ∷ [] = kinds_are words name rows true none is conflict in
     (rw kinds (inl e_is), λ memory. cc)

@@ -10,6 +10,7 @@ use Rattle.clap.specs.declared.error.Error.{Error}
 use Rattle.clap.specs.declared.error.kind.ErrorKind.TheVariants as kind
 use Rattle.clap.specs.declared.builder.action.ArgAction.TheVariants.{SetTrue}
 use Rattle.clap.specs.declared.builder.value_parser.ValueParser.TheVariants as value_parser
+use Rattle.bg_command_line.specs.declared.command_option.CommandOption.{CommandOption}
 use Rattle.bg_command_line.specs.declared.invocation.Connections.{Connections}
 use Rattle.bg_command_line.specs.declared.invocation.Connections.TheVariants.{Count, Forever}
 use Rattle.bg_command_line.specs.declared.invocation.Flags.{Flags}
@@ -35,6 +36,23 @@ required_rule name most = record (number_rule name most) { required = true }
 abbrev pub rule_required_if : Bool → Text → ℕ → Rule
 rule_required_if required name most = record (number_rule name most) { required = required }
 
+-- the flag `--NAME`, which has no value
+abbrev pub flag_rule : Text → Rule
+flag_rule name = record (new_rule name) { long = Some name; action = Some SetTrue }
+
+-- the flag `--NAME`, which is required if `required` says so
+abbrev pub flag_rule_required_if : Bool → Text → Rule
+flag_rule_required_if required name = record (flag_rule name) { required = required }
+
+-- `--NAME N`, with N from 1 to the number, or the flag `--NAME` if there is no number
+abbrev pub rule_of_kind : Option ℕ → Bool → Text → Rule
+rule_of_kind None required name = flag_rule_required_if required name
+rule_of_kind (Some most) required name = rule_required_if required name most
+
+-- the rule of an option
+abbrev pub option_rule : CommandOption → Rule
+option_rule option = rule_of_kind option.most option.required option.name.now
+
 -- `check`
 abbrev pub check_app : App
 check_app = new_app (codes "check")
@@ -51,14 +69,6 @@ with_port_rules a = with_rule (with_rule (with_rule a (required_rule (codes "act
 -- `--count K`, with K from 1 to 1,000,000, which is required unless `--forever` is given
 abbrev pub count_rule : Bool → Rule
 count_rule forever = record (number_rule (codes "count") 1000000) { required = not forever }
-
--- the flag `--NAME`, which has no value
-abbrev pub flag_rule : Text → Rule
-flag_rule name = record (new_rule name) { long = Some name; action = Some SetTrue }
-
--- the flag `--NAME`, which is required if `required` says so
-abbrev pub flag_rule_required_if : Bool → Text → Rule
-flag_rule_required_if required name = record (flag_rule name) { required = required }
 
 -- `--forever`, which is required if the words have it
 abbrev pub forever_rule : Bool → Rule
@@ -224,6 +234,11 @@ AsksForVersion (Words e) = kind_of e ≡ kind.DisplayVersion
 abbrev pub IsFaultFrom : Error → InvocationFault → Type 0
 IsFaultFrom e OutOfMemory = kind_of e ≡ kind.OutOfMemory
 IsFaultFrom e (Words x) = (x ≡ e) × (kind_of e ≢ kind.OutOfMemory)
+
+-- the fault for two words of which one replaces the other
+abbrev pub IsConflict : InvocationFault → Type 0
+IsConflict OutOfMemory = Unit {0}
+IsConflict (Words e) = kind_of e ≡ kind.ArgumentConflict
 
 -- the argument is a number in this range, if it is given
 abbrev pub IsIn : ℕ → ℕ → Text → List Row → Type 0

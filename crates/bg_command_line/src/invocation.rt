@@ -29,7 +29,7 @@ pub enum Connections {
 }
 
 /// Which of the words are there that replace a required one.
-#[derive(Clone, Copy, Debug, Drop, PartialEq, Eq)]
+#[derive(Clone, Copy, Drop)]
 pub struct Flags {
     /// `--forever`, in place of `--count`.
     pub forever: bool,

@@ -2,8 +2,10 @@
 #![tactic(auto)]
 
 mod command_line;
+mod command_option;
 mod invocation;
 mod message_timeout;
+mod serve_options;
 mod words;
 
 pub use invocation::{Connections, Invocation, InvocationFault, Site};

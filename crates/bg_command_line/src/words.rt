@@ -2,7 +2,7 @@
 ghost use Rattle.std.specs.Prelude.{◌≡◌, IfOk, IfErr, IfSome, map, codes, option_map, is_some, false, true, unwrap_or};
 ghost use Rattle.std.specs.List.{list_any};
 ghost use Rattle.clap.specs.Words.{IsUnsignedIn, first_of, found_of, rows_of};
-ghost use Rattle.bg_command_line.specs.CommandLine.{AreConnections, AreWorkers, HasWordsOfServe, IsBetween, IsFaultFrom, IsFaultIn, IsIn, IsKnown, IsInvocationIn, IsInvocationOf, default_preview_workers, flags_of, has_concurrency, has_flag, has_word, is_concurrency, is_in_conflict, number, number_of};
+ghost use Rattle.bg_command_line.specs.CommandLine.{AreConnections, AreWorkers, HasWordsOfServe, IsBetween, IsConflict, IsFaultFrom, IsFaultIn, IsIn, IsKnown, IsInvocationIn, IsInvocationOf, default_preview_workers, flags_of, has_concurrency, has_flag, has_word, is_concurrency, is_in_conflict, number, number_of};
 
 use crate::command_line::{conflict, program_command};
 use crate::invocation::{Connections, Flags, Invocation, InvocationFault, Site};
@@ -35,10 +35,10 @@ pub fn parse_command_line(alloc: Global, words: &[&str]) -> Result<Invocation, I
     };
     let (name, inner) = matches.subcommand().unwrap();
     if is_in_conflict(flags, inner) {
-        let message = conflict_message(inner);
-        return Err(InvocationFault::Words(conflict(alloc, name, message)?));
+        Err(conflict_fault(alloc, inner))
+    } else {
+        Ok(invocation_of(flags, name, inner))
     }
-    Ok(invocation_of(flags, name, inner))
 }
 
 /// The flags among the words after the program's name.
@@ -101,6 +101,16 @@ fn conflict_message(matches: &ArgMatches) -> &'static str {
         "the argument '--workers <N>' cannot be used with '--concurrency <N>'"
     } else {
         "the argument '--count <N>' cannot be used with '--forever'"
+    }
+}
+
+/// The fault for two words of which one replaces the other.
+fn conflict_fault(alloc: Global, matches: &ArgMatches) -> InvocationFault
+    ensures { IsConflict result }
+{
+    match conflict(alloc, conflict_message(matches)) {
+        Ok(error) => InvocationFault::Words(error),
+        Err(_) => InvocationFault::OutOfMemory,
     }
 }
 

@@ -1,5 +1,8 @@
+use Rattle.std.proofs.Common.{◌≡◌, ◌∙◌, ◌∷◌, [], ◌++◌, List, ap, subst}
 use Rattle.std.proofs.lemmas.Result.{IfOk-weaker}
-use Rattle.bg_command_line.proofs.Additions.{subcommand_added}
+use Rattle.clap.specs.Words.{AddsInTurn, AddsSubcommand}
+use Rattle.clap.specs.declared.builder.command.Command.{Command}
+use Rattle.bg_command_line.proofs.Additions.{three_added}
 use Rattle.bg_command_line.proofs.command_line.program_command.Goals as goal
 
 pub returns : goal.returns
@@ -7,8 +10,11 @@ returns c =
     let check = c.check_command in
     let replay = c.in_ok-replay_command in
     let serve = c.in_ok-serve_command in
-    let with_check = subcommand_added c.top_command.result c.in_ok-subcommand.field-0 check.result _ _ c.in_ok-subcommand.ensures c.top_command.ensures check.ensures.app check.ensures.local in
-    let with_replay = subcommand_added c.in_ok-subcommand.field-0 c.in_ok-subcommand-2.field-0 replay.field-0 _ _ c.in_ok-subcommand-2.ensures with_check replay.ensures.app replay.ensures.local in
-    IfOk-weaker c.subcommand-3.result _ _
-    (λ made adds. subcommand_added c.in_ok-subcommand-2.field-0 made serve.field-0 _ _ adds with_replay serve.ensures.app serve.ensures.local)
-    c.subcommand-3.ensures
+    let one = c.in_ok-push.ensures.items ∙ ap (λ (l : List Command). l ++ check.result ∷ []) c.in_ok-subcommands.ensures.items in
+    let two = c.in_ok-push-2.ensures.items ∙ ap (λ (l : List Command). l ++ replay.field-0 ∷ []) one in
+    let all = c.in_ok-push-3.ensures.items ∙ ap (λ (l : List Command). l ++ serve.field-0 ∷ []) two in
+    IfOk-weaker c.subcommands.result _ _
+    (λ made adds. three_added c.top_command.result made check.result replay.field-0 serve.field-0 _ _ _ _
+    (subst (λ (l : List Command). AddsInTurn AddsSubcommand c.top_command.result l made) all adds)
+    c.top_command.ensures check.ensures.app check.ensures.local replay.ensures.app replay.ensures.local serve.ensures.app serve.ensures.local)
+    c.subcommands.ensures

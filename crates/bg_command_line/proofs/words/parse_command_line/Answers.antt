@@ -39,4 +39,4 @@ returns-then-is_in_conflict-clause-fault c =
     let x = met flags (app_of c.in_ok-command.command) words c.in-Ok.matches (c.in_ok-command.ensures ∙ ap program flags_are) c.in-Ok.ensures.kinds c.in-Ok.ensures.matches in
     let rows_are = inner_rows (λ p. rows_of (found_of p.1.now)) c.subcommand.result c.unwrap.result _ (x.name, x.rows) c.subcommand.ensures.rows x.same c.unwrap.ensures in
     let conflict = still_in_conflict flags_are rows_are c.is_in_conflict.ensures ∙ c.if-is_in_conflict.true in
-    conflict_as words x.name x.rows c.in_ok-conflict.field-0 x.none x.is conflict c.in_ok-conflict.ensures
+    conflict_as words x.name x.rows c.conflict_fault.result x.none x.is conflict c.conflict_fault.ensures
