@@ -9,6 +9,17 @@ use std::alloc::{AllocError, Global};
 /// The number of bytes that most lines do not exceed.
 const USUAL_LENGTH: usize = 512;
 
+/// A member of a line, with the text before its value.
+#[derive(Clone, Copy)]
+pub(crate) enum Member<'a> {
+    /// A string, or null.
+    Text(&'static str, Option<&'a str>),
+    /// A number, or null.
+    Number(&'static str, Option<u64>),
+    /// A number. There is no member if there is no number.
+    Optional(&'static str, Option<u64>),
+}
+
 /// A line that is being written. Its members are written by hand, because a derived writer examines each
 /// byte of each key again for each line.
 #[derive(Drop)]
@@ -24,6 +35,15 @@ impl Line {
             alloc,
             bytes: Vec::with_capacity(alloc, USUAL_LENGTH)?,
         })
+    }
+
+    /// Adds a member.
+    pub(crate) fn push(&mut self, member: &Member) -> Result<(), Error> {
+        match *member {
+            Member::Text(before, text) => self.add_string(before, text),
+            Member::Number(before, number) => Ok(self.add_number(before, number)?),
+            Member::Optional(before, number) => Ok(self.add_member(before, number)?),
+        }
     }
 
     /// Adds text as it is.

@@ -1,6 +1,7 @@
 //! What is logged of a connection.
+ghost use Rattle.std.specs.Prelude.{◌≡◌};
 
-use crate::line::Line;
+use crate::line::{Line, Member};
 use crate::time_text::TimeText;
 use serde_json::Error;
 use std::alloc::Global;
@@ -48,26 +49,48 @@ impl LogEntry<'_> {
     /// The line, with its end.
     pub(crate) fn to_line(&self, alloc: Global) -> Result<Vec<u8>, Error> {
         let mut line = Line::new(alloc)?;
-        let time = self.time.as_ref().map(|time| time.as_str());
-        line.add_string("{\"time\":", time)?;
-        line.add_string(",\"service\":", Some(self.service))?;
-        line.add_number(",\"revision\":", self.revision)?;
-        line.add_number(",\"request\":", self.request)?;
-        line.add_number(",\"port\":", self.port.map(u64::from))?;
-        line.add_string(",\"method\":", as_text(&self.method))?;
-        line.add_string(",\"target\":", as_text(&self.target))?;
-        line.add_number(",\"status\":", self.status.map(u64::from))?;
-        line.add_string(",\"end\":", Some(self.end))?;
-        line.add_string(",\"reason\":", self.reason)?;
-        line.add_number(",\"request_bytes\":", Some(self.request_bytes))?;
-        line.add_number(",\"response_bytes\":", Some(self.response_bytes))?;
-        line.add_number(",\"duration_ms\":", Some(self.duration_ms))?;
-        line.add_number(",\"upstream_ms\":", self.upstream_ms)?;
-        line.add_member(",\"slot_port\":", self.slot_port.map(u64::from))?;
-        line.add_member(",\"tries\":", self.tries.map(u64::from))?;
+        for member in &self.members() {
+            line.push(member)?;
+        }
         line.add("}\n")?;
         Ok(line.into_bytes())
     }
+
+    /// The members of the line, in order.
+    fn members(&self) -> [Member<'_>; 16] {
+        [
+            Member::Text("{\"time\":", self.time_text()),
+            Member::Text(",\"service\":", Some(self.service)),
+            Member::Number(",\"revision\":", self.revision),
+            Member::Number(",\"request\":", self.request),
+            Member::Number(",\"port\":", as_number(self.port)),
+            Member::Text(",\"method\":", as_text(&self.method)),
+            Member::Text(",\"target\":", as_text(&self.target)),
+            Member::Number(",\"status\":", as_number(self.status)),
+            Member::Text(",\"end\":", Some(self.end)),
+            Member::Text(",\"reason\":", self.reason),
+            Member::Number(",\"request_bytes\":", Some(self.request_bytes)),
+            Member::Number(",\"response_bytes\":", Some(self.response_bytes)),
+            Member::Number(",\"duration_ms\":", Some(self.duration_ms)),
+            Member::Number(",\"upstream_ms\":", self.upstream_ms),
+            Member::Optional(",\"slot_port\":", as_number(self.slot_port)),
+            Member::Optional(",\"tries\":", self.tries.map(u64::from)),
+        ]
+    }
+
+    fn time_text(&self) -> Option<&str> {
+        match &self.time {
+            Some(time) => Some(time.as_str()),
+            None => None,
+        }
+    }
+}
+
+/// A port or a status code as a number.
+fn as_number(number: Option<u16>) -> Option<u64>
+    ensures { result ≡ number }
+{
+    number.map(u64::from)
 }
 
 fn as_text<'t>(text: &'t Option<CowStr>) -> Option<&'t str> {
