@@ -4,7 +4,7 @@ ghost use Rattle.bg_history.specs.declared.entry.Entry.TheVariants as entry;
 ghost use Rattle.bg_ledger.specs.Holdings.{after_leave};
 ghost use Rattle.bg_rollout.specs.Compaction.{with_compacted};
 ghost use Rattle.bg_rollout.specs.Changes.{enter_entry, seat_in};
-ghost use Rattle.bg_book.specs.Desks.{StepsTo};
+ghost use Rattle.bg_book.specs.Desks.{AnswersControl, AnswersEnter, IsFullForControl, IsFullForEnter, StepsTo};
 ghost use Rattle.bg_book.specs.Headline.{Headline};
 ghost use Rattle.bg_book.specs.Room.{entries_used as used_entries};
 ghost use Rattle.bg_rollout.specs.Meeting.{Meets};
@@ -33,7 +33,8 @@ pub trait Question<A> {
 
 /// A book behind a lock, which threads share.
 ///
-/// Each call takes the lock once, makes one call of the book and releases the lock. `told` says that the answer is
+/// Each call takes the lock once, makes one call of the book and releases the lock; the two calls with a compaction make
+/// up to three calls of the book. `told` says that the answer is
 /// the answer of some book for which [`headline`] holds. For an event it also says that this book stepped to
 /// another one for which [`headline`] holds. It doesn't say that this book is the one under the lock.
 #[derive(Drop)]
@@ -60,19 +61,29 @@ impl<N: Names> Desk<N> {
         ensures seat { IfOk result (λ t. seat.new ≡ seat_in seat.old t) }
         ensures number { IfOk result (λ t. 0 < t.number) }
         ensures seat_unchanged { OnErr result (seat.new ≡ seat.old) }
-        ensures told { (b : Routing) × Headline b × Meets b seat.old
-            × AnswersBy (enter_refusal b service) enter_fault.OutOfMemory result
-            × IfOk result (IsTicket b service)
-            × IfOk result (λ t. (new : Routing) × StepsTo b
-            (enter_entry seat.old.index service t)
-            (slice_set b.seats seat.old.index seat.new) new 0) }
+        ensures told { AnswersEnter seat.old service result seat.new }
     {
         let mut locked = self.book.lock(rt);
-        let book = &mut *locked;
-        book_laws::headline(book);
-        let answer = book.enter(seat, service);
-        book_laws::headline(book);
-        answer
+        enter(&mut *locked, seat, service)
+    }
+
+    /// [`Desk::enter`]. If the answer is `HistoryFull`, compacts the history and enters once more, under the same lock. So
+    /// the answer is `HistoryFull` only if a compacted book has no room either.
+    pub fn enter_with_compaction<R: Wait>(
+        &self,
+        rt: &R,
+        seat: &mut Seat<N>,
+        service: Service,
+    ) -> Result<Ticket, EnterFault>
+        requires out { seat.old.number ≡ 0 }
+        ensures seat { IfOk result (λ t. seat.new ≡ seat_in seat.old t) }
+        ensures number { IfOk result (λ t. 0 < t.number) }
+        ensures seat_unchanged { OnErr result (seat.new ≡ seat.old) }
+        ensures told { AnswersEnter seat.old service result seat.new }
+        ensures full { IsFullForEnter service result }
+    {
+        let mut locked = self.book.lock(rt);
+        enter_or_compact(&mut *locked, seat, service)
     }
 
     /// [`Book::leave`].
@@ -106,18 +117,27 @@ impl<N: Names> Desk<N> {
     }
 
     /// [`Book::control`].
-    pub fn control<R: Wait>(&self, rt: &R, control: &Control) -> Result<u64, ControlFault>
+    pub fn control<R: Wait>(&self, rt: &R, event: &Control) -> Result<u64, ControlFault>
         ensures few { IfOk result (λ n. n ≤ 140) }
-        ensures told { (b : Routing) × Headline b
-            × AnswersBy (control_refusal b control.now) control_fault.OutOfMemory result
-            × IfOk result (λ n. (new : Routing) × StepsTo b (event_of b control.now) b.seats new n) }
+        ensures told { AnswersControl event.now result }
     {
         let mut locked = self.book.lock(rt);
-        let book = &mut *locked;
-        book_laws::headline(book);
-        let answer = book.control(control);
-        book_laws::headline(book);
-        answer
+        control(&mut *locked, event)
+    }
+
+    /// [`Desk::control`]. If the answer is `HistoryFull`, compacts the history and gives the event once more, under the
+    /// same lock. So the answer is `HistoryFull` only if a compacted book has no room either.
+    pub fn control_with_compaction<R: Wait>(
+        &self,
+        rt: &R,
+        event: &Control,
+    ) -> Result<u64, ControlFault>
+        ensures few { IfOk result (λ n. n ≤ 140) }
+        ensures told { AnswersControl event.now result }
+        ensures full { IsFullForControl event.now result }
+    {
+        let mut locked = self.book.lock(rt);
+        control_or_compact(&mut *locked, event)
     }
 
     /// [`Book::compact`].
@@ -157,6 +177,76 @@ impl<N: Names> Desk<N> {
         let book = self.book.into_inner();
         book_laws::headline(&book);
         book
+    }
+}
+
+/// Lets a request enter, and proves what holds of the book before and after.
+fn enter<N: Names>(
+    book: &mut Book<N>,
+    seat: &mut Seat<N>,
+    service: Service,
+) -> Result<Ticket, EnterFault>
+    requires out { seat.old.number ≡ 0 }
+    ensures seat { IfOk result (λ t. seat.new ≡ seat_in seat.old t) }
+    ensures number { IfOk result (λ t. 0 < t.number) }
+    ensures seat_unchanged { OnErr result (seat.new ≡ seat.old) }
+    ensures told { AnswersEnter seat.old service result seat.new }
+    ensures refusal { AnswersBy (enter_refusal book.old service) enter_fault.OutOfMemory result }
+{
+    book_laws::headline(book);
+    let answer = book.enter(seat, service);
+    book_laws::headline(book);
+    answer
+}
+
+/// Lets a request enter. If the history is full, compacts it and lets the request enter once more.
+fn enter_or_compact<N: Names>(
+    book: &mut Book<N>,
+    seat: &mut Seat<N>,
+    service: Service,
+) -> Result<Ticket, EnterFault>
+    requires out { seat.old.number ≡ 0 }
+    ensures seat { IfOk result (λ t. seat.new ≡ seat_in seat.old t) }
+    ensures number { IfOk result (λ t. 0 < t.number) }
+    ensures seat_unchanged { OnErr result (seat.new ≡ seat.old) }
+    ensures told { AnswersEnter seat.old service result seat.new }
+    ensures full { IsFullForEnter service result }
+{
+    match enter(book, seat, service) {
+        Err(EnterFault::HistoryFull) => {
+            book_laws::headline(book);
+            let _dropped = book.compact();
+            enter(book, seat, service)
+        }
+        answer => answer,
+    }
+}
+
+/// Gives an event to the book, and proves what holds of the book before and after.
+fn control<N: Names>(book: &mut Book<N>, event: &Control) -> Result<u64, ControlFault>
+    ensures few { IfOk result (λ n. n ≤ 140) }
+    ensures told { AnswersControl event.now result }
+    ensures refusal { AnswersBy (control_refusal book.old event.now) control_fault.OutOfMemory result }
+{
+    book_laws::headline(book);
+    let answer = book.control(event);
+    book_laws::headline(book);
+    answer
+}
+
+/// Gives an event to the book. If the history is full, compacts it and gives the event once more.
+fn control_or_compact<N: Names>(book: &mut Book<N>, event: &Control) -> Result<u64, ControlFault>
+    ensures few { IfOk result (λ n. n ≤ 140) }
+    ensures told { AnswersControl event.now result }
+    ensures full { IsFullForControl event.now result }
+{
+    match control(book, event) {
+        Err(ControlFault::HistoryFull) => {
+            book_laws::headline(book);
+            let _dropped = book.compact();
+            control(book, event)
+        }
+        answer => answer,
     }
 }
 

@@ -15,7 +15,8 @@ use std::sync::Wait;
 /// the history small and each compaction short, at a negligible cost.
 const REQUESTS_BETWEEN_COMPACTIONS: u64 = 1 << 15;
 
-/// A desk, with the handle that waits for its lock. It implements [`Gate`] by [`Desk::enter`], [`Desk::may_go_on`] and
+/// A desk, with the handle that waits for its lock. It implements [`Gate`] by
+/// [`Desk::enter_with_compaction`], [`Desk::may_go_on`] and
 /// [`Desk::leave`]. It keeps the history small: it compacts the history from time to time, and when it is full.
 #[derive(Drop)]
 pub struct DeskGate<'a, N: Names, R> {
@@ -36,13 +37,7 @@ impl<N: Names, R: Wait> Gate<N> for DeskGate<'_, N, R> {
         × (enter_refusal b service ≡ None) × IsTicket b service t };
 
     fn enter(&self, seat: &mut Seat<N>, service: Service) -> Result<Ticket, EnterFault> {
-        match self.desk.enter(self.rt, seat, service) {
-            Err(EnterFault::HistoryFull) => {
-                let _dropped = self.desk.compact(self.rt);
-                self.desk.enter(self.rt, seat, service)
-            }
-            answer => answer,
-        }
+        self.desk.enter_with_compaction(self.rt, seat, service)
     }
 
     fn may_go_on(&self, seat: &mut Seat<N>) -> GoOn {

@@ -16,7 +16,7 @@ use Rattle.bg_operator.specs.Shapes.{Shape, AnyWord, Number, OneOf, Exactly, AtM
 pub record Row : Type 0 where
   pub first : List ℕ
   pub shape : Shape
-  pub order : List (List ℕ) → Option Command
+  pub command : List (List ℕ) → Option Command
 
 -- the command of a revision's name and its ports
 abbrev pub with_template : (List ℕ → List ℕ → Command) → List (List ℕ) → Option Command
@@ -32,7 +32,7 @@ abbrev pub open_row : Row
 open_row = record {
   first = codes "open";
   shape = template_shape;
-  order = with_template Open;
+  command = with_template Open;
 }
 
 -- `deploy NAME PORT..`
@@ -40,95 +40,95 @@ abbrev pub deploy_row : Row
 deploy_row = record {
   first = codes "deploy";
   shape = template_shape;
-  order = with_template (λ name ports. Control (Deploy name ports));
+  command = with_template (λ name ports. Control (Deploy name ports));
 }
 
-abbrev pub tick_order : List (List ℕ) → Option Command
-tick_order (moment ∷ []) = Some (Control (Tick (digits_value 10 moment)))
-tick_order _ = None
+abbrev pub tick_command : List (List ℕ) → Option Command
+tick_command (moment ∷ []) = Some (Control (Tick (digits_value 10 moment)))
+tick_command _ = None
 
 -- `tick MOMENT`
 abbrev pub tick_row : Row
 tick_row = record {
   first = codes "tick";
   shape = Exactly (Number 64 ∷ []);
-  order = tick_order;
+  command = tick_command;
 }
 
-abbrev pub available_order : List (List ℕ) → Option Command
-available_order (revision ∷ size ∷ []) =
+abbrev pub available_command : List (List ℕ) → Option Command
+available_command (revision ∷ size ∷ []) =
     Some (Control (Available (digits_value 10 revision) (digits_value 10 size)))
-available_order _ = None
+available_command _ = None
 
 -- `available REVISION SIZE`
 abbrev pub available_row : Row
 available_row = record {
   first = codes "available";
   shape = Exactly (Number 64 ∷ Number 32 ∷ []);
-  order = available_order;
+  command = available_command;
 }
 
-abbrev pub verdict_order : List (List ℕ) → Option Command
-verdict_order (analysis ∷ result ∷ []) =
+abbrev pub verdict_command : List (List ℕ) → Option Command
+verdict_command (analysis ∷ result ∷ []) =
     option_and_then (λ a. option_map (λ r. Control (Verdict a r)) (meaning_in results result))
     (meaning_in analyses analysis)
-verdict_order _ = None
+verdict_command _ = None
 
 -- `verdict pre` or `verdict post`, and then `successful`, `failed` or `error`
 abbrev pub verdict_row : Row
 verdict_row = record {
   first = codes "verdict";
   shape = Exactly (OneOf (words_in analyses) ∷ OneOf (words_in results) ∷ []);
-  order = verdict_order;
+  command = verdict_command;
 }
 
-abbrev pub promote_order : List (List ℕ) → Option Command
-promote_order [] = Some (Control Promote)
-promote_order (full ∷ []) = Some (Control PromoteFull)
-promote_order _ = None
+abbrev pub promote_command : List (List ℕ) → Option Command
+promote_command [] = Some (Control Promote)
+promote_command (full ∷ []) = Some (Control PromoteFull)
+promote_command _ = None
 
 -- `promote` or `promote full`
 abbrev pub promote_row : Row
 promote_row = record {
   first = codes "promote";
   shape = AtMost (OneOf (codes "full" ∷ []) ∷ []);
-  order = promote_order;
+  command = promote_command;
 }
 
-abbrev pub enter_order : List (List ℕ) → Option Command
-enter_order (seat ∷ service ∷ []) =
+abbrev pub enter_command : List (List ℕ) → Option Command
+enter_command (seat ∷ service ∷ []) =
     option_map (Enter (digits_value 10 seat)) (meaning_in services service)
-enter_order _ = None
+enter_command _ = None
 
 -- `enter SEAT active` or `enter SEAT preview`
 abbrev pub enter_row : Row
 enter_row = record {
   first = codes "enter";
   shape = Exactly (Number 32 ∷ OneOf (words_in services) ∷ []);
-  order = enter_order;
+  command = enter_command;
 }
 
-abbrev pub leave_order : List (List ℕ) → Option Command
-leave_order (seat ∷ []) = Some (Leave (digits_value 10 seat))
-leave_order _ = None
+abbrev pub leave_command : List (List ℕ) → Option Command
+leave_command (seat ∷ []) = Some (Leave (digits_value 10 seat))
+leave_command _ = None
 
 -- `leave SEAT`
 abbrev pub leave_row : Row
 leave_row = record {
   first = codes "leave";
   shape = Exactly (Number 32 ∷ []);
-  order = leave_order;
+  command = leave_command;
 }
 
-abbrev pub down_order : List (List ℕ) → Option Command
-down_order ports = Some (Down (map (digits_value 10) ports))
+abbrev pub down_command : List (List ℕ) → Option Command
+down_command ports = Some (Down (map (digits_value 10) ports))
 
 -- `down PORT..`, or `down`
 abbrev pub down_row : Row
 down_row = record {
   first = codes "down";
   shape = AnyNumber (Number 16);
-  order = down_order;
+  command = down_command;
 }
 
 -- a line of one word
@@ -136,7 +136,7 @@ abbrev pub single_word : List ℕ → Command → Row
 single_word first command = record {
   first = first;
   shape = Exactly [];
-  order = λ words. Some command;
+  command = λ words. Some command;
 }
 
 -- the table of lines
@@ -155,7 +155,7 @@ rows =
 -- without a fault always have a command.
 abbrev pub row_reading : Row → List (List ℕ) → Result Command LineFault
 row_reading row words =
-    option_map_or Err (shape_fault row.shape words) (ok_or (row.order words) WrongCount)
+    option_map_or Err (shape_fault row.shape words) (ok_or (row.command words) WrongCount)
 
 -- the result of reading words
 abbrev pub words_reading : List (List ℕ) → Result Command LineFault

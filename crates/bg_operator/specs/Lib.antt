@@ -8,4 +8,3 @@ pub mod Commands
 pub mod HttpLines
 pub mod FaultNames
 pub mod OperatorLines
-pub mod Keeping

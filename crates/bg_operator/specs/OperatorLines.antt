@@ -1,11 +1,10 @@
 -- How the lines of a script or of a control connection are read, one after the other.
-use Rattle.std.specs.Prelude.{◌≡◌, ℕ, Bool, true, false, List, [], ◌∷◌, Option, Some, None, Result, Ok}
+use Rattle.std.specs.Prelude.{◌≡◌, ℕ, Bool, false, List, [], ◌∷◌, Option, Some, None, Result}
 use Rattle.bg_operator.specs.Commands.{IsReadAs, line_reading}
 use Rattle.bg_operator.specs.HttpLines.{speaks_http}
 use Rattle.bg_operator.specs.Lines.{lines_of}
 use Rattle.bg_operator.specs.declared.operator_lines.OperatorLines.{OperatorLines}
 use Rattle.bg_operator.specs.declared.command.Command.{Command}
-use Rattle.bg_operator.specs.declared.command.Command.TheVariants.{Quit}
 use Rattle.bg_operator.specs.declared.line_fault.LineFault.{LineFault}
 
 -- the next line of the bytes xs, after which ys are unread: its command, or why it gives none, and
@@ -19,8 +18,3 @@ NextIs None http xs ys = (lines_of xs ≡ []) × (http ≡ false)
 -- whether the last line gives no command and is a line of HTTP
 abbrev pub last_speaks_http : OperatorLines → Bool
 last_speaks_http lines = lines.speaks_http
-
--- the line is `quit`
-abbrev pub orders_quit : Result Command LineFault → Bool
-orders_quit (Ok Quit) = true
-orders_quit _ = false

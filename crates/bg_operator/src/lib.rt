@@ -9,7 +9,6 @@
 
 mod command;
 mod http_lines;
-mod keeping;
 mod line_fault;
 mod lines;
 mod operator_lines;
@@ -21,10 +20,9 @@ mod vocabulary;
 mod words;
 
 pub use command::Command;
-pub use keeping::Keeping;
 pub use line_fault::LineFault;
 pub use lines::{Found, next_line};
-pub use operator_lines::{OperatorLines, is_quit};
+pub use operator_lines::OperatorLines;
 pub use parsing::parse_line;
 pub use read_fault::ReadFault;
 pub use strategy_part::{StrategyPart, part_before_script, whole_input};

@@ -31,7 +31,7 @@ pub enum LineFault {
     /// place.
     #[error("a word of the line is not a number that its place allows")]
     BadNumber,
-    /// It is a well-formed `open`, `deploy` or `down`, and the allocation for its name or its ports failed.
+    /// It is well formed, and the allocation for its name or its ports failed.
     #[error("out of memory")]
     OutOfMemory,
 }

@@ -2,7 +2,7 @@
 ghost use Rattle.std.specs.Prelude.{◌≡◌, ◌≤◌, List, ℕ, IfOk, length, false};
 ghost use Rattle.bg_operator.specs.Reading.{Gives, Known};
 ghost use Rattle.bg_operator.specs.HttpLines.{speaks_http};
-ghost use Rattle.bg_operator.specs.OperatorLines.{NextIs, last_speaks_http, orders_quit};
+ghost use Rattle.bg_operator.specs.OperatorLines.{NextIs, last_speaks_http};
 
 use crate::command::Command;
 use crate::http_lines::is_field_or_request;
@@ -60,13 +60,6 @@ impl OperatorLines {
     {
         self.speaks_http
     }
-}
-
-/// Whether the line is `quit`.
-pub fn is_quit(read: &Result<Command, LineFault>) -> bool
-    ensures { result ≡ orders_quit read.now }
-{
-    matches!(read, Ok(Command::Quit))
 }
 
 /// The command of the line that was found, if there is one, and whether it gives no command and is a

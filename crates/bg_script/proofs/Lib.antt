@@ -1,6 +1,6 @@
-pub mod Quitting
 pub mod FoundInBytes
-pub mod ScriptSteps
-pub mod ControlSteps
+pub mod KnownInput
+pub mod LinesInOrder
+pub mod ScriptLines
 pub mod ReplayedBytes
 pub mod FreshBuffer

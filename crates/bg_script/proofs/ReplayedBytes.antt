@@ -11,7 +11,8 @@ use Rattle.bg_operator.specs.declared.strategy_part.StrategyPart.TheVariants as 
 use Rattle.bg_script.specs.Findings.{IsFinding, IsFoundIn}
 use Rattle.bg_operator.specs.Parting.{IsPart, part_of, rest_of, largest_strategy}
 use Rattle.bg_operator.specs.Reading.{Known}
-use Rattle.bg_script.specs.Scripts.{Closed, Ran, RanBy, Refuses, Replays}
+use Rattle.bg_script.specs.LineSteps.{Closed}
+use Rattle.bg_script.specs.Scripts.{Ran, RanBy, Refuses, Replays}
 
 part_finding : (p : StrategyPart) (f : Finding) (xs ys : List ℕ) → IsPart p xs ys → IsFoundIn p f → IsFinding f (part_of xs)
 part_finding (part.Whole text) (Means s) xs ys taken found =

@@ -40,19 +40,7 @@ impl Answer {
     pub fn is_fault(self) -> bool
         ensures { result ≡ is_fault_of self }
     {
-        match self {
-            Answer::Unread(_) => true,
-            Answer::Opened
-            | Answer::OpenRefused(_)
-            | Answer::NotOpen
-            | Answer::AlreadyOpen
-            | Answer::Made(_)
-            | Answer::Compacted(_)
-            | Answer::MarkedDown(_)
-            | Answer::BadPorts
-            | Answer::NotHere
-            | Answer::OutOfMemory => false,
-        }
+        matches!(self, Answer::Unread(_))
     }
 }
 

@@ -1,121 +1,176 @@
-//! Answers the lines of a script by an open book.
-ghost use Rattle.std.specs.Prelude.{◌≡◌, ◌≤◌, IfOk, IfErr};
-ghost use Rattle.bg_ledger.specs.Blanks.{AreAllFor};
-ghost use Rattle.bg_script.specs.declared.answer.Answer.TheVariants.{Opened, OpenRefused};
-ghost use Rattle.bg_script.specs.Scripts.{OpenStep, Said, Reported, Closed, Running};
-ghost use Rattle.bg_script.specs.LineAnswers.{LineAnswered, StepRead, Wrote};
+//! Answers the lines of a script or of a control connection, one after the other.
+ghost use Rattle.std.specs.Prelude.{◌≡◌, ◌&&◌, IfOk, OnOk};
+ghost use Rattle.std.specs.Io.KnownBytes.{Keeps};
+ghost use Rattle.bg_operator.specs.OperatorLines.{last_speaks_http};
+ghost use Rattle.bg_operator.specs.Reading.{Known};
+ghost use Rattle.bg_script.specs.LineAnswers.{AnswersLines, LineIsAnswered, MayEnd, StepIs};
+ghost use Rattle.bg_script.specs.LineSteps.{MayFollow, is_connection};
 
 use crate::answer::{Answer, write_answer};
 use crate::run_end::RunEnd;
-use bg_book::{Book, Call, Limits, OpenBook, OpenFault};
-use bg_ledger::{Blanks, Names};
-use bg_operator::{Command, LineFault};
-use bg_strategy::Strategy;
-use std::alloc::Global;
-use std::io::Write;
+use crate::stages::LineStage;
+use bg_book::Call;
+use bg_operator::{Command, LineFault, MOST_TURNS, OperatorLines};
+use bg_revisions::{Name, Ports};
+use std::io::{BufRead, Write};
 
-/// The settings with which each `open` of a script opens its book.
-#[derive(Drop)]
-pub struct Terms<'a> {
-    /// The allocator of the book.
-    pub alloc: Global,
-    /// The strategy of the rollout.
-    pub strategy: &'a Strategy,
-    /// The number of seats, 1 to 8. With any other number, each `open` is refused.
-    pub seats: u32,
+/// The first revision of a book that an `open` asks for.
+#[derive(Debug, Drop)]
+pub struct FirstRevision {
+    pub name: Name,
+    pub ports: Ports,
 }
 
-/// Opens the book with the usual limits.
-fn open<N: Names>(
-    terms: &Terms,
-    name: &str,
-    ports: &[u16],
-    blanks: Blanks,
-) -> Result<OpenBook<N>, OpenFault>
-    requires blanks { AreAllFor N.Names blanks }
-    requires seats { 1 ≤ terms.now.seats → terms.now.seats ≤ 8 → N.seats ≡ terms.now.seats }
-    ensures ok { IfOk result (λ made. OpenStep terms.now.strategy.now terms.now.seats name.now
-        ports.now (Said Opened) (Running made.book made.seats)) }
-    ensures err { IfErr result (λ fault. OpenStep terms.now.strategy.now terms.now.seats
-        name.now ports.now (Said (OpenRefused fault))
-        (Closed terms.now.strategy.now terms.now.seats)) }
-{
-    OpenBook::open(
-        terms.alloc,
-        terms.strategy,
-        name,
-        ports,
-        terms.seats,
-        Limits::usual(),
-        blanks,
-    )
+/// Why no more lines are answered.
+#[derive(Debug, Drop)]
+pub enum LinesEnd {
+    /// A line is an `open`, and no book is open. It is not answered yet.
+    Open(FirstRevision),
+    /// The line is `quit`, which is not answered.
+    Quit,
+    /// The line of a control connection is a fault and a line of HTTP. Its fault was written.
+    SpeaksHttp,
+    /// There is no further line.
+    End,
 }
 
-/// Carries out a line while no book is open. `open` gives the book or is refused; every other
-/// command is refused. A line that gives no command is answered with its fault.
-pub fn begin<N: Names>(
-    terms: &Terms,
-    read: &Result<Command, LineFault>,
-    blanks: Blanks,
-) -> Result<OpenBook<N>, Answer>
-    requires blanks { AreAllFor N.Names blanks }
-    requires seats { 1 ≤ terms.now.seats → terms.now.seats ≤ 8 → N.seats ≡ terms.now.seats }
-    ensures ok { IfOk result
-        (λ made. StepRead (Closed terms.now.strategy.now terms.now.seats) read.now
-        (Said Opened) (Running made.book made.seats)) }
-    ensures err { IfErr result
-        (λ answer. StepRead (Closed terms.now.strategy.now terms.now.seats) read.now
-        (Said answer) (Closed terms.now.strategy.now terms.now.seats)) }
+/// What a line leads to.
+#[derive(Debug, Drop)]
+pub(crate) enum LineResult {
+    /// This answer.
+    Said(Answer),
+    /// The report of the stage.
+    Report,
+    /// The end of the lines.
+    Ends(LinesEnd),
+}
+
+/// What comes after a line.
+#[derive(Debug, Drop)]
+pub(crate) enum AfterLine {
+    /// The line was answered, and the next one may come.
+    GoesOn { is_fault: bool },
+    /// No more lines are answered.
+    Ends(LinesEnd),
+}
+
+/// How lines were answered.
+#[derive(Debug, Drop)]
+pub(crate) struct LinesAnswered {
+    /// Why no more are answered.
+    pub end: LinesEnd,
+    /// Whether a fault was written.
+    pub faulted: bool,
+}
+
+/// Carries out a line at a stage. The report is left to [`LineStage::report`], which writes it.
+pub(crate) fn step<S: LineStage>(stage: &mut S, read: Result<Command, LineFault>) -> LineResult
+    ensures is { StepIs (S.stage stage.old) read (S.stage stage.new) result }
+    ensures next { MayFollow (S.stage stage.old) (S.stage stage.new) }
 {
     match read {
         Ok(Command::Open { name, ports }) => {
-            match open::<N>(terms, name.get(), ports.get(), blanks) {
-                Ok(made) => Ok(made),
-                Err(fault) => Err(Answer::OpenRefused(fault)),
+            if stage.is_open() {
+                LineResult::Said(Answer::AlreadyOpen)
+            } else {
+                LineResult::Ends(LinesEnd::Open(FirstRevision { name, ports }))
             }
         }
-        Ok(_) => Err(Answer::NotOpen),
-        Err(fault) => Err(Answer::Unread(*fault)),
+        Ok(Command::Control(event)) => LineResult::Said(stage.event(event)),
+        Ok(Command::Enter { seat, service }) => {
+            LineResult::Said(stage.request(&Call::Enter { seat, service }))
+        }
+        Ok(Command::Leave { seat }) => LineResult::Said(stage.request(&Call::Leave { seat })),
+        Ok(Command::Down { ports }) => LineResult::Said(stage.down(ports)),
+        Ok(Command::Report) => LineResult::Report,
+        Ok(Command::Compact) => LineResult::Said(stage.compact()),
+        Ok(Command::Quit) => LineResult::Ends(LinesEnd::Quit),
+        Err(fault) => LineResult::Said(Answer::Unread(fault)),
     }
 }
 
-/// Answers a line by an open book. Returns whether the answer is a fault.
-pub fn answer_by<N: Names, W: Write>(
-    opened: &mut OpenBook<N>,
+/// Carries out a line at a stage, and writes the answer. The answer of a control connection is flushed.
+fn answer_line<S: LineStage, W: Write>(
+    stage: &mut S,
     read: Result<Command, LineFault>,
     writer: &mut W,
-) -> Result<bool, RunEnd>
-    ensures { IfOk result (LineAnswered (Running opened.old.book opened.old.seats) read
-        (W.contents writer.old) (W.contents writer.new)
-        (Running opened.new.book opened.new.seats)) }
+) -> Result<AfterLine, RunEnd>
+    ensures answered { IfOk result (LineIsAnswered (S.stage stage.old) read
+        (W.contents writer.old) (W.contents writer.new) (S.stage stage.new)) }
+    ensures next { MayFollow (S.stage stage.old) (S.stage stage.new) }
 {
-    let call = match read {
-        Ok(Command::Control(event)) => Call::Control(event),
-        Ok(Command::Enter { seat, service }) => Call::Enter { seat, service },
-        Ok(Command::Leave { seat }) => Call::Leave { seat },
-        Ok(Command::Down { .. }) => return say(Answer::NotHere, writer),
-        Ok(Command::Report) => return write_report(opened.book(), writer),
-        Ok(Command::Compact) => return say(Answer::Compacted(opened.compact()), writer),
-        Ok(Command::Open { .. } | Command::Quit) => return say(Answer::AlreadyOpen, writer),
-        Err(fault) => return say(Answer::Unread(fault), writer),
-    };
-    let reply = opened.call(&call);
-    say(Answer::Made(reply), writer)
+    match step(stage, read) {
+        LineResult::Said(answer) => {
+            write_answer(&answer, writer)?;
+            flush(stage, writer)?;
+            Ok(AfterLine::GoesOn {
+                is_fault: answer.is_fault(),
+            })
+        }
+        LineResult::Report => {
+            stage.report(writer)?;
+            flush(stage, writer)?;
+            Ok(AfterLine::GoesOn { is_fault: false })
+        }
+        LineResult::Ends(end) => Ok(AfterLine::Ends(end)),
+    }
 }
 
-/// Writes an answer. Returns whether it is a fault.
-pub fn say<W: Write>(answer: Answer, writer: &mut W) -> Result<bool, RunEnd>
-    ensures { IfOk result (Wrote (Said answer) (W.contents writer.old) (W.contents writer.new)) }
+/// Flushes the writer of a control connection, since an operator may wait for the answer.
+fn flush<S: LineStage, W: Write>(stage: &S, writer: &mut W) -> Result<(), RunEnd>
+    ensures { OnOk result (Keeps (W.contents writer.old) (W.contents writer.new)) }
 {
-    write_answer(&answer, writer)?;
-    Ok(answer.is_fault())
+    if stage.is_connection() {
+        writer.flush()?;
+    }
+    Ok(())
 }
 
-/// Writes the report, which is not a fault.
-fn write_report<N: Names, W: Write>(book: &Book<N>, writer: &mut W) -> Result<bool, RunEnd>
-    ensures { IfOk result
-        (Wrote (Reported book.now) (W.contents writer.old) (W.contents writer.new)) }
+/// Answers each line from a stage on, up to an `open` without an open book, a `quit`, a line of HTTP at a control
+/// connection, or the end.
+///
+/// If a line of a control connection gives no command and is a request line or a field line of HTTP
+/// ([`OperatorLines::speaks_http`]), the answer is its fault, and no line after it is read. A browser sends such lines
+/// before the lines of a request's body, which no operator has written. A `RunEnd` comes if a read, a write or the
+/// allocation for a line fails, and after 2^24 lines.
+pub(crate) fn answer_lines<S: LineStage, B: BufRead, W: Write>(
+    stage: &mut S,
+    lines: &mut OperatorLines,
+    reader: &mut B,
+    writer: &mut W,
+) -> Result<LinesAnswered, RunEnd>
+    ensures answers { IfOk result (λ done. Known (B.remaining reader.old) (B.remaining reader.new)
+        (AnswersLines (S.stage stage.old) done.end done.faulted (W.contents writer.old)
+        (W.contents writer.new) (S.stage stage.new))) }
+    ensures may_end { IfOk result (λ done. MayEnd done.end (S.stage stage.new)) }
+    ensures next { MayFollow (S.stage stage.old) (S.stage stage.new) }
 {
-    bg_report::report(book, writer)?;
-    Ok(false)
+    let mut faulted = false;
+    for _ in 0..MOST_TURNS {
+        let Some(read) = lines.next(reader)? else {
+            return Ok(LinesAnswered {
+                end: LinesEnd::End,
+                faulted,
+            });
+        };
+        let is_last = ends_connection(stage, lines);
+        match answer_line(stage, read, writer)? {
+            AfterLine::GoesOn { is_fault } => faulted |= is_fault,
+            AfterLine::Ends(end) => return Ok(LinesAnswered { end, faulted }),
+        }
+        if is_last {
+            return Ok(LinesAnswered {
+                end: LinesEnd::SpeaksHttp,
+                faulted: true,
+            });
+        }
+    }
+    Err(RunEnd::ReadFailed)
+}
+
+/// Whether the last line is one of HTTP at a control connection, so that no line after it is answered.
+fn ends_connection<S: LineStage>(stage: &S, lines: &OperatorLines) -> bool
+    ensures { result ≡ (is_connection (S.stage stage.now) && last_speaks_http lines.now) }
+{
+    stage.is_connection() && lines.speaks_http()
 }

@@ -34,14 +34,18 @@ impl Finding {
     }
 }
 
-/// Reads the strategy. The only error is an allocation failure.
-pub fn finding_in(alloc: Global, part: &StrategyPart) -> Result<Finding, RunEnd>
+/// Reads the strategy, and writes hints about its text to `errors`. The only error is an allocation failure.
+pub fn finding_in<E: Write>(
+    alloc: Global,
+    part: &StrategyPart,
+    errors: &mut E,
+) -> Result<Finding, RunEnd>
     ensures { MatchResult result (IsFoundIn part.now) (λ end. end ≡ RunEnd.OutOfMemory) }
 {
     let StrategyPart::Whole(text) = part else {
         return Ok(Finding::TooLarge);
     };
-    match bg_strategy::read(alloc, text) {
+    match bg_strategy::read_with_hints(alloc, text, errors) {
         Ok(strategy) => Ok(Finding::Means(strategy)),
         Err(fault) => refused(fault),
     }

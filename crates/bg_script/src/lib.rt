@@ -1,4 +1,4 @@
-//! `check`, `replay` and the control side of `serve`, over any reader and writer.
+//! `check`, `replay` and the answers to a control connection, over any reader and writer.
 //!
 //! [`check`] says what a strategy means; [`replay`] answers the lines of a script by a book of that
 //! strategy. Both write exact texts and return the exit status. A [`RunEnd`] says why a run ended
@@ -10,16 +10,19 @@
 mod answer;
 mod answering;
 mod checking;
-mod control_side;
+mod control_connection;
 mod finding;
 mod marks_down;
 mod replaying;
 mod run_end;
+mod stages;
 
 pub use answer::{Answer, write_answer};
+pub use answering::{FirstRevision, LinesEnd};
 pub use checking::{check, finding_of_input};
-pub use control_side::{BeforeOpen, ControlEnd, FirstRevision, answer_at_desk, answer_before_open};
+pub use control_connection::{ControlEnd, answer_at_desk, answer_before_open};
 pub use finding::{Finding, write_finding};
 pub use marks_down::MarksDown;
 pub use replaying::replay;
 pub use run_end::RunEnd;
+pub use stages::AtDesk;

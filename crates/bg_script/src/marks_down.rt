@@ -1,6 +1,6 @@
 //! The ports that a line `down` names, and the receiver that they go to.
 ghost use Rattle.std.specs.Prelude.{◌≡◌, true};
-ghost use Rattle.bg_script.specs.Connections.{IsDownAnswer, may_be_down};
+ghost use Rattle.bg_script.specs.LineSteps.{IsDownAnswer, may_be_down};
 
 use crate::answer::Answer;
 use bg_revisions::are_replica_ports;

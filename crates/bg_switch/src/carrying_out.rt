@@ -12,33 +12,35 @@ use std::io::{BufWriter, Read, Write};
 /// [`check`] over a writer to which it adds a buffer. Returns the exit status, and the writer after
 /// all is written. The errors are those of [`check`], `OutOfMemory` if the allocation for the buffer fails,
 /// and `WriteFailed` if the last write fails.
-pub fn check_buffered<R: Read, W: Write + Drop>(
+pub fn check_buffered<R: Read, W: Write + Drop, E: Write>(
     alloc: Global,
     reader: &mut R,
     writer: W,
+    errors: &mut E,
 ) -> Result<(u8, W), RunEnd>
     ensures { IfOk result (λ done. IfSome (R.remaining reader.old)
         (Checks (W.contents writer) (W.contents done.1) done.0)) }
 {
     let mut buffered = buffered(alloc, writer)?;
-    let status = check(alloc, reader, &mut buffered)?;
+    let status = check(alloc, reader, &mut buffered, errors)?;
     Ok((status, written_out(buffered)?))
 }
 
 /// [`replay`] over a writer to which it adds a buffer. Returns the exit status, and the writer after
 /// all is written. The errors are those of [`replay`], `OutOfMemory` if the allocation for the buffer fails,
 /// and `WriteFailed` if the last write fails.
-pub fn replay_buffered<R: Read, W: Write + Drop>(
+pub fn replay_buffered<R: Read, W: Write + Drop, E: Write>(
     alloc: Global,
     seats: u8,
     reader: &mut R,
     writer: W,
+    errors: &mut E,
 ) -> Result<(u8, W), RunEnd>
     ensures { IfOk result (λ done. IfSome (R.remaining reader.old)
         (Replays seats (W.contents writer) (W.contents done.1) done.0)) }
 {
     let mut buffered = buffered(alloc, writer)?;
-    let status = replay(alloc, seats, reader, &mut buffered)?;
+    let status = replay(alloc, seats, reader, &mut buffered, errors)?;
     Ok((status, written_out(buffered)?))
 }
 

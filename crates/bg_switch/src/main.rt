@@ -20,7 +20,6 @@ use bg_access_log::AccessLog;
 use bg_command_line::{
     Invocation, InvocationFault, MessageTimeout, TIMEOUT_VARIABLE, parse_command_line,
 };
-use bg_operator::{Keeping, tell_reasons, tell_reasons_before_script};
 use bg_script::RunEnd;
 use std::env::VarError;
 use std::io::{ErrorKind, Write};
@@ -46,8 +45,7 @@ fn main(rt: HostRuntime) -> ExitCode {
         Invocation::Check => checked(&rt),
         Invocation::Replay { seats } => replayed(&rt, seats),
         Invocation::Serve(site) => {
-            let mut input = Keeping::new(rt.alloc(), rt.stdin());
-            let (mut output, mut errors) = (rt.stdout(), rt.stderr());
+            let (mut input, mut output, mut errors) = (rt.stdin(), rt.stdout(), rt.stderr());
             let timeout = message_timeout(&rt, &mut errors);
             let Ok(operators) = operator_users(&rt, &mut errors) else {
                 return ExitCode::FAILURE;
@@ -80,22 +78,25 @@ fn main(rt: HostRuntime) -> ExitCode {
 /// Carries out `check`, and writes hints about the text of the strategy to standard error. Returns
 /// the exit status.
 fn checked(rt: &HostRuntime) -> Result<u8, RunEnd> {
-    let mut input = Keeping::new(rt.alloc(), rt.stdin());
-    let (status, _stdout) = check_buffered(rt.alloc(), &mut input, rt.stdout())?;
-    if let Some(text) = input.take_kept() {
-        let _ = tell_reasons(rt.alloc(), &text, &mut rt.stderr());
-    }
+    let (status, _stdout) = check_buffered(
+        rt.alloc(),
+        &mut rt.stdin(),
+        rt.stdout(),
+        &mut rt.stderr(),
+    )?;
     Ok(status)
 }
 
 /// Carries out `replay`, and writes hints about the text of the strategy to standard error. Returns
 /// the exit status.
 fn replayed(rt: &HostRuntime, seats: u8) -> Result<u8, RunEnd> {
-    let mut input = Keeping::new(rt.alloc(), rt.stdin());
-    let (status, _stdout) = replay_buffered(rt.alloc(), seats, &mut input, rt.stdout())?;
-    if let Some(kept) = input.take_kept() {
-        let _ = tell_reasons_before_script(rt.alloc(), &kept, &mut rt.stderr());
-    }
+    let (status, _stdout) = replay_buffered(
+        rt.alloc(),
+        seats,
+        &mut rt.stdin(),
+        rt.stdout(),
+        &mut rt.stderr(),
+    )?;
     Ok(status)
 }
 

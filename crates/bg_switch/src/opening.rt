@@ -15,7 +15,7 @@ use bg_endpoints::Directory;
 use bg_ledger::{Blanks, Names, Seat};
 use bg_report::report;
 use bg_revisions::Service;
-use bg_script::{Answer, BeforeOpen, FirstRevision, RunEnd};
+use bg_script::{Answer, FirstRevision, LinesEnd, RunEnd};
 use bg_strategy::Strategy;
 use std::alloc::Global;
 use std::io;
@@ -85,9 +85,9 @@ where
     R: Net<Listener = TcpListener, Stream = TcpStream> + Threads + Wait + Clock + Sync,
 {
     let first = match operator.before_open(control) {
-        Ok(BeforeOpen::Open(first)) => first,
-        Ok(BeforeOpen::Quit) => return Ok(true),
-        Ok(BeforeOpen::SpeaksHttp | BeforeOpen::End) | Err(_) => return Ok(false),
+        Ok(LinesEnd::Open(first)) => first,
+        Ok(LinesEnd::Quit) => return Ok(true),
+        Ok(LinesEnd::SpeaksHttp | LinesEnd::End) | Err(_) => return Ok(false),
     };
     let blanks = Blanks::new();
     match open_and_serve::<Brand, R, W>(rt, scene, control, blanks, &first, operator, output) {

@@ -12,7 +12,7 @@ use bg_history::AnalysisResult;
 use bg_ledger::Names;
 use bg_operator::{Command, LineFault, OperatorLines};
 use bg_script::{
-    Answer, BeforeOpen, ControlEnd, RunEnd, answer_at_desk, answer_before_open, write_answer,
+    Answer, AtDesk, ControlEnd, LinesEnd, RunEnd, answer_at_desk, answer_before_open, write_answer,
 };
 use std::alloc::Global;
 use std::sync::Wait;
@@ -58,15 +58,15 @@ impl<'c, R: Clock + Wait> Operator<'c, R> {
     }
 
     /// Answers the next line while no book is open.
-    pub fn before_open(&mut self, control: &ControlPort) -> Result<BeforeOpen, RunEnd> {
+    pub fn before_open(&mut self, control: &ControlPort) -> Result<LinesEnd, RunEnd> {
         self.next(control);
         let mut line = self.line.as_slice();
         let end = answer_before_open(&mut self.lines, &mut line, &mut self.reply);
         match &end {
-            Ok(BeforeOpen::Open(_)) => {}
-            Ok(BeforeOpen::Quit) => self.tell_order(),
-            Ok(BeforeOpen::End) => self.deliver(control, AfterReply::GoesOn),
-            Ok(BeforeOpen::SpeaksHttp) => self.deliver(control, AfterReply::Closes),
+            Ok(LinesEnd::Open(_)) => {}
+            Ok(LinesEnd::Quit) => self.tell_order(),
+            Ok(LinesEnd::End) => self.deliver(control, AfterReply::GoesOn),
+            Ok(LinesEnd::SpeaksHttp) => self.deliver(control, AfterReply::Closes),
             Err(_) => self.end(control),
         }
         end
@@ -82,16 +82,14 @@ impl<'c, R: Clock + Wait> Operator<'c, R> {
     ) -> bool {
         self.next(control);
         let mut line = self.line.as_slice();
-        let end = answer_at_desk(
-            self.rt,
+        let at_desk = AtDesk {
+            rt: self.rt,
             alloc,
             desk,
-            self.telling.refused_lines(),
-            down,
-            &mut self.lines,
-            &mut line,
-            &mut self.reply,
-        );
+            refused_for_room: self.telling.refused_lines(),
+            receiver: down,
+        };
+        let end = answer_at_desk(at_desk, &mut self.lines, &mut line, &mut self.reply);
         match end {
             Ok(ControlEnd::Quit) => {
                 self.tell_order();

@@ -7,7 +7,6 @@ use bg_access_log::AccessLog;
 use bg_command_line::{Connections, MessageTimeout, Site};
 use bg_control_port::ControlPort;
 use bg_endpoints::{Directory, Share};
-use bg_operator::{Keeping, tell_reasons};
 use bg_peers::Users;
 use bg_revisions::Service;
 use bg_script::{Finding, RunEnd, finding_of_input, write_finding};
@@ -47,7 +46,7 @@ pub fn serve<R, I: Read, W: Write, E: Write>(
     alloc: Global,
     site: Site,
     settings: Settings,
-    input: &mut Keeping<I>,
+    input: &mut I,
     output: &mut W,
     errors: &mut E,
 ) -> Result<u8, RunEnd>
@@ -59,10 +58,7 @@ where
         log,
         operators,
     } = settings;
-    let finding = finding_of_input(alloc, input)?;
-    if let Some(text) = input.take_kept() {
-        let _ = tell_reasons(alloc, &text, errors);
-    }
+    let finding = finding_of_input(alloc, input, errors)?;
     let Finding::Means(strategy) = &finding else {
         written(write_finding(&finding, output))?;
         return Ok(finding.status());

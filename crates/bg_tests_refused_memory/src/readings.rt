@@ -7,6 +7,7 @@ use bg_command_line::{Invocation, parse_command_line};
 use bg_operator::{Command, parse_line};
 use bg_script::check;
 use std::alloc::Global;
+use std::io;
 
 const STRATEGY: &str =
     "{\"spec\": {\"replicas\": 2, \"strategy\": {\"blueGreen\": {\"activeService\": \"web\"}}}}";
@@ -55,7 +56,7 @@ fn make_settings<R: AllocGlobal + Print + Eprint>(rt: &R) -> Result<Page, Stop> 
 /// What a strategy means.
 fn new_settings(alloc: Global) -> Result<Page, Stop> {
     let mut settings = Page::new();
-    match check(alloc, &mut STRATEGY.as_bytes(), &mut settings)? {
+    match check(alloc, &mut STRATEGY.as_bytes(), &mut settings, &mut io::sink())? {
         0 => Ok(settings),
         _ => Err(Stop::OtherFault),
     }

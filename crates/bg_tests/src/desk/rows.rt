@@ -115,9 +115,8 @@ fn play<P: Player>(
             Command::Leave { seat } => reply(&player.call(&Call::Leave { seat }), answers)?,
             Command::Report => player.report(answers)?,
             Command::Compact => writeln!(answers, "compacted {}", player.compact())?,
-            Command::Open { .. } | Command::Down { .. } | Command::Quit => {
-                return Err(LineFault::UnknownWord.into());
-            }
+            // the other lines are not for a book
+            _ => return Err(LineFault::UnknownWord.into()),
         }
     }
     Ok(())

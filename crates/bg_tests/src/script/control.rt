@@ -8,7 +8,9 @@ use crate::script::streams::Unflushed;
 use bg_book::{Book, Desk, Limits};
 use bg_ledger::{Blanks, Names};
 use bg_operator::OperatorLines;
-use bg_script::{BeforeOpen, ControlEnd, MarksDown, RunEnd, answer_at_desk, answer_before_open};
+use bg_script::{
+    AtDesk, ControlEnd, LinesEnd, MarksDown, RunEnd, answer_at_desk, answer_before_open,
+};
 use std::alloc::{AllocError, Global};
 use std::cell::RefCell;
 use std::io::Write;
@@ -62,7 +64,7 @@ fn leaves_an_open_to_the_caller(rt: HostRuntime) -> Result<(), Fail> {
     let mut answers = Vec::new(rt.alloc());
     let mut lines = OperatorLines::new(rt.alloc());
     match answer_before_open(&mut lines, &mut reader, &mut answers) {
-        Ok(BeforeOpen::Open(first)) => {
+        Ok(LinesEnd::Open(first)) => {
             assert_eq!(rt; first.name.get(), "v1");
             assert_eq!(rt; first.ports.get(), [9001u16, 9002].as_slice());
         }
@@ -121,16 +123,14 @@ fn answer<N: Names, R: Wait>(
     let written = Written {
         text: RefCell::new(Vec::new(alloc)),
     };
-    let end = answer_at_desk(
+    let at_desk = AtDesk {
         rt,
         alloc,
-        &desk,
-        &refused,
-        &written,
-        &mut taken,
-        lines,
-        &mut answers,
-    );
+        desk: &desk,
+        refused_for_room: &refused,
+        receiver: &written,
+    };
+    let end = answer_at_desk(at_desk, &mut taken, lines, &mut answers);
     let history = desk.into_book().close(seats);
     expect_audited(alloc, &history, &strategy)?;
     Ok(Answered {
@@ -241,7 +241,7 @@ fn a_field_line_opens_no_book(rt: HostRuntime) -> Result<(), Fail> {
     let mut answers = Vec::new(rt.alloc());
     let mut lines = OperatorLines::new(rt.alloc());
     let end = answer_before_open(&mut lines, &mut reader, &mut answers);
-    assert!(rt; matches!(end, Ok(BeforeOpen::SpeaksHttp)));
+    assert!(rt; matches!(end, Ok(LinesEnd::SpeaksHttp)));
     assert_eq!(rt; answers.as_slice(), b"fault UnknownWord\n".as_slice());
     assert_eq!(rt; reader, b"open v1 9001 9002\n".as_slice());
     Ok(())

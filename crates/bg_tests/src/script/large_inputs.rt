@@ -1,6 +1,7 @@
 //! The number of bytes that are read of an input without end.
 use crate::script::streams::{Endless, Page};
 use bg_script::{check, replay};
+use std::io;
 use std::test::Fail;
 
 /// The maximum length of a strategy in bytes.
@@ -16,7 +17,7 @@ fn does_not_check_a_large_input_to_its_end(rt: HostRuntime) {
         count: 0,
     };
     let mut writer = Page::new();
-    let status = check(rt.alloc(), &mut reader, &mut writer);
+    let status = check(rt.alloc(), &mut reader, &mut writer, &mut io::sink());
     assert_eq!(rt; status, Ok(1));
     assert_eq!(rt; writer.as_slice(), b"fault TooLarge\n".as_slice());
     assert!(rt;
@@ -33,7 +34,7 @@ fn does_not_replay_a_large_strategy_to_its_end(rt: HostRuntime) {
         count: 0,
     };
     let mut writer = Page::new();
-    let status = replay(rt.alloc(), 4, &mut reader, &mut writer);
+    let status = replay(rt.alloc(), 4, &mut reader, &mut writer, &mut io::sink());
     assert_eq!(rt; status, Ok(1));
     assert_eq!(rt; writer.as_slice(), b"fault TooLarge\n".as_slice());
     assert!(rt;

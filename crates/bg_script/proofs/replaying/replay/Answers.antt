@@ -5,7 +5,8 @@ use Rattle.std.specs.Io.Buffered.{reader_remaining}
 use Rattle.bg_operator.specs.Parting.{IsPart}
 use Rattle.bg_script.specs.declared.finding.Finding.TheVariants.{Means}
 use Rattle.bg_script.specs.Findings.{IsFoundIn}
-use Rattle.bg_script.specs.Scripts.{Closed, Ran, Refuses, Replays}
+use Rattle.bg_script.specs.LineSteps.{Closed}
+use Rattle.bg_script.specs.Scripts.{Ran, Refuses, Replays}
 use Rattle.bg_script.proofs.FreshBuffer.{nothing_held, of_reader}
 use Rattle.bg_script.proofs.ReplayedBytes.{replays_refused, replays_script}
 use Rattle.bg_script.proofs.replaying.replay.Goals as goal

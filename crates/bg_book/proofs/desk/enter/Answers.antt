@@ -8,7 +8,7 @@ use Rattle.bg_rollout.specs.Changes.{Stepped, with_past, enter_entry}
 use Rattle.bg_rollout.specs.Routing.{Routing}
 use Rattle.bg_book.specs.Desks.{StepsTo}
 use Rattle.bg_book.specs.Headline.{Headline}
-use Rattle.bg_book.proofs.desk.Desk.enter.Goals as goal
+use Rattle.bg_book.proofs.desk.enter.Goals as goal
 
 -- the book after the call
 steps : (b new : Routing) (seat : ℕ) (service : Service) (seats : List Holding) (answer : Result Ticket EnterFault) → Headline new
@@ -19,10 +19,10 @@ steps b new seat service seats (Err e) headline step book = tt
 
 pub returns-clause-told : goal.returns-clause-told
 returns-clause-told g c = (
-  c.deref_mut-book.result.now,
+  c.args.book.now,
   c.headline.ensures,
   c.enter-answer.ensures.met,
   c.enter-answer.ensures.refusal,
   c.enter-answer.ensures.ticket,
-  steps c.deref_mut-book.result.now c.enter-answer.new.self c.args.seat.now.index c.args.service _ _ c.headline-2.ensures c.enter-answer.ensures.step c.enter-answer.ensures.book,
+  steps c.args.book.now c.enter-answer.new.self c.args.seat.now.index c.args.service _ _ c.headline-2.ensures c.enter-answer.ensures.step c.enter-answer.ensures.book,
 )

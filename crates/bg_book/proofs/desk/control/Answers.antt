@@ -7,7 +7,7 @@ use Rattle.bg_rollout.specs.Refusals.{event_of}
 use Rattle.bg_rollout.specs.Routing.{Routing}
 use Rattle.bg_book.specs.Desks.{StepsTo}
 use Rattle.bg_book.specs.Headline.{Headline}
-use Rattle.bg_book.proofs.desk.Desk.control.Goals as goal
+use Rattle.bg_book.proofs.desk.control.Goals as goal
 
 -- the book after the call
 steps : (b new : Routing) (control : Control) (answer : Result ℕ ControlFault) → Headline new
@@ -18,8 +18,8 @@ steps b new control (Err e) headline step book = tt
 
 pub returns-clause-told : goal.returns-clause-told
 returns-clause-told g c = (
-  c.deref_mut-book.result.now,
+  c.args.book.now,
   c.headline.ensures,
   c.control-answer.ensures.refusal,
-  steps c.deref_mut-book.result.now c.control-answer.new.self c.args.control.now _ c.headline-2.ensures c.control-answer.ensures.step c.control-answer.ensures.book,
+  steps c.args.book.now c.control-answer.new.self c.args.event.now _ c.headline-2.ensures c.control-answer.ensures.step c.control-answer.ensures.book,
 )

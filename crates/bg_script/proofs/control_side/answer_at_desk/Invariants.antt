@@ -1,8 +1,0 @@
-use Rattle.bg_operator.specs.Reading.{Known}
-use Rattle.bg_script.specs.Connections.{DeskStep}
-use Rattle.bg_script.proofs.ControlSteps.{Goes}
-use Rattle.bg_script.proofs.control_side.answer_at_desk.Given as goal
-
-abbrev pub invariant-loop : goal.invariant-loop
-invariant-loop g l = Known (g.B.Read.remaining l.fn.reader) (g.B.Read.remaining l.reader)
-    (Goes DeskStep (g.W.Write.contents l.fn.writer) (g.W.Write.contents l.writer))

@@ -1,0 +1,80 @@
+//! Answers the lines of a control connection.
+//!
+//! The lines are read and answered like those of a script, but requests enter and leave by the
+//! workers, not by lines. Each answer is flushed before the next line is read.
+ghost use Rattle.std.specs.Prelude.{IfOk};
+ghost use Rattle.bg_operator.specs.Reading.{Known};
+ghost use Rattle.bg_script.specs.Connections.{AnswersAtDesk, AnswersBeforeOpen};
+
+use crate::answering::{LinesEnd, answer_lines};
+use crate::marks_down::MarksDown;
+use crate::run_end::RunEnd;
+use crate::stages::{AtDesk, WithoutBook};
+use bg_ledger::Names;
+use bg_operator::OperatorLines;
+use std::io::{BufRead, Write};
+use std::sync::Wait;
+
+/// Why the answering of a control connection by an open book ended.
+#[derive(Clone, Copy, Debug, Drop, PartialEq, Eq)]
+pub enum ControlEnd {
+    /// The line is `quit`.
+    Quit,
+    /// The line is a fault and a line of HTTP. Its fault was written.
+    SpeaksHttp,
+    /// The connection has no further line.
+    End,
+}
+
+/// Answers each line while no book is open, up to an `open`, which is left to the caller, a `quit`,
+/// which is not answered, a line of HTTP, or the end of the connection.
+///
+/// If a line gives no command and is a request line or a field line of HTTP
+/// ([`OperatorLines::speaks_http`]), the answer is its fault, and no line after it is read. A browser
+/// sends such lines before the lines of a request's body, which no operator has written. The answer to
+/// `enter` and `leave` is `refused NotHere`, to other commands `refused NotOpen`, and to a line that
+/// gives no command its fault. A `RunEnd` comes if a read, a write or the allocation for a line fails, and
+/// after 2^24 lines.
+pub fn answer_before_open<B: BufRead, W: Write>(
+    lines: &mut OperatorLines,
+    reader: &mut B,
+    writer: &mut W,
+) -> Result<LinesEnd, RunEnd>
+    ensures { IfOk result (λ end. Known (B.remaining reader.old) (B.remaining reader.new)
+        (AnswersBeforeOpen end (W.contents writer.old) (W.contents writer.new))) }
+{
+    let mut stage = WithoutBook::Connection;
+    let answered = answer_lines(&mut stage, lines, reader, writer)?;
+    Ok(answered.end)
+}
+
+/// Answers each line by the book of a desk, up to a `quit`, which is not answered, a line of HTTP, or
+/// the end of the connection.
+///
+/// If a line gives no command and is a request line or a field line of HTTP, the answer is its fault, and no
+/// line after it is read. The answer to an event is that of [`bg_book::Desk::control_with_compaction`]. The answer to
+/// `report` is the report, or `refused OutOfMemory` if the allocation for it fails. The answer to `compact` is the
+/// number of entries that were dropped, to `open` `refused AlreadyOpen`, to `enter` and `leave` `refused NotHere`, and
+/// to a line that gives no command its fault. The ports of a `down` go to the receiver, and the answer is their number;
+/// if one of them is 0 or occurs twice, the answer is `refused BadPorts`, and the receiver is not called; if the
+/// receiver fails, the answer is `refused OutOfMemory`. In no case is the desk asked. Nothing is written while the desk
+/// is locked. A `RunEnd` comes if a read, a write or the allocation for a line fails, and after 2^24 lines.
+///
+/// Each event whose answer is `refused HistoryFull` adds 1 to `refused_for_room` of the desk.
+pub fn answer_at_desk<N: Names, R: Wait, M: MarksDown, B: BufRead, W: Write>(
+    mut at_desk: AtDesk<N, R, M>,
+    lines: &mut OperatorLines,
+    reader: &mut B,
+    writer: &mut W,
+) -> Result<ControlEnd, RunEnd>
+    ensures { IfOk result (λ end. Known (B.remaining reader.old) (B.remaining reader.new)
+        (AnswersAtDesk end (W.contents writer.old) (W.contents writer.new))) }
+{
+    let answered = answer_lines(&mut at_desk, lines, reader, writer)?;
+    match answered.end {
+        LinesEnd::Open(_) => unreachable!(),
+        LinesEnd::Quit => Ok(ControlEnd::Quit),
+        LinesEnd::SpeaksHttp => Ok(ControlEnd::SpeaksHttp),
+        LinesEnd::End => Ok(ControlEnd::End),
+    }
+}
