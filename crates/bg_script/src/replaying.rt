@@ -76,7 +76,7 @@ fn run<B: BufRead, W: Write>(
 {
     let mut faulted = false;
     for _ in 0..MOST_TURNS {
-        let mut stage = WithoutBook::Script(settings);
+        let mut stage = WithoutBook::Script(&*settings);
         let answered = answer_lines(&mut stage, lines, reader, writer)?;
         faulted |= answered.faulted;
         let first = match answered.end {
@@ -85,7 +85,7 @@ fn run<B: BufRead, W: Write>(
             LinesEnd::SpeaksHttp => unreachable!(),
         };
         let opening = Opening {
-            settings,
+            settings: &*settings,
             first: &first,
         };
         match run_open::<Brand, B, W>(&opening, Blanks::new(), lines, reader, writer) {

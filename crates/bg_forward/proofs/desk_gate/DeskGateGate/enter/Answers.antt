@@ -17,13 +17,7 @@ given : (b : Routing) (seat : Holding) (service : Service) (r : Result Ticket En
 given b seat service (Ok t) headline meets none is = (b, headline, meets, none, is)
 given b seat service (Err e) headline meets none is = tt
 
-pub returns-in-Err-HistoryFull-clause-gives : goal.returns-in-Err-HistoryFull-clause-gives
-returns-in-Err-HistoryFull-clause-gives g c =
-    let told = c.enter-in-Err-HistoryFull.ensures.told in
-    given told.0 c.args.seat.now c.args.service c.enter-in-Err-HistoryFull.result told.1
-    (subst (λ (seat : Holding). Meets told.0 seat) c.in-Err-HistoryFull.ensures.seat_unchanged told.2) told.3 told.4
-
-pub returns-in_default-2-clause-gives : goal.returns-in_default-2-clause-gives
-returns-in_default-2-clause-gives g c =
-    let told = c.enter.ensures.told in
-    given told.0 c.args.seat.now c.args.service c.enter.result told.1 told.2 told.3 told.4
+pub returns-clause-gives : goal.returns-clause-gives
+returns-clause-gives g c =
+    let told = c.enter_with_compaction.ensures.told in
+    given told.0 c.args.seat.now c.args.service c.enter_with_compaction.result told.1 told.2 told.3 told.4
