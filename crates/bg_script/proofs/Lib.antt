@@ -1,5 +1,6 @@
 pub mod FoundInBytes
 pub mod KnownInput
+pub mod StagesKept
 pub mod LinesInOrder
 pub mod ScriptLines
 pub mod ReplayedBytes

@@ -17,11 +17,6 @@ use Rattle.bg_script.specs.declared.answering.LinesEnd.TheVariants as lines_end
 use Rattle.bg_script.specs.LineAnswers.{Answered, AnswersLines, EndsByHttp, EndsLines, FirstIs, MayEnd, WroteAnswer, ends_connection, has_fault, text_of_all}
 use Rattle.bg_script.specs.LineSteps.{MayFollow, Stage, Written, Said, ReadStep, is_connection, is_fault_written, is_open, written_text}
 
--- an option that is not some is none
-pub none_of : {A : Type 0} (o : Option A) → ((a : A) → o ≢ Some a) → o ≡ None
-none_of None other = refl
-none_of (Some a) other = absurd (other a refl)
-
 or_assoc : (a b c : Bool) → (a || (b || c)) ≡ ((a || b) || c)
 or_assoc true b c = refl
 or_assoc false b c = refl
@@ -29,15 +24,6 @@ or_assoc false b c = refl
 pub or_false : (a : Bool) → (a || false) ≡ a
 or_false true = refl
 or_false false = refl
-
-pub follows_itself : (stage : Stage) → MayFollow stage stage
-follows_itself stage = record { connection = refl; closed = λ shut. refl }
-
-pub follows : (a b c : Stage) → MayFollow a b → MayFollow b c → MayFollow a c
-follows a b c p q = record {
-  connection = q.connection ∙ p.connection;
-  closed = λ shut. q.closed (ap is_open (p.closed shut) ∙ shut) ∙ p.closed shut;
-}
 
 -- lines were answered, and then further ones
 pub answered_then : (a b c : Stage) (lines middle rest : List (List ℕ)) (first later : List Written) → Answered a lines middle first b
@@ -61,9 +47,6 @@ pub record AnsweredFrom (start : Stage) (first last : Option (List ℕ)) (faulte
   pub answers : Answered start lines rest all next
   pub appended : Appends first last (text_of_all all)
   pub fault_is : faulted ≡ has_fault all
-
-pub nothing_answered : (stage : Stage) (first : Option (List ℕ)) (lines : List (List ℕ)) → AnsweredFrom stage first first false lines lines stage
-nothing_answered stage first lines = record { all = []; answers = (refl, refl); appended = Appends-nil first; fault_is = refl }
 
 -- the one after the other
 pub both_answered : (a b c : Stage) (first now last : Option (List ℕ)) (faulted later : Bool) (lines middle rest : List (List ℕ))
@@ -90,9 +73,6 @@ one_answered stage next first last line later read written is plain step wrote =
 abbrev pub Goes : Stage → Option (List ℕ) → Option (List ℕ) → Stage → Bool → List ℕ → List ℕ → Type 0
 Goes start first now stage faulted xs ys = AnsweredFrom start first now faulted (lines_of xs) (lines_of ys) stage
 
-pub goes_nowhere : (stage : Stage) (first : Option (List ℕ)) (xs : List ℕ) → Goes stage first first stage false xs xs
-goes_nowhere stage first xs = nothing_answered stage first (lines_of xs)
-
 -- the next line is answered
 pub goes_on : (start stage next : Stage) (first now new : Option (List ℕ)) (faulted fault http : Bool) (read : Result Command LineFault) (xs ys zs : List ℕ)
     → Goes start first now stage faulted xs ys → NextIs (Some read) http ys zs → (is_connection stage && http) ≡ false → WroteAnswer stage read now new next fault
@@ -103,54 +83,6 @@ goes_on start stage next first now new faulted fault http read xs ys zs p line p
     subst (λ (t : Bool). AnsweredFrom stage now new t (lines_of ys) (lines_of zs) next) (sym w.fault_is)
     (subst (λ ls. AnsweredFrom stage now new (is_fault_written w.written) ls (lines_of zs) next) (sym line.1) one) in
     both_answered start stage next first now new faulted fault (lines_of xs) (lines_of ys) (lines_of zs) p more
-
--- there is no further line
-pub ends : (start stage : Stage) (first now : Option (List ℕ)) (faulted http : Bool) (xs ys zs : List ℕ)
-    → Goes start first now stage faulted xs ys → NextIs None http ys zs → AnswersLines start lines_end.End faulted first now stage xs zs
-ends start stage first now faulted http xs ys zs p line = record {
-  rest = lines_of ys;
-  answered = now;
-  all = p.all;
-  answers = p.answers;
-  appended = p.appended;
-  fault_is = p.fault_is;
-  ends = (line.0, refl);
-}
-
--- the next line gives this command
-first_is : (command : Command) (read : Result Command LineFault) (http : Bool) (ys zs : List ℕ) → NextIs (Some read) http ys zs → read ≡ Ok command
-    → FirstIs command (lines_of ys) (lines_of zs)
-first_is command read http ys zs line is = (line.0, line.1, subst (λ r. IsReadAs (line_reading line.0) r) is line.2)
-
--- the next line ends the answering
-pub ends_by : (start stage : Stage) (first now : Option (List ℕ)) (faulted http : Bool) (read : Result Command LineFault) (end : LinesEnd) (xs ys zs : List ℕ)
-    → Goes start first now stage faulted xs ys → NextIs (Some read) http ys zs → EndsLines stage read end → AnswersLines start end faulted first now stage xs zs
-ends_by start stage first now faulted http read (lines_end.Open revision) xs ys zs p line is = record {
-  rest = lines_of ys;
-  answered = now;
-  all = p.all;
-  answers = p.answers;
-  appended = p.appended;
-  fault_is = p.fault_is;
-  ends = (first_is (command.Open revision.name revision.ports) read http ys zs line is.0, refl);
-}
-ends_by start stage first now faulted http read lines_end.Quit xs ys zs p line is = record {
-  rest = lines_of ys;
-  answered = now;
-  all = p.all;
-  answers = p.answers;
-  appended = p.appended;
-  fault_is = p.fault_is;
-  ends = (first_is command.Quit read http ys zs line is, refl);
-}
-ends_by start stage first now faulted http read lines_end.SpeaksHttp xs ys zs p line is = absurd is
-ends_by start stage first now faulted http read lines_end.End xs ys zs p line is = absurd is
-
-pub may_end_by : (stage next : Stage) (read : Result Command LineFault) (end : LinesEnd) → EndsLines stage read end → next ≡ stage → MayEnd end next
-may_end_by stage next read (lines_end.Open revision) is same = ap is_open same ∙ is.1
-may_end_by stage next read lines_end.Quit is same = tt
-may_end_by stage next read lines_end.SpeaksHttp is same = absurd is
-may_end_by stage next read lines_end.End is same = tt
 
 -- a line that speaks HTTP is a fault
 fault_of_http : (read : Result Command LineFault) (line : List ℕ) → speaks_http read line ≡ true → (fault : LineFault) × (read ≡ Err fault) × (is_http_line line ≡ true)

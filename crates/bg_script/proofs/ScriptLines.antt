@@ -1,5 +1,5 @@
 -- Lemmas on the lines of a script.
-use Rattle.std.proofs.Common.{◌≡◌, ℕ, Bool, false, ◌||◌, List, [], ◌∷◌, refl, sym, ap, ◌∙◌, subst, inl, inr, Option}
+use Rattle.std.proofs.Common.{◌≡◌, ◌⊎◌, ℕ, Bool, false, ◌||◌, List, [], ◌∷◌, refl, sym, subst, inl, inr, Option}
 use Rattle.std.specs.Prelude.{Result, Ok}
 use Rattle.std.specs.Io.KnownBytes.{Appends}
 use Rattle.bg_strategy.specs.declared.strategy.Strategy.{Strategy}
@@ -14,7 +14,7 @@ use Rattle.bg_script.specs.declared.answering.FirstRevision.{FirstRevision}
 use Rattle.bg_script.specs.declared.answering.LinesEnd.{LinesEnd}
 use Rattle.bg_script.specs.declared.answering.LinesEnd.TheVariants as lines_end
 use Rattle.bg_script.specs.AnswerTexts.{answer_text, is_fault}
-use Rattle.bg_script.specs.LineAnswers.{AnswersLines}
+use Rattle.bg_script.specs.LineAnswers.{Answered, AnswersLines, text_of_all}
 use Rattle.bg_script.specs.LineSteps.{Stage, Closed, Running, Said, ScriptOpens}
 use Rattle.bg_script.specs.Scripts.{IsOver, Ran, RanOpened}
 use Rattle.bg_script.proofs.LinesInOrder.{AnsweredFrom, Goes, both_answered, one_answered, or_false}
@@ -37,19 +37,26 @@ over start stage first last faulted xs rest p is = record {
   fault_is = p.fault_is;
 }
 
-pub ran_to_end : (start stage : Stage) (first last : Option (List ℕ)) (faulted : Bool) (xs ys : List ℕ)
+ran_to_end : (start stage : Stage) (first last : Option (List ℕ)) (faulted : Bool) (xs ys : List ℕ)
     → AnswersLines start lines_end.End faulted first last stage xs ys → Ran start first last faulted xs
 ran_to_end start stage first last faulted xs ys a =
     over start stage first last faulted xs a.rest
-    (record { all = a.all; answers = a.answers; appended = subst (λ o. Appends first o _) (sym a.ends.1) a.appended; fault_is = a.fault_is })
+    (record { all = a.all; answers = a.answers; appended = subst (λ (o : Option (List ℕ)). Appends first o (text_of_all a.all)) (sym a.ends.1) a.appended; fault_is = a.fault_is })
     (subst IsOver (sym a.ends.0) tt)
 
-pub ran_to_quit : (start stage : Stage) (first last : Option (List ℕ)) (faulted : Bool) (xs ys : List ℕ)
+ran_to_quit : (start stage : Stage) (first last : Option (List ℕ)) (faulted : Bool) (xs ys : List ℕ)
     → AnswersLines start lines_end.Quit faulted first last stage xs ys → Ran start first last faulted xs
 ran_to_quit start stage first last faulted xs ys a =
     over start stage first last faulted xs a.rest
-    (record { all = a.all; answers = a.answers; appended = subst (λ o. Appends first o _) (sym a.ends.1) a.appended; fault_is = a.fault_is })
+    (record { all = a.all; answers = a.answers; appended = subst (λ (o : Option (List ℕ)). Appends first o (text_of_all a.all)) (sym a.ends.1) a.appended; fault_is = a.fault_is })
     (subst IsOver (sym a.ends.0.1) (quit_reading a.ends.0.0 a.ends.0.2))
+
+pub ran_to_its_end : (start stage : Stage) (first last : Option (List ℕ)) (faulted : Bool) (end : LinesEnd) (xs ys : List ℕ)
+    → (end ≡ lines_end.Quit) ⊎ (end ≡ lines_end.End) → AnswersLines start end faulted first last stage xs ys → Ran start first last faulted xs
+ran_to_its_end start stage first last faulted end xs ys (inl is) a =
+    ran_to_quit start stage first last faulted xs ys (subst (λ (e : LinesEnd). AnswersLines start e faulted first last stage xs ys) is a)
+ran_to_its_end start stage first last faulted end xs ys (inr is) a =
+    ran_to_end start stage first last faulted xs ys (subst (λ (e : LinesEnd). AnswersLines start e faulted first last stage xs ys) is a)
 
 -- a run that goes on from here
 pub goes_through : (start stage : Stage) (first now last : Option (List ℕ)) (faulted later : Bool) (xs ys : List ℕ)
@@ -61,14 +68,19 @@ goes_through start stage first now last faulted later xs ys p r =
     r.is_over
 
 -- lines were answered up to an `open`, and then it was
-pub goes_past_open : (start next : Stage) (first now new : Option (List ℕ)) (faulted : Bool) (revision : FirstRevision) (s : Strategy) (count : ℕ) (said : Answer) (xs ys : List ℕ)
-    → AnswersLines start (lines_end.Open revision) faulted first now (Closed s count) xs ys
-    → ScriptOpens s count revision.name revision.ports (Said said) next → Appends now new (answer_text said)
-    → Goes start first new next (faulted || is_fault said) xs ys
-goes_past_open start next first now new faulted revision s count said xs ys a opens wrote =
+pub goes_past_open : (s : Strategy) (count : ℕ) (stage next : Stage) (first now mid new : Option (List ℕ)) (faulted later : Bool) (revision : FirstRevision) (said : Answer) (xs ys zs : List ℕ)
+    → Goes (Closed s count) first now (Closed s count) faulted xs ys → AnswersLines (Closed s count) (lines_end.Open revision) later now mid stage ys zs
+    → stage ≡ Closed s count → ScriptOpens s count revision.name revision.ports (Said said) next → is_fault said ≡ false → Appends mid new (answer_text said)
+    → Goes (Closed s count) first new next (faulted || later) xs zs
+goes_past_open s count stage next first now mid new faulted later revision said xs ys zs p a same opens plain wrote =
     let asked = a.ends.0 in
-    let one = one_answered (Closed s count) next a.answered new asked.0 (lines_of ys) (Ok (command.Open revision.name revision.ports)) (Said said) asked.2 refl opens
-    (subst (λ o. Appends o new (answer_text said)) a.ends.1 wrote) in
-    both_answered start (Closed s count) next first a.answered new faulted (is_fault said) (lines_of xs) a.rest (lines_of ys)
-    (record { all = a.all; answers = a.answers; appended = a.appended; fault_is = a.fault_is })
-    (subst (λ ls. AnsweredFrom (Closed s count) a.answered new (is_fault said) ls (lines_of ys) next) (sym asked.1) one)
+    let before : AnsweredFrom (Closed s count) now a.answered later (lines_of ys) a.rest (Closed s count) =
+    record { all = a.all; answers = subst (λ (t : Stage). Answered (Closed s count) (lines_of ys) a.rest a.all t) same a.answers; appended = a.appended; fault_is = a.fault_is } in
+    let one = one_answered (Closed s count) next a.answered new asked.0 (lines_of zs) (Ok (command.Open revision.name revision.ports)) (Said said) asked.2 refl opens
+    (subst (λ (o : Option (List ℕ)). Appends o new (answer_text said)) a.ends.1 wrote) in
+    let answered : AnsweredFrom (Closed s count) a.answered new false a.rest (lines_of zs) next =
+    subst (λ (t : Bool). AnsweredFrom (Closed s count) a.answered new t a.rest (lines_of zs) next) plain
+    (subst (λ ls. AnsweredFrom (Closed s count) a.answered new (is_fault said) ls (lines_of zs) next) (sym asked.1) one) in
+    let both = both_answered (Closed s count) (Closed s count) next now a.answered new later false (lines_of ys) a.rest (lines_of zs) before answered in
+    both_answered (Closed s count) (Closed s count) next first now new faulted later (lines_of xs) (lines_of ys) (lines_of zs) p
+    (subst (λ (t : Bool). AnsweredFrom (Closed s count) now new t (lines_of ys) (lines_of zs) next) (or_false later) both)
