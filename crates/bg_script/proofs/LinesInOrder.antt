@@ -1,21 +1,19 @@
 -- Lemmas on lines that are answered one after the other.
-use Rattle.std.proofs.Common.{◌≡◌, ℕ, Bool, true, false, ◌||◌, ◌&&◌, List, [], ◌∷◌, ◌++◌, refl, sym, ap, ◌∙◌, subst, Option, None, Some}
-use Rattle.std.specs.Prelude.{◌≢◌, Result, Ok, Err}
+use Rattle.std.proofs.Common.{◌≡◌, ℕ, Bool, true, false, ◌||◌, ◌&&◌, List, [], ◌∷◌, ◌++◌, refl, sym, ap, ◌∙◌, subst, Option, Some}
+use Rattle.std.specs.Prelude.{Result, Ok, Err}
 use Rattle.std.specs.Io.KnownBytes.{Appends}
-use Rattle.std.proofs.KnownBytes.{Appends-trans, Appends-nil}
+use Rattle.std.proofs.KnownBytes.{Appends-trans}
 use Rattle.std.proofs.lemmas.Grind.{flat_map-append}
 use Rattle.std.proofs.lemmas.List.{append-nil}
 use Rattle.bg_operator.specs.declared.command.Command.{Command}
-use Rattle.bg_operator.specs.declared.command.Command.TheVariants as command
 use Rattle.bg_operator.specs.declared.line_fault.LineFault.{LineFault}
 use Rattle.bg_operator.specs.Commands.{IsReadAs, line_reading}
 use Rattle.bg_operator.specs.HttpLines.{is_http_line, speaks_http}
 use Rattle.bg_operator.specs.Lines.{lines_of}
 use Rattle.bg_operator.specs.OperatorLines.{NextIs}
-use Rattle.bg_script.specs.declared.answering.LinesEnd.{LinesEnd}
 use Rattle.bg_script.specs.declared.answering.LinesEnd.TheVariants as lines_end
-use Rattle.bg_script.specs.LineAnswers.{Answered, AnswersLines, EndsByHttp, EndsLines, FirstIs, MayEnd, WroteAnswer, ends_connection, has_fault, text_of_all}
-use Rattle.bg_script.specs.LineSteps.{MayFollow, Stage, Written, Said, ReadStep, is_connection, is_fault_written, is_open, written_text}
+use Rattle.bg_script.specs.LineAnswers.{Answered, AnswersLines, WroteAnswer, ends_connection, has_fault, text_of_all}
+use Rattle.bg_script.specs.LineSteps.{Stage, Written, ReadStep, is_connection, is_fault_written, written_text}
 
 or_assoc : (a b c : Bool) → (a || (b || c)) ≡ ((a || b) || c)
 or_assoc true b c = refl

@@ -1,12 +1,9 @@
 -- Lemmas on the lines of a script.
-use Rattle.std.proofs.Common.{◌≡◌, ◌⊎◌, ℕ, Bool, false, ◌||◌, List, [], ◌∷◌, refl, sym, subst, inl, inr, Option}
-use Rattle.std.specs.Prelude.{Result, Ok}
+use Rattle.std.proofs.Common.{◌≡◌, ◌⊎◌, ℕ, Bool, false, ◌||◌, List, refl, sym, subst, inl, inr, Option}
+use Rattle.std.specs.Prelude.{Ok}
 use Rattle.std.specs.Io.KnownBytes.{Appends}
 use Rattle.bg_strategy.specs.declared.strategy.Strategy.{Strategy}
-use Rattle.bg_rollout.specs.declared.fault.OpenFault.{OpenFault}
-use Rattle.bg_operator.specs.declared.command.Command.{Command}
 use Rattle.bg_operator.specs.declared.command.Command.TheVariants as command
-use Rattle.bg_operator.specs.declared.line_fault.LineFault.{LineFault}
 use Rattle.bg_operator.specs.Commands.{IsReadAs, line_reading}
 use Rattle.bg_operator.specs.Lines.{lines_of}
 use Rattle.bg_script.specs.declared.answer.Answer.{Answer}
@@ -15,8 +12,8 @@ use Rattle.bg_script.specs.declared.answering.LinesEnd.{LinesEnd}
 use Rattle.bg_script.specs.declared.answering.LinesEnd.TheVariants as lines_end
 use Rattle.bg_script.specs.AnswerTexts.{answer_text, is_fault}
 use Rattle.bg_script.specs.LineAnswers.{Answered, AnswersLines, text_of_all}
-use Rattle.bg_script.specs.LineSteps.{Stage, Closed, Running, Said, ScriptOpens}
-use Rattle.bg_script.specs.Scripts.{IsOver, Ran, RanOpened}
+use Rattle.bg_script.specs.LineSteps.{Stage, Closed, Said, ScriptOpens}
+use Rattle.bg_script.specs.Scripts.{IsOver, Ran}
 use Rattle.bg_script.proofs.LinesInOrder.{AnsweredFrom, Goes, both_answered, one_answered, or_false}
 
 -- the reading of a line that was read as `quit`

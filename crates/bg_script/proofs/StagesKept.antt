@@ -1,11 +1,11 @@
 -- Lemmas on the stages of lines.
-use Rattle.std.proofs.Common.{◌≡◌, ℕ, true, false, List, refl, ap, ◌∙◌}
+use Rattle.std.proofs.Common.{List, refl, ap, ◌∙◌}
 use Rattle.bg_ledger.specs.declared.holding.Holding.{Holding}
 use Rattle.bg_rollout.specs.Routing.{Routing}
 use Rattle.bg_script.specs.declared.answer.Answer.TheVariants as answer
 use Rattle.bg_script.specs.declared.stages.WithoutBook.{WithoutBook}
 use Rattle.bg_script.specs.declared.stages.WithoutBook.TheVariants as without_book
-use Rattle.bg_script.specs.LineSteps.{ByBook, Closed, ConnectionClosed, ConnectionOpen, MayFollow, OpenStep, Running, Said, Stage, Written, is_open}
+use Rattle.bg_script.specs.LineSteps.{ByBook, MayFollow, Said, Stage, Written, is_open}
 use Rattle.bg_script.specs.Stages.{closed_stage}
 
 pub follows : (a b c : Stage) → MayFollow a b → MayFollow b c → MayFollow a c

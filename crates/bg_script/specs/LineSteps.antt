@@ -1,5 +1,5 @@
 -- The answer to a line of a script or of a control connection.
-use Rattle.std.specs.Prelude.{◌≡◌, ◌≤◌, ◌+◌, ◌&&◌, nat_le, ℕ, Bool, true, false, if◌then◌else◌, length, List, Option, None, Result, Ok, Err, ◌⊎◌}
+use Rattle.std.specs.Prelude.{◌≡◌, ◌≤◌, ◌+◌, ◌&&◌, nat_le, ℕ, Bool, true, false, if◌then◌else◌, length, List, None, Result, Ok, Err, ◌⊎◌}
 use Rattle.bg_strategy.specs.declared.strategy.Strategy.{Strategy}
 use Rattle.bg_revisions.specs.PortLists.{are_ports}
 use Rattle.bg_ledger.specs.declared.holding.Holding.{Holding}

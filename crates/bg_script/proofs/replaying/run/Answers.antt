@@ -1,4 +1,4 @@
-use Rattle.std.proofs.Common.{◌||◌, ℕ, Bool, List, IfOk, IfSome, refl, sym, subst, Option}
+use Rattle.std.proofs.Common.{◌||◌, ℕ, Bool, List, IfOk, IfSome, refl, sym, subst}
 use Rattle.std.specs.Io.KnownBytes.{Appends}
 use Rattle.bg_operator.specs.Reading.{Known}
 use Rattle.bg_script.specs.declared.answer.Answer.TheVariants.{Opened, OpenRefused}
