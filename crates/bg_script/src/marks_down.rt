@@ -18,7 +18,7 @@ pub trait MarksDown {
     /// 4,096, all distinct and none of them 0. The only error is an allocation failure; then the ports of the
     /// call before stay.
     fn set_down(&self, ports: &[u16]) -> Result<(), AllocError>
-        requires form { may_be_down ports.now ≡ true };
+        requires distinct { may_be_down ports.now ≡ true };
 }
 
 /// Gives the ports of a line `down` to the receiver, if they are at most 4,096, all distinct and none of them 0.
