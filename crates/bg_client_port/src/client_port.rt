@@ -8,9 +8,8 @@ use crate::pending::{Pending, Watch};
 use crate::pending_connection::{CompleteRequest, PendingConnection};
 use crate::request_buffer::Ending;
 use crate::response_buffer::{ResponseBuffer, Turn};
-use crate::signal::Signal;
 use crate::sockets::is_ready;
-use crate::wait_sets::{LoopSet, WaitSet, WaitSets};
+use crate::wait_sets::{WaitSet, WaitSets};
 use std::alloc::Global;
 use std::io;
 use std::net::TcpListener;
@@ -20,6 +19,19 @@ use std::time::Clock;
 
 /// The timeout of a graceful shutdown, in milliseconds.
 const CLOSING_MILLIS: u64 = 60_000;
+
+/// The settings of a client port.
+#[derive(Clone, Copy, PartialEq, Eq, Debug, Drop)]
+pub struct ClientPortSettings {
+    /// The number of workers.
+    pub workers: usize,
+    /// The number of connections that the port accepts in all, at least 1; `None` stands for no limit.
+    pub connections: Option<u64>,
+    /// The number of seconds that a request may take from the accept of its connection, also if the port pauses it.
+    pub request_seconds: u64,
+    /// The bounds on what may be pending.
+    pub bounds: Bounds,
+}
 
 /// A client port. Workers take connections from it by [`ClientPort::next`], and end them by
 /// `Connection::end`. [`ClientPort::run_event_loop`] runs in its own thread in parallel. All of them
@@ -32,7 +44,6 @@ const CLOSING_MILLIS: u64 = 60_000;
 /// connection, the event loop reads and writes it and checks its timeouts. Each accepted connection is
 /// given to a worker exactly once. If an allocation fails, an error of [`ClientPort::next`] can take its
 /// place.
-#[derive(Drop)]
 pub struct ClientPort {
     pub(crate) alloc: Global,
     pub(crate) listener: CountedListener,
@@ -62,34 +73,52 @@ pub struct ClientPort {
     told_failure: AtomicBool,
 }
 
+impl Drop for ClientPort {
+    /// Drops the fields. This is a function of its own, so that a function that owns a port has one call in place of the
+    /// drops of all fields.
+    fn drop(self) {
+        let ClientPort {
+            alloc: _,
+            listener: _,
+            watch: _,
+            clock: _,
+            request_millis: _,
+            pending: _,
+            pending_count: _,
+            is_full: _,
+            makes_room: _,
+            away_from_listener: _,
+            is_called: _,
+            wait_sets: _,
+            workers_begun: _,
+            event_loop_begun: _,
+            closing_until: _,
+            accept_failed: _,
+            told_failure: _,
+        } = self;
+    }
+}
+
 impl ClientPort {
-    /// A port that has this many workers and accepts this many connections in all, at least 1 (`None`: no
-    /// limit). A request may take this many seconds from the accept of its connection, also if the port
-    /// pauses it. The call makes the listener non-blocking, and changes its timeouts and its backlog.
+    /// The port of a listener. The call makes the listener non-blocking, and changes its timeouts and its backlog.
     ///
     /// An error if a system call, the clock or an allocation fails.
     pub fn new<R: Clock>(
         rt: &R,
         alloc: Global,
         listener: TcpListener,
-        workers: usize,
-        connections: Option<u64>,
-        request_seconds: u64,
-        bounds: Bounds,
+        settings: ClientPortSettings,
     ) -> io::Result<ClientPort> {
-        let listener = CountedListener::new(listener, connections)?;
-        let watch = Watch {
-            set: LoopSet::new()?,
-            over: Signal::new()?,
-        };
-        let wait_sets = WaitSets::new(alloc, workers, listener.get(), &watch.over)?;
+        let listener = CountedListener::new(listener, settings.connections)?;
+        let watch = Watch::new()?;
+        let wait_sets = WaitSets::new(alloc, settings.workers, listener.get(), &watch.over)?;
         Ok(ClientPort {
             alloc,
             listener,
             watch,
             clock: PortClock::start(rt)?,
-            request_millis: request_seconds.saturating_mul(1_000),
-            pending: Mutex::new(Pending::new(alloc, bounds)?),
+            request_millis: settings.request_seconds.saturating_mul(1_000),
+            pending: Mutex::new(Pending::new(alloc, settings.bounds)?),
             pending_count: AtomicUsize::new(0),
             is_full: AtomicBool::new(false),
             makes_room: AtomicBool::new(false),

@@ -30,7 +30,7 @@ mod sound_head;
 mod wait_sets;
 
 pub use bounds::Bounds;
-pub use client_port::ClientPort;
+pub use client_port::{ClientPort, ClientPortSettings};
 pub use connection::Connection;
 pub use cut_responses::CutResponses;
 pub use descriptors::{

@@ -67,7 +67,11 @@ impl ClientPort {
     }
 
     /// Waits at a set.
-    fn next_by<R: Clock + Wait>(&self, rt: &R, set: &WaitSet) -> io::Result<Option<CompleteRequest>> {
+    fn next_by<R: Clock + Wait>(
+        &self,
+        rt: &R,
+        set: &WaitSet,
+    ) -> io::Result<Option<CompleteRequest>> {
         let mut failures = 0;
         for _ in rt.forever() {
             let step = match set.wait() {
@@ -176,7 +180,7 @@ impl ClientPort {
                 }
                 self.return_to_listener(set);
                 let step = self.make_room(rt, ACCEPT_PAUSE_MILLIS);
-                self.hand_on(&step);
+                self.call_successor(&step);
                 step
             }
         }
@@ -196,13 +200,13 @@ impl ClientPort {
         self.return_to_listener(set);
         let step = self.make_room(rt, FULL_PAUSE_MILLIS);
         self.makes_room.store(false, Ordering::SeqCst);
-        self.hand_on(&step);
+        self.call_successor(&step);
         step
     }
 
     /// Wakes another worker that looks at the listener, if the one that the listener's event woke looks no
     /// longer.
-    fn hand_on(&self, step: &io::Result<Step>) {
+    fn call_successor(&self, step: &io::Result<Step>) {
         if !matches!(step, Ok(Step::Nothing)) {
             self.call_worker();
         }

@@ -8,7 +8,7 @@ use crate::wait_sets::LoopSet;
 use slab::Slab;
 use std::alloc::{AllocError, Global};
 use std::collections::VecDeque;
-use std::mem;
+use std::{io, mem};
 
 /// What is notified about pending connections.
 #[derive(Drop)]
@@ -17,6 +17,15 @@ pub(crate) struct Watch {
     pub(crate) set: LoopSet,
     /// The signal that is posted for each request that is over.
     pub(crate) over: Signal,
+}
+
+impl Watch {
+    /// A set without connections, and a signal that was not posted.
+    pub(crate) fn new() -> io::Result<Watch> {
+        let set = LoopSet::new()?;
+        let over = Signal::new()?;
+        Ok(Watch { set, over })
+    }
 }
 
 /// The totals of the pending connections.

@@ -93,7 +93,13 @@ impl PendingConnection {
             STILL_MILLIS
         };
         let until = now.saturating_add(wait);
-        PendingConnection::new(stream, PendingStage::Response(response), interest, now, until)
+        PendingConnection::new(
+            stream,
+            PendingStage::Response(response),
+            interest,
+            now,
+            until,
+        )
     }
 
     fn new(

@@ -70,9 +70,9 @@ impl OpenParser {
     }
 }
 
-/// How the end of a request is found.
+/// The framing of a request: how its end is found.
 #[derive(Drop)]
-enum Extent {
+enum Framing {
     /// No bytes were examined yet.
     Unknown,
     /// By a parser.
@@ -87,7 +87,7 @@ enum Extent {
 pub(crate) struct RequestBuffer {
     alloc: Global,
     bytes: Vec<u8>,
-    extent: Extent,
+    framing: Framing,
     /// Whether `100 Continue` was written to the client.
     was_continued: bool,
     ending: Option<Ending>,
@@ -108,7 +108,7 @@ impl RequestBuffer {
         RequestBuffer {
             alloc,
             bytes: Vec::new(alloc),
-            extent: Extent::Unknown,
+            framing: Framing::Unknown,
             was_continued: false,
             ending: None,
         }
@@ -127,9 +127,9 @@ impl RequestBuffer {
     /// Its maximum memory in bytes, with the body that the parser keeps, whose capacity doubles.
     pub(crate) fn weight(&self) -> usize {
         let room = self.bytes.capacity();
-        match self.extent {
-            Extent::Parsed(_) => room.saturating_add(self.bytes.len().saturating_mul(2)),
-            Extent::Unknown | Extent::Length(_) => room,
+        match self.framing {
+            Framing::Parsed(_) => room.saturating_add(self.bytes.len().saturating_mul(2)),
+            Framing::Unknown | Framing::Length(_) => room,
         }
     }
 
@@ -137,7 +137,7 @@ impl RequestBuffer {
     pub(crate) fn let_go(&mut self) {
         self.bytes.clear();
         self.bytes.shrink_to_fit();
-        self.extent = Extent::Unknown;
+        self.framing = Framing::Unknown;
         self.ending = Some(Ending::GivenUp);
     }
 
@@ -201,9 +201,9 @@ impl RequestBuffer {
     fn make_room(&mut self, most: usize) -> usize {
         let count = self.bytes.len();
         if self.bytes.capacity() <= count {
-            let growth = match self.extent {
-                Extent::Length(length) => length.saturating_sub(count).min(count),
-                Extent::Unknown | Extent::Parsed(_) => count,
+            let growth = match self.framing {
+                Framing::Length(length) => length.saturating_sub(count).min(count),
+                Framing::Unknown | Framing::Parsed(_) => count,
             };
             let growth = growth.max(FIRST_PIECE);
             if self.bytes.reserve_exact(growth).is_err() {
@@ -215,7 +215,7 @@ impl RequestBuffer {
 
     /// Leaves the rest to the worker.
     fn leave_rest(&mut self) {
-        self.extent = Extent::Unknown;
+        self.framing = Framing::Unknown;
         self.ending = Some(Ending::Unbuffered);
     }
 
@@ -225,10 +225,10 @@ impl RequestBuffer {
             self.ending = Some(Ending::Decided);
             return;
         }
-        match mem::replace(&mut self.extent, Extent::Unknown) {
-            Extent::Length(length) => self.await_length(length),
-            Extent::Parsed(parser) => self.parse(parser, start, stream),
-            Extent::Unknown => self.parse(OpenParser::new(self.alloc), start, stream),
+        match mem::replace(&mut self.framing, Framing::Unknown) {
+            Framing::Length(length) => self.await_length(length),
+            Framing::Parsed(parser) => self.parse(parser, start, stream),
+            Framing::Unknown => self.parse(OpenParser::new(self.alloc), start, stream),
         }
         if !self.is_over() && self.bytes.len() > MOST_BUFFERED {
             self.leave_rest();
@@ -248,7 +248,7 @@ impl RequestBuffer {
         if self.bytes.len() >= length {
             self.ending = Some(Ending::Decided);
         } else {
-            self.extent = Extent::Length(length);
+            self.framing = Framing::Length(length);
         }
     }
 
@@ -281,7 +281,7 @@ impl RequestBuffer {
             self.await_length(length);
             return;
         }
-        self.extent = Extent::Parsed(parser);
+        self.framing = Framing::Parsed(parser);
     }
 }
 

@@ -16,7 +16,7 @@ use Rattle.bg_command_line.specs.declared.invocation.Connections.TheVariants.{Co
 use Rattle.bg_command_line.specs.declared.invocation.Flags.{Flags}
 use Rattle.bg_command_line.specs.declared.invocation.Invocation.{Invocation}
 use Rattle.bg_command_line.specs.declared.invocation.Invocation.TheVariants.{Check, Replay, Serve}
-use Rattle.bg_command_line.specs.declared.invocation.Site.{Site}
+use Rattle.bg_command_line.specs.declared.invocation.ServeSettings.{ServeSettings}
 use Rattle.bg_command_line.specs.declared.invocation.InvocationFault.{InvocationFault}
 use Rattle.bg_command_line.specs.declared.invocation.InvocationFault.TheVariants.{Words, OutOfMemory}
 
@@ -191,26 +191,26 @@ abbrev pub has_flag : Text → List Row → Bool
 has_flag id rows = option_map_or (λ t. bytes_eq t (codes "true")) (first_of id rows) false
 
 -- the arguments of `serve`
-pub record IsServe (flags : Flags) (rows : List Row) (site : Site) : Type 0 where
-  pub active_is : IsGiven 1 65535 (codes "active") rows site.active
-  pub preview_is : site.preview ≡ number_of (codes "preview") rows
-  pub preview_range : IfSome site.preview (IsBetween 1 65535)
-  pub control_is : IsGiven 1 65535 (codes "control") rows site.control
-  pub workers_are : AreWorkers flags.concurrency rows site.workers
-  pub preview_workers_are : site.preview_workers ≡ unwrap_or (number_of (codes "preview-concurrency") rows)
-      (default_preview_workers flags.concurrency site.workers)
-  pub preview_workers_range : IsBetween 1 1023 site.preview_workers
-  pub redispatch_is : site.redispatch ≡ has_flag (codes "redispatch") rows
-  pub endpoint_limit_is : site.endpoint_limit ≡ number_of (codes "endpoint-limit") rows
-  pub endpoint_limit_range : IfSome site.endpoint_limit (IsBetween 1 1023)
-  pub connections_are : AreConnections flags.forever rows site.connections
+pub record IsServe (flags : Flags) (rows : List Row) (settings : ServeSettings) : Type 0 where
+  pub active_is : IsGiven 1 65535 (codes "active") rows settings.active
+  pub preview_is : settings.preview ≡ number_of (codes "preview") rows
+  pub preview_range : IfSome settings.preview (IsBetween 1 65535)
+  pub control_is : IsGiven 1 65535 (codes "control") rows settings.control
+  pub workers_are : AreWorkers flags.concurrency rows settings.workers
+  pub preview_workers_are : settings.preview_workers ≡ unwrap_or (number_of (codes "preview-concurrency") rows)
+      (default_preview_workers flags.concurrency settings.workers)
+  pub preview_workers_range : IsBetween 1 1023 settings.preview_workers
+  pub redispatch_is : settings.redispatch ≡ has_flag (codes "redispatch") rows
+  pub endpoint_limit_is : settings.endpoint_limit ≡ number_of (codes "endpoint-limit") rows
+  pub endpoint_limit_range : IfSome settings.endpoint_limit (IsBetween 1 1023)
+  pub connections_are : AreConnections flags.forever rows settings.connections
 
 -- the invocation is the subcommand of this name with these matches; 4 seats if no number is given
 abbrev pub IsInvocationOf : Flags → Text → List Row → Invocation → Type 0
 IsInvocationOf flags name rows Check = name ≡ codes "check"
 IsInvocationOf flags name rows (Replay seats) = (name ≡ codes "replay")
     × (seats ≡ unwrap_or (number_of (codes "seats") rows) 4) × IsBetween 1 8 seats
-IsInvocationOf flags name rows (Serve site) = (name ≡ codes "serve") × IsServe flags rows site
+IsInvocationOf flags name rows (Serve settings) = (name ≡ codes "serve") × IsServe flags rows settings
 
 -- the words are accepted, and the invocation is the subcommand of their matches
 abbrev pub IsInvocationIn : List Text → Invocation → Type 0

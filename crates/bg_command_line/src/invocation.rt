@@ -16,7 +16,7 @@ pub enum Invocation {
     /// Answer the script after the strategy, with this many seats, 1 to 8.
     Replay { seats: u8 },
     /// Forward the requests of clients, controlled by the lines of operators.
-    Serve(Site),
+    Serve(ServeSettings),
 }
 
 /// The number of connections that a worker takes.
@@ -40,7 +40,7 @@ pub struct Flags {
 /// The ports at which `serve` takes connections, how many connections and requests each takes, and how an endpoint
 /// is chosen. Ports are from 1 to 65535.
 #[derive(Clone, Copy, Debug, Drop, PartialEq, Eq)]
-pub struct Site {
+pub struct ServeSettings {
     /// The port of the active service.
     pub active: u16,
     /// The port of the preview service, if it is given.

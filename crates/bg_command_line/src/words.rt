@@ -5,7 +5,7 @@ ghost use Rattle.clap.specs.Words.{IsUnsignedIn, first_of, found_of, rows_of};
 ghost use Rattle.bg_command_line.specs.CommandLine.{AreConnections, AreWorkers, HasWordsOfServe, IsBetween, IsConflict, IsFaultFrom, IsFaultIn, IsIn, IsKnown, IsInvocationIn, IsInvocationOf, default_preview_workers, flags_of, has_concurrency, has_flag, has_word, is_concurrency, is_in_conflict, number, number_of};
 
 use crate::command_line::{conflict, program_command};
-use crate::invocation::{Connections, Flags, Invocation, InvocationFault, Site};
+use crate::invocation::{Connections, Flags, Invocation, InvocationFault, ServeSettings};
 use clap::error::ErrorKind;
 use clap::{ArgMatches, Error};
 use std::alloc::Global;
@@ -155,7 +155,7 @@ fn serve_of(flags: Flags, matches: &ArgMatches) -> Invocation
     ensures { IsInvocationOf flags (codes "serve") (rows_of (found_of matches.now)) result }
 {
     let workers = workers_of(flags.concurrency, matches);
-    Invocation::Serve(Site {
+    Invocation::Serve(ServeSettings {
         active: port_in(required_text(matches, "active")),
         preview: match argument_text(matches, "preview") {
             Some(text) => Some(port_in(text)),

@@ -5,10 +5,10 @@ use std::alloc::{AllocError, Global};
 use std::io::{Read, Write};
 use std::net::TcpStream;
 
-/// The reply to a connection of a user whose orders are not taken.
+/// The reply to a connection of a user who is not served.
 const NOT_ALLOWED: &[u8] = b"refused NotAllowed\n";
 
-/// The number of bytes that are read of a connection before it is turned away.
+/// The number of bytes that are read of a connection before it is refused.
 const FIRST_BYTES: usize = 4_096;
 
 /// The users whose connections are served.
@@ -76,7 +76,7 @@ impl Admission {
     }
 }
 
-/// Tells a connection that its orders are not taken. What has arrived of its line is read before it is closed, since a
+/// Tells a connection that it is not served. What has arrived of its line is read before it is closed, since a
 /// close beside unread bytes may keep the reply from its peer (RFC 2525 section 2.17).
 fn refuse(mut stream: &TcpStream) {
     let mut first = [0u8; FIRST_BYTES];

@@ -1,6 +1,6 @@
 //! The connections of operators.
 
-use crate::connection::{AfterReply, OperatorConnection, Fate};
+use crate::connection::{AfterReply, Fate, OperatorConnection};
 use crate::priority::LinePriority;
 use crate::readiness::Readiness;
 use crate::turn::{MOST_CONNECTIONS, Place, Silence, has_passed, heeds_urgency, row_after};

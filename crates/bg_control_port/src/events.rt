@@ -9,8 +9,8 @@ pub trait ControlEvents {
     /// succeeds. Only the first of several failures in a row is reported.
     fn accept_failed(&self, reason: &io::Error);
 
-    /// This many connections were turned away, since they are not of the users whose connections are served.
-    fn turned_away(&self, connections: u64);
+    /// This many connections were refused, since they are not of the users whose connections are served.
+    fn connections_refused(&self, connections: u64);
 
     /// About a second has passed since the last such call. No call comes while a line is carried out.
     fn second_passed(&self);

@@ -54,8 +54,8 @@ struct News {
 #[derive(Drop)]
 struct AcceptNews {
     failure: Option<io::Error>,
-    /// The number of connections that were turned away.
-    turned_away: u64,
+    /// The number of connections that were refused.
+    refused: u64,
 }
 
 impl ControlPort {
@@ -178,8 +178,8 @@ impl ControlPort {
         if let Some(reason) = &news.accepts.failure {
             events.accept_failed(reason);
         }
-        if news.accepts.turned_away > 0 {
-            events.turned_away(news.accepts.turned_away);
+        if news.accepts.refused > 0 {
+            events.connections_refused(news.accepts.refused);
         }
         if news.second_passed {
             events.second_passed();
@@ -252,7 +252,7 @@ impl State {
         };
         AcceptNews {
             failure,
-            turned_away: count.saturating_sub(served) as u64,
+            refused: count.saturating_sub(served) as u64,
         }
     }
 

@@ -2,13 +2,13 @@
 use Rattle.std.proofs.Common.{◌≡◌, ℕ, Bool, true, false, cond, ◌&&◌, List, [], ◌∷◌, Option, Some, None, IfSome, refl, drop, take}
 use Rattle.std.specs.List.{find}
 use Rattle.std.specs.Option.{option_or}
-use Rattle.bg_endpoints.specs.Choices.{alone_choice, chosen, chosen_by, first_from, is_new, limit_of, passes, place_of}
+use Rattle.bg_endpoints.specs.Choices.{alone_choice, chosen, chosen_by, first_from, free_criteria, is_new, passes, place_of}
 use Rattle.bg_endpoints.specs.Lists.{listed, only_list}
 use Rattle.bg_endpoints.specs.declared.port_lists.PortList.{PortList}
 use Rattle.bg_endpoints.specs.declared.table.Choice.{Choice}
 use Rattle.bg_endpoints.specs.declared.table.Choice.TheVariants as choice
 use Rattle.bg_endpoints.specs.declared.table.Table.{Table}
-use Rattle.bg_endpoints.specs.declared.table.Terms.{Terms}
+use Rattle.bg_endpoints.specs.declared.table.Criteria.{Criteria}
 
 -- what is found passes the test
 found : (p : ℕ → Bool) (xs : List ℕ) → IfSome (find p xs) (λ x. p x ≡ true)
@@ -33,10 +33,10 @@ first_of_three false b c h = h
 
 module _ (t : Table) (ticket : ℕ) (tried : List ℕ) where
   -- a port that was tried is not chosen from a list
-  first_once : (terms : Terms) (c : Choice) (ports : List ℕ)
-      → IfSome (first_from ticket (passes t tried terms c) ports) (λ port. is_new port tried ≡ true)
-  first_once terms c ports =
-      let test : ℕ → Bool = passes t tried terms c in
+  first_once : (criteria : Criteria) (ports : List ℕ)
+      → IfSome (first_from ticket (passes t tried criteria) ports) (λ port. is_new port tried ≡ true)
+  first_once criteria ports =
+      let test : ℕ → Bool = passes t tried criteria in
       weaken (λ port. test port ≡ true) (λ port. is_new port tried ≡ true)
       (λ port h. first_of_three _ _ _ h) (first_from ticket test ports)
       (either (λ port. test port ≡ true) (find test (drop (place_of ticket ports) ports))
@@ -52,14 +52,14 @@ module _ (t : Table) (ticket : ℕ) (tried : List ℕ) where
         | false ↦ λ e. tt
       ]) refl
   by_once now (Some l) =
-      let terms : Terms = record { now = now; limit = limit_of t l } in
+      let criteria : Choice → Criteria = λ c. record (free_criteria t now l) { choice = c } in
       let ports = l.ports.items in
       let new : ℕ → Type 0 = λ port. is_new port tried ≡ true in
-      let first : Choice → Option ℕ = λ c. first_from ticket (passes t tried terms c) ports in
+      let first : Choice → Option ℕ = λ c. first_from ticket (passes t tried (criteria c)) ports in
       either new (option_or (first choice.Free) (first choice.Unmarked)) (first choice.Any)
       (either new (first choice.Free) (first choice.Unmarked)
-      (first_once terms choice.Free ports) (first_once terms choice.Unmarked ports))
-      (first_once terms choice.Any ports)
+      (first_once (criteria choice.Free) ports) (first_once (criteria choice.Unmarked) ports))
+      (first_once (criteria choice.Any) ports)
 
   -- a port that was tried is not chosen
   pub chosen_once : (now : ℕ) → IfSome (chosen t ticket tried now) (λ port. is_new port tried ≡ true)

@@ -10,7 +10,7 @@ use Rattle.bg_endpoints.specs.declared.port_lists.PortList.{PortList}
 use Rattle.bg_endpoints.specs.declared.table.Choice.{Choice}
 use Rattle.bg_endpoints.specs.declared.table.Choice.TheVariants as choice
 use Rattle.bg_endpoints.specs.declared.table.Table.{Table}
-use Rattle.bg_endpoints.specs.declared.table.Terms.{Terms}
+use Rattle.bg_endpoints.specs.declared.table.Criteria.{Criteria}
 
 -- the port is none of those that were tried
 abbrev pub is_new : ℕ → List ℕ → Bool
@@ -25,16 +25,16 @@ abbrev pub is_healthy : Table → ℕ → ℕ → Bool
 is_healthy t now port = not (is_down t port) && nat_le (state_of t.states.items port).marked_until now
 
 -- what a choice asks of a port, beside that it was not tried
-abbrev pub allows : Table → Terms → Choice → ℕ → Bool
-allows t terms choice.Any port = true
-allows t terms choice.Unmarked port = is_healthy t terms.now port
-allows t terms choice.Free port =
-    is_healthy t terms.now port && nat_lt (state_of t.states.items port).requests terms.limit
+abbrev pub allows : Table → Criteria → Choice → ℕ → Bool
+allows t criteria choice.Any port = true
+allows t criteria choice.Unmarked port = is_healthy t criteria.now port
+allows t criteria choice.Free port =
+    is_healthy t criteria.now port && nat_lt (state_of t.states.items port).requests criteria.limit
 
 -- the port was not tried, is in one list only, and is allowed
-abbrev pub passes : Table → List ℕ → Terms → Choice → ℕ → Bool
-passes t tried terms c port =
-    is_new port tried && is_in_one_list port (listed t.lists) && allows t terms c port
+abbrev pub passes : Table → List ℕ → Criteria → ℕ → Bool
+passes t tried criteria port =
+    is_new port tried && is_in_one_list port (listed t.lists) && allows t criteria criteria.choice port
 
 -- the place of a port in a list; its end if it is not there
 abbrev pub place_of : ℕ → List ℕ → ℕ
@@ -54,16 +54,20 @@ abbrev pub limit_of : Table → PortList → ℕ
 limit_of t l = share_of t.share (count_by (λ port. not (is_down t port)) l.ports.items)
 
 -- a free port of the list, or else an unmarked one, or else any one
-abbrev pub chosen_of : Table → ℕ → List ℕ → Terms → List ℕ → Option ℕ
-chosen_of t ticket tried terms ports =
-    option_or (option_or (first_from ticket (λ port. passes t tried terms choice.Free port) ports)
-    (first_from ticket (λ port. passes t tried terms choice.Unmarked port) ports))
-    (first_from ticket (λ port. passes t tried terms choice.Any port) ports)
+abbrev pub chosen_of : Table → ℕ → List ℕ → Criteria → List ℕ → Option ℕ
+chosen_of t ticket tried criteria ports =
+    option_or (option_or (first_from ticket (passes t tried (record criteria { choice = choice.Free })) ports)
+    (first_from ticket (passes t tried (record criteria { choice = choice.Unmarked })) ports))
+    (first_from ticket (passes t tried (record criteria { choice = choice.Any })) ports)
+
+-- what a port of a list has to meet to be free
+abbrev pub free_criteria : Table → ℕ → PortList → Criteria
+free_criteria t now l = record { choice = choice.Free; now = now; limit = limit_of t l }
 
 -- the choice from a list
 abbrev pub chosen_from : Table → ℕ → List ℕ → ℕ → PortList → Option ℕ
 chosen_from t ticket tried now l =
-    chosen_of t ticket tried (record { now = now; limit = limit_of t l }) l.ports.items
+    chosen_of t ticket tried (free_criteria t now l) l.ports.items
 
 -- the choice by the list that has the ticket's port, if there is one
 abbrev pub chosen_by : Table → ℕ → List ℕ → ℕ → Option PortList → Option ℕ

@@ -5,5 +5,5 @@ pub mod Lists
 pub mod OwnPorts
 pub mod Routing
 pub mod Shares
-pub mod Silence
+pub mod IdleTimeouts
 pub mod States

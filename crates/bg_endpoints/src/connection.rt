@@ -1,10 +1,10 @@
 //! The connection to an endpoint.
 ghost use Rattle.std.specs.Io.{ReadsAtMost, WritesAtMost};
 
-use crate::connecting::{ConnectFault, connect};
+use crate::counted_request::CountedRequest;
 use crate::response_timeout::ResponseTimeout;
+use crate::sockets::{ConnectFault, connect};
 use crate::time_left::time_left;
-use crate::visit::Visit;
 use std::io;
 use std::io::{ErrorKind, Read, Write};
 use std::net::TcpStream;
@@ -17,14 +17,14 @@ const CONNECT_SECONDS: u64 = 5;
 /// The number of tries of a write that sends no byte, which together take 30 seconds.
 const WRITE_TRIES: u32 = 6;
 
-/// The number of seconds after which a waiting read is `Interrupted`.
-const TURN_SECONDS: u64 = 1;
+/// The number of seconds after which a read without bytes is `Interrupted`.
+const READ_WAIT_SECONDS: u64 = 1;
 
 /// The connection to an endpoint. After the response timeout, each read and each write fails with
 /// `TimedOut`.
 ///
 /// A read waits for at most a second, and is `Interrupted` if nothing came, so that the reader can check
-/// whether it still needs the response. If nothing has come for [`ResponseTimeout::silent_seconds`], it
+/// whether it still needs the response. If nothing has come for [`ResponseTimeout::idle_seconds`], it
 /// fails with `TimedOut`. A write that sends no byte in 30 seconds fails with `TimedOut`. An endpoint may
 /// answer before it has read the whole request, and close its connection (RFC 9112 section 9.5). Further
 /// writes then do nothing, and reads give what it has sent. At its end they fail with the error of the
@@ -33,16 +33,16 @@ const TURN_SECONDS: u64 = 1;
 pub struct EndpointConnection<'a, C: Clock + Wait> {
     stream: TcpStream,
     /// Where the request is counted, if the switch counts.
-    visit: Option<Visit<'a, C>>,
+    counted: Option<CountedRequest<'a, C>>,
     clock: &'a C,
     /// When the first connect for the request began.
     start: Instant,
     /// The timeout of the connect, the request and the response in all.
     timeout: Duration,
-    /// The number of further turns in which nothing may come.
-    turns_left: u64,
-    /// The number of turns in a row in which nothing may come.
-    turns: u64,
+    /// The number of further reads in which nothing may come.
+    idle_reads_left: u64,
+    /// The number of reads in a row in which nothing may come.
+    idle_reads: u64,
     /// The error of the write after which the endpoint reads no more of the request.
     unread: Option<ErrorKind>,
 }
@@ -57,25 +57,25 @@ impl<'a, C: Clock + Wait> EndpointConnection<'a, C> {
         start: Instant,
         left: Duration,
     ) -> Result<EndpointConnection<'a, C>, ConnectFault> {
-        let turns = timeout.silent_seconds();
+        let idle_reads = timeout.idle_seconds();
         let write_wait = left.min(Duration::from_secs(CONNECT_SECONDS));
-        let read_wait = left.min(Duration::from_secs(TURN_SECONDS));
+        let read_wait = left.min(Duration::from_secs(READ_WAIT_SECONDS));
         let stream = connect(clock, port, write_wait, read_wait)?;
         Ok(EndpointConnection {
             stream,
-            visit: None,
+            counted: None,
             clock,
             start,
             timeout: Duration::from_secs(timeout.seconds),
-            turns_left: turns,
-            turns,
+            idle_reads_left: idle_reads,
+            idle_reads,
             unread: None,
         })
     }
 
     /// Counts the request at its port until the connection is dropped.
-    pub(crate) fn count(&mut self, visit: Visit<'a, C>) {
-        self.visit = Some(visit);
+    pub(crate) fn count(&mut self, counted: CountedRequest<'a, C>) {
+        self.counted = Some(counted);
     }
 
     /// The time that is left of the response timeout; `TimedOut` if none is left.
@@ -96,29 +96,29 @@ impl<'a, C: Clock + Wait> EndpointConnection<'a, C> {
 
     /// Reads as the stream does. Waits at most a second, and at most until the response timeout;
     /// `Interrupted` if nothing came.
-    fn read_in_turn(&mut self, buf: &mut [u8]) -> io::Result<usize>
+    fn read_once(&mut self, buf: &mut [u8]) -> io::Result<usize>
         ensures { ReadsAtMost result buf.new }
     {
         let left = self.time_left()?;
-        if left < Duration::from_secs(TURN_SECONDS) {
+        if left < Duration::from_secs(READ_WAIT_SECONDS) {
             self.stream.set_read_timeout(Some(left))?;
         }
         match self.stream.read(buf) {
-            Err(error) if error.kind() == ErrorKind::WouldBlock => Err(self.after_silence()),
+            Err(error) if error.kind() == ErrorKind::WouldBlock => Err(self.after_idle_read()),
             outcome => {
-                self.turns_left = self.turns;
+                self.idle_reads_left = self.idle_reads;
                 self.note_bytes(&outcome);
                 outcome
             }
         }
     }
 
-    /// The error of a read in whose turn nothing came.
-    fn after_silence(&mut self) -> io::Error {
-        self.turns_left = self.turns_left.saturating_sub(1);
-        if self.turns_left == 0 {
-            if let Some(visit) = &mut self.visit {
-                visit.note_failure();
+    /// The error of a read in which nothing came.
+    fn after_idle_read(&mut self) -> io::Error {
+        self.idle_reads_left = self.idle_reads_left.saturating_sub(1);
+        if self.idle_reads_left == 0 {
+            if let Some(counted) = &mut self.counted {
+                counted.note_failure();
             }
             return io::Error::from(ErrorKind::TimedOut);
         }
@@ -127,20 +127,20 @@ impl<'a, C: Clock + Wait> EndpointConnection<'a, C> {
 
     /// Keeps that the endpoint has sent bytes, if it has.
     fn note_bytes(&mut self, outcome: &io::Result<usize>) {
-        if let Some(visit) = &mut self.visit
+        if let Some(counted) = &mut self.counted
             && matches!(outcome, Ok(1..))
         {
-            visit.note_bytes();
+            counted.note_bytes();
         }
     }
 
     /// Keeps that a timeout has ended the request, if it has.
     fn note_timeout(&mut self, outcome: &io::Result<usize>) {
-        if let Some(visit) = &mut self.visit
+        if let Some(counted) = &mut self.counted
             && let Err(error) = outcome
             && error.kind() == ErrorKind::TimedOut
         {
-            visit.note_timeout();
+            counted.note_timeout();
         }
     }
 
@@ -160,7 +160,7 @@ impl<'a, C: Clock + Wait> EndpointConnection<'a, C> {
 
 impl<C: Clock + Wait> Read for EndpointConnection<'_, C> {
     fn read(&mut self, buf: &mut [u8]) -> io::Result<usize> {
-        let outcome = self.read_in_turn(buf);
+        let outcome = self.read_once(buf);
         self.note_timeout(&outcome);
         match (outcome?, self.unread) {
             (0, Some(kind)) if !buf.is_empty() => Err(io::Error::from(kind)),

@@ -2,13 +2,13 @@
 ghost use Rattle.std.specs.Prelude.{◌≡◌, ◌<◌};
 ghost use Rattle.bg_endpoints.specs.Routing.{IsRoute};
 
-use crate::connecting::ConnectFault;
 use crate::connection::EndpointConnection;
+use crate::counted_request::CountedRequest;
 use crate::directory::Directory;
 use crate::own_ports::OwnPorts;
 use crate::response_timeout::ResponseTimeout;
+use crate::sockets::ConnectFault;
 use crate::time_left::time_left;
-use crate::visit::Visit;
 use bg_forward::{Dial, Dialled, Route};
 use std::io;
 use std::io::ErrorKind;
@@ -19,9 +19,9 @@ use std::time::{Clock, Duration, Instant};
 /// The maximum number of ports that are dialled for a request.
 const MOST_TRIES: u32 = 65_535;
 
-/// The dials for one request.
+/// The dials for a request after the first one has failed.
 #[derive(Clone, Copy, Drop)]
-struct Request<'a> {
+struct Redispatch<'a> {
     directory: &'a Directory,
     /// The port of the request's ticket.
     ticket: u16,
@@ -82,27 +82,31 @@ impl<'a, R: Net + Clock + Wait> Endpoints<'a, R> {
 impl<'a, R: Net + Clock + Wait> Endpoints<'a, R> {
     /// Connects to the ports that the directory chooses, one after the other, until one connects. Each is dialled
     /// once. The error is that of the first dial.
-    fn dial_in_turn(&self, directory: &'a Directory, ticket: u16) -> Dialled<EndpointConnection<'a, R>>
+    fn dial_by_directory(
+        &self,
+        directory: &'a Directory,
+        ticket: u16,
+    ) -> Dialled<EndpointConnection<'a, R>>
         ensures { 0 < result.route.tries }
     {
-        let (start, visit) = match (
+        let (start, counted) = match (
             Instant::now(self.rt),
-            Visit::begin(self.rt, directory, ticket, &[]),
+            CountedRequest::begin(self.rt, directory, ticket, &[]),
         ) {
-            (Ok(start), Some(visit)) => (start, visit),
+            (Ok(start), Some(counted)) => (start, counted),
             _ => return Dialled::once(ticket, self.dial_one(ticket)),
         };
-        let first = visit.port();
-        match self.dial_at(visit, start) {
+        let first = counted.port();
+        match self.dial_at(counted, start) {
             Ok(connection) => Dialled::once(first, Ok(connection)),
             Err(ConnectFault::NoSocket(error)) => Dialled::once(first, Err(error)),
             Err(ConnectFault::Failed(error)) => {
-                let request = Request {
+                let redispatch = Redispatch {
                     directory,
                     ticket,
                     start,
                 };
-                self.dial_others(request, first, error)
+                self.dial_others(redispatch, first, error)
             }
         }
     }
@@ -112,13 +116,13 @@ impl<'a, R: Net + Clock + Wait> Endpoints<'a, R> {
     /// left, or no time of the response timeout.
     fn dial_others(
         &self,
-        request: Request<'a>,
+        redispatch: Redispatch<'a>,
         first: u16,
         error: io::Error,
     ) -> Dialled<EndpointConnection<'a, R>>
         ensures { 0 < result.route.tries }
     {
-        let mut tried = Vec::new(request.directory.alloc);
+        let mut tried = Vec::new(redispatch.directory.alloc);
         let mut route = Route {
             port: first,
             tries: 1,
@@ -127,15 +131,20 @@ impl<'a, R: Net + Clock + Wait> Endpoints<'a, R> {
             if tried.push(route.port).is_err() {
                 break;
             }
-            let next = Visit::begin(self.rt, request.directory, request.ticket, &tried);
-            let Some(visit) = next else {
+            let next = CountedRequest::begin(
+                self.rt,
+                redispatch.directory,
+                redispatch.ticket,
+                &tried,
+            );
+            let Some(counted) = next else {
                 break;
             };
             let next = Route {
-                port: visit.port(),
+                port: counted.port(),
                 tries: route.tries.saturating_add(1),
             };
-            match self.dial_at(visit, request.start) {
+            match self.dial_at(counted, redispatch.start) {
                 Ok(connection) => {
                     return Dialled {
                         route: next,
@@ -152,23 +161,23 @@ impl<'a, R: Net + Clock + Wait> Endpoints<'a, R> {
         }
     }
 
-    /// Connects to the port of a visit, within what is left of the response timeout.
+    /// Connects to the port at which a request is counted, within what is left of the response timeout.
     fn dial_at(
         &self,
-        mut visit: Visit<'a, R>,
+        mut counted: CountedRequest<'a, R>,
         start: Instant,
     ) -> Result<EndpointConnection<'a, R>, ConnectFault> {
         let left = match self.left_since(start) {
             Ok(left) => left,
             Err(error) => return Err(ConnectFault::NoSocket(error)),
         };
-        match self.connect(visit.port(), start, left) {
+        match self.connect(counted.port(), start, left) {
             Ok(mut connection) => {
-                connection.count(visit);
+                connection.count(counted);
                 Ok(connection)
             }
             Err(ConnectFault::Failed(error)) => {
-                visit.note_failure();
+                counted.note_failure();
                 Err(ConnectFault::Failed(error))
             }
             Err(ConnectFault::NoSocket(error)) => Err(ConnectFault::NoSocket(error)),
@@ -197,7 +206,7 @@ impl<'a, R: Net + Clock + Wait> Dial for Endpoints<'a, R> {
     /// connects, the error is that of the first dial. The response timeout bounds all dials together.
     fn dial(&self, port: u16) -> Dialled<EndpointConnection<'a, R>> {
         match self.directory {
-            Some(directory) => self.dial_in_turn(directory, port),
+            Some(directory) => self.dial_by_directory(directory, port),
             None => Dialled::once(port, self.dial_one(port)),
         }
     }

@@ -1,8 +1,8 @@
 //! Connections to endpoints, which are ports of this machine.
 #![tactic(auto)]
 
-mod connecting;
 mod connection;
+mod counted_request;
 mod directory;
 mod endpoints;
 mod own_ports;
@@ -10,9 +10,9 @@ mod port_lists;
 mod port_state;
 mod response_timeout;
 mod share;
+mod sockets;
 mod table;
 mod time_left;
-mod visit;
 
 pub use connection::EndpointConnection;
 pub use directory::Directory;

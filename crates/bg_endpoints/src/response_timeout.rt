@@ -1,9 +1,9 @@
 //! The timeout of an endpoint's response.
 ghost use Rattle.std.specs.Prelude.{◌≡◌};
-ghost use Rattle.bg_endpoints.specs.Silence.{silent_seconds};
+ghost use Rattle.bg_endpoints.specs.IdleTimeouts.{idle_seconds};
 
 /// The number of seconds for which an endpoint may be silent, unless a longer timeout was given.
-const SILENT_SECONDS: u64 = 30;
+const IDLE_SECONDS: u64 = 30;
 
 /// The timeout of an endpoint's response.
 #[derive(Clone, Copy, Debug, Drop, PartialEq, Eq)]
@@ -17,13 +17,13 @@ pub struct ResponseTimeout {
 impl ResponseTimeout {
     /// The number of seconds in which no byte of a response may come: 30, or the timeout if a longer one
     /// was given.
-    pub fn silent_seconds(self) -> u64
-        ensures { result ≡ silent_seconds self }
+    pub fn idle_seconds(self) -> u64
+        ensures { result ≡ idle_seconds self }
     {
         if self.is_given {
-            self.seconds.max(SILENT_SECONDS)
+            self.seconds.max(IDLE_SECONDS)
         } else {
-            SILENT_SECONDS
+            IDLE_SECONDS
         }
     }
 }

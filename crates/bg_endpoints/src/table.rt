@@ -2,8 +2,8 @@
 ghost use Rattle.std.specs.Prelude.{◌≡◌, ◌==◌, ◌<◌, ◌≤◌, true, not, IfSome, OnOk, count_by, filter, length};
 ghost use Rattle.std.specs.List.{find, list_any, position};
 ghost use Rattle.std.specs.Option.{option_copied};
-ghost use Rattle.bg_endpoints.specs.Choices.{alone_choice, chosen, chosen_from, chosen_of, first_from};
-ghost use Rattle.bg_endpoints.specs.Choices.{is_down, is_healthy, is_new, limit_of, passes, place_of};
+ghost use Rattle.bg_endpoints.specs.Choices.{alone_choice, chosen, chosen_from, chosen_of, first_from, free_criteria};
+ghost use Rattle.bg_endpoints.specs.Choices.{is_down, is_healthy, is_new, passes, place_of};
 ghost use Rattle.bg_endpoints.specs.States.{state_of, with_state};
 
 use crate::port_lists::{PortList, PortLists};
@@ -22,13 +22,23 @@ pub(crate) enum Choice {
     Any,
 }
 
-/// What a choice is made by.
+/// What a port has to meet.
 #[derive(Clone, Copy, Debug, Drop)]
-pub(crate) struct Terms {
+pub(crate) struct Criteria {
+    pub(crate) choice: Choice,
     /// The moment, in milliseconds from the start of the program.
     pub(crate) now: u64,
     /// The number of requests at a time from which a port is not free.
     pub(crate) limit: u32,
+}
+
+impl Criteria {
+    /// The same for another choice.
+    fn with(self, choice: Choice) -> Criteria
+        ensures { result ≡ record self { choice = choice } }
+    {
+        Criteria { choice, ..self }
+    }
 }
 
 /// The lists of the revisions' ports, and what is known of the ports.
@@ -128,25 +138,34 @@ impl Table {
     fn choose_from(&self, list: &PortList, ticket: u16, tried: &[u16], now: u64) -> Option<u16>
         ensures { result ≡ chosen_from self.now ticket tried.now now list.now }
     {
-        let terms = self.terms_at(list, now);
-        self.choose_of(list.get(), ticket, tried, terms)
+        let criteria = self.criteria_at(list, now);
+        self.choose_of(list.get(), ticket, tried, criteria)
     }
 
-    /// What the choice from a list is made by.
-    fn terms_at(&self, list: &PortList, now: u64) -> Terms
-        ensures { result ≡ record { now = now; limit = limit_of self.now list.now } }
+    /// What a port of a list has to meet to be free.
+    fn criteria_at(&self, list: &PortList, now: u64) -> Criteria
+        ensures { result ≡ free_criteria self.now now list.now }
     {
-        let limit = self.share.of(self.count_up(list.get()));
-        Terms { now, limit }
+        Criteria {
+            choice: Choice::Free,
+            now,
+            limit: self.share.of(self.count_up(list.get())),
+        }
     }
 
     /// The choice from the ports of a list: a free port, or else an unmarked one, or else any.
-    fn choose_of(&self, ports: &[u16], ticket: u16, tried: &[u16], terms: Terms) -> Option<u16>
-        ensures { result ≡ chosen_of self.now ticket tried.now terms ports.now }
+    fn choose_of(
+        &self,
+        ports: &[u16],
+        ticket: u16,
+        tried: &[u16],
+        criteria: Criteria,
+    ) -> Option<u16>
+        ensures { result ≡ chosen_of self.now ticket tried.now criteria ports.now }
     {
-        self.first(ports, ticket, tried, terms, Choice::Free)
-            .or(self.first(ports, ticket, tried, terms, Choice::Unmarked))
-            .or(self.first(ports, ticket, tried, terms, Choice::Any))
+        self.first(ports, ticket, tried, criteria.with(Choice::Free))
+            .or(self.first(ports, ticket, tried, criteria.with(Choice::Unmarked)))
+            .or(self.first(ports, ticket, tried, criteria.with(Choice::Any)))
     }
 
     /// The number of these ports that are not down.
@@ -157,56 +176,43 @@ impl Table {
     }
 
     /// The first of these ports that may be taken, from the ticket's on, wrapping round.
-    fn first(
-        &self,
-        ports: &[u16],
-        ticket: u16,
-        tried: &[u16],
-        terms: Terms,
-        choice: Choice,
-    ) -> Option<u16>
+    fn first(&self, ports: &[u16], ticket: u16, tried: &[u16], criteria: Criteria) -> Option<u16>
         ensures { result ≡ first_from ticket
-            (λ port. passes self.now tried.now terms choice port) ports.now }
+            (λ port. passes self.now tried.now criteria port) ports.now }
     {
         let place = place_of(ports, ticket);
-        self.find(&ports[place..], tried, terms, choice)
-            .or(self.find(&ports[..place], tried, terms, choice))
+        self.find(&ports[place..], tried, criteria)
+            .or(self.find(&ports[..place], tried, criteria))
     }
 
     /// The first of these ports that may be taken.
-    fn find(&self, ports: &[u16], tried: &[u16], terms: Terms, choice: Choice) -> Option<u16>
-        ensures { result ≡ find (λ port. passes self.now tried.now terms choice port) ports.now }
+    fn find(&self, ports: &[u16], tried: &[u16], criteria: Criteria) -> Option<u16>
+        ensures { result ≡ find (λ port. passes self.now tried.now criteria port) ports.now }
     {
-        self.found(ports, tried, terms, choice).copied()
+        self.found(ports, tried, criteria).copied()
     }
 
-    fn found<'p>(
-        &self,
-        ports: &'p [u16],
-        tried: &[u16],
-        terms: Terms,
-        choice: Choice,
-    ) -> Option<&'p u16>
+    fn found<'p>(&self, ports: &'p [u16], tried: &[u16], criteria: Criteria) -> Option<&'p u16>
         ensures { option_copied result ≡
-            find (λ port. passes self.now tried.now terms choice port) ports.now }
+            find (λ port. passes self.now tried.now criteria port) ports.now }
     {
         ports
             .iter()
-            .find(|port| self.may_take(**port, tried, terms, choice))
+            .find(|port| self.may_take(**port, tried, criteria))
     }
 
     /// Whether a port may be taken.
-    fn may_take(&self, port: u16, tried: &[u16], terms: Terms, choice: Choice) -> bool
-        ensures { result ≡ passes self.now tried.now terms choice port }
+    fn may_take(&self, port: u16, tried: &[u16], criteria: Criteria) -> bool
+        ensures { result ≡ passes self.now tried.now criteria port }
     {
         if was_tried(port, tried) || !self.lists.is_in_one_list(port) {
             return false;
         }
-        match choice {
+        match criteria.choice {
             Choice::Any => true,
-            Choice::Unmarked => self.is_unmarked(port, terms.now),
-            Choice::Free => self.is_unmarked(port, terms.now)
-                && self.state_of(port).requests < terms.limit,
+            Choice::Unmarked => self.is_unmarked(port, criteria.now),
+            Choice::Free => self.is_unmarked(port, criteria.now)
+                && self.state_of(port).requests < criteria.limit,
         }
     }
 

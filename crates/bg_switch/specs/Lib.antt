@@ -1,3 +1,3 @@
-pub mod Orders
+pub mod Decisions
 pub mod Rollbacks
 pub mod Services

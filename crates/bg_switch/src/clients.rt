@@ -1,14 +1,13 @@
 //! The clients of the active and of the preview port.
 
-use crate::ports::{Ports, service_name};
+use crate::context::ServeContext;
+use crate::ports::service_name;
 use crate::request_line::request_line;
-use crate::telling::Telling;
 use bg_access_log::{AccessLog, LogEntry};
 use bg_client_port::Connection;
 use bg_forward::{Accept, ClientStream, End, Reason, Served};
 use bg_http::Duplex;
 use bg_revisions::Service;
-use std::alloc::Global;
 use std::io;
 use std::io::{ErrorKind, Read, Write};
 use std::sync::Wait;
@@ -53,49 +52,20 @@ impl<R: Clock> ClientStream for Client<'_, R> {
     }
 }
 
-/// The clients of the active and of the preview port.
+/// The clients of the active and of the preview port. If there is a log, each ended connection is logged.
 #[derive(Drop)]
 pub struct Clients<'a, R: Clock + Wait> {
-    rt: &'a R,
-    alloc: Global,
-    ports: &'a Ports,
-    log: Option<&'a AccessLog>,
-    telling: &'a Telling<'a>,
-    /// Whether a request may be dialled at another port than its ticket's.
-    redispatches: bool,
-}
-
-impl<'a, R: Clock + Wait> Clients<'a, R> {
-    /// The clients that come to the ports. If there is a log, each ended connection is logged. Requests that are
-    /// refused because the history is full are counted for `telling`. If the switch redispatches, the log has the
-    /// number of dials.
-    pub fn new(
-        rt: &'a R,
-        alloc: Global,
-        ports: &'a Ports,
-        log: Option<&'a AccessLog>,
-        telling: &'a Telling<'a>,
-        redispatches: bool,
-    ) -> Clients<'a, R> {
-        Clients {
-            rt,
-            alloc,
-            ports,
-            log,
-            telling,
-            redispatches,
-        }
-    }
+    pub context: &'a ServeContext<'a, R>,
 }
 
 impl<'a, R: Clock + Wait> Accept for Clients<'a, R> {
     type Stream = Client<'a, R>;
 
     fn accept(&self, service: Service) -> io::Result<Option<Client<'a, R>>> {
-        let Some(port) = self.ports.of(service) else {
+        let Some(port) = self.context.ports.of(service) else {
             return Err(io::Error::from(ErrorKind::NotFound));
         };
-        match port.next(self.rt)? {
+        match port.next(self.context.rt)? {
             Some(connection) => Ok(Some(Client {
                 connection,
                 service,
@@ -106,55 +76,61 @@ impl<'a, R: Clock + Wait> Accept for Clients<'a, R> {
 
     fn close(&self, client: Client<'a, R>, served: &Served) {
         if served.reason == Some(Reason::HistoryFull) {
-            self.telling.note_refused_request();
+            self.context.notices.note_refused_request();
         }
-        if let Some(log) = self.log {
-            add_to_log(self.rt, self.alloc, log, &client, served, self.redispatches);
+        if let Some(log) = self.context.log {
+            self.add_to_log(log, &client, served);
         }
         // a request that entered was read to its end
         client.connection.end(served.entered.is_some());
     }
 }
 
-/// Adds the outcome of a connection to the log.
-fn add_to_log<R: Clock + Wait>(
-    rt: &R,
-    alloc: Global,
-    log: &AccessLog,
-    client: &Client<R>,
-    served: &Served,
-    redispatches: bool,
-) {
-    let connection = &client.connection;
-    let (method, target) = match request_line(alloc, connection.first_bytes()) {
-        Some(line) => (Some(line.method), Some(line.target)),
-        None => (None, None),
-    };
-    let entered = served.entered;
-    log.add(
-        rt,
-        &LogEntry {
-            time: log.time(rt),
-            service: service_name(client.service),
-            revision: entered.map(|ticket| ticket.revision),
-            request: entered.map(|ticket| ticket.number),
-            port: served.route.map(|route| route.port),
-            slot_port: slot_port(served),
-            tries: tries(served, redispatches),
-            method,
-            target,
-            status: status_of(served.end),
-            end: name_of(served.end),
-            reason: reason_name(served.reason, connection),
-            request_bytes: connection.request_bytes(),
-            response_bytes: connection.response_bytes(),
-            duration_ms: connection.duration_millis(),
-            upstream_ms: match entered {
-                Some(_) => connection.millis_to_response(),
-                None => None,
+impl<R: Clock + Wait> Clients<'_, R> {
+    /// Adds the outcome of a connection to the log.
+    fn add_to_log(&self, log: &AccessLog, client: &Client<R>, served: &Served) {
+        let rt = self.context.rt;
+        let connection = &client.connection;
+        let (method, target) = match request_line(self.context.alloc, connection.first_bytes()) {
+            Some(line) => (Some(line.method), Some(line.target)),
+            None => (None, None),
+        };
+        let entered = served.entered;
+        log.add(
+            rt,
+            &LogEntry {
+                time: log.time(rt),
+                service: service_name(client.service),
+                revision: entered.map(|ticket| ticket.revision),
+                request: entered.map(|ticket| ticket.number),
+                port: served.route.map(|route| route.port),
+                slot_port: slot_port(served),
+                tries: self.tries(served),
+                method,
+                target,
+                status: status_of(served.end),
+                end: name_of(served.end),
+                reason: reason_name(served.reason, connection),
+                request_bytes: connection.request_bytes(),
+                response_bytes: connection.response_bytes(),
+                duration_ms: connection.duration_millis(),
+                upstream_ms: match entered {
+                    Some(_) => connection.millis_to_response(),
+                    None => None,
+                },
             },
-        },
-    );
+        );
+    }
+
+    /// The number of ports that were dialled, if a request may be dialled at another port than its ticket's.
+    fn tries(&self, served: &Served) -> Option<u32> {
+        let route = served.route?;
+        if self.context.directory.is_some() {
+            Some(route.tries)
+        } else {
+            None
+        }
+    }
 }
 
 /// The port of the ticket, if another port was dialled last.
@@ -165,16 +141,6 @@ fn slot_port(served: &Served) -> Option<u16> {
         return None;
     }
     Some(ticket.port)
-}
-
-/// The number of ports that were dialled, if the switch redispatches.
-fn tries(served: &Served, redispatches: bool) -> Option<u32> {
-    let route = served.route?;
-    if redispatches {
-        Some(route.tries)
-    } else {
-        None
-    }
 }
 
 /// The name of a reason in the log. If a request is malformed or too large although its head has no fault,

@@ -1,72 +1,60 @@
 //! A blue-green traffic switch: the program.
 #![tactic(auto)]
 
-mod carrying_out;
+mod addresses;
+mod book_opener;
+mod buffered_output;
 mod clients;
-mod opening;
+mod context;
+mod descriptors;
+mod notices;
 mod operator_users;
 mod operators;
 mod ports;
 mod request_line;
 mod revision_ports;
 mod serve;
-mod telling;
-mod working;
+mod workers;
 
-use crate::carrying_out::{check_buffered, replay_buffered};
+use crate::buffered_output::{check_buffered, replay_buffered};
 use crate::operator_users::operator_users;
-use crate::serve::{Settings, serve};
+use crate::serve::{RunSettings, serve};
 use bg_access_log::AccessLog;
 use bg_command_line::{
-    Invocation, InvocationFault, MessageTimeout, TIMEOUT_VARIABLE, parse_command_line,
+    Invocation, InvocationFault, MessageTimeout, ServeSettings, TIMEOUT_VARIABLE,
+    parse_command_line,
 };
 use bg_script::RunEnd;
 use std::env::VarError;
-use std::io::{ErrorKind, Write};
+use std::io::{ErrorKind, Read, Write};
+use std::net::{Net, TcpListener, TcpStream};
 use std::process::ExitCode;
 use std::rt::Env;
+use std::sync::Wait;
+use std::thread::Threads;
+use std::time::Clock;
 use std::{env, io};
 
 /// The environment variable that gives the path of the access log; `-` is standard error.
 const ACCESS_LOG_VARIABLE: &str = "BG_SWITCH_ACCESS_LOG";
 
-/// Reads the program's words, and carries out their order over standard input and standard output.
+/// Reads the program's words, and carries out what they ask for over standard input and standard output.
 ///
-/// The exit status is 0, also after `--version`, or 1 after a fault. It is 2 after words that are not an
-/// order, and after `--help`, whose text goes to standard error. It is 1 if the run ends early; the reason
+/// The exit status is 0, also after `--version`, or 1 after a fault. It is 2 after words that are
+/// wrong, and after `--help`, whose text goes to standard error. It is 1 if the run ends early; the reason
 /// goes to standard error. It is also 1 if the access log cannot be opened, or the list of operators cannot be
 /// used; a notice says why.
 fn main(rt: HostRuntime) -> ExitCode {
-    let order = match process_order(&rt) {
-        Ok(order) => order,
-        Err(fault) => return ended_without_order(&rt, &fault),
+    let invocation = match process_invocation(&rt) {
+        Ok(invocation) => invocation,
+        Err(fault) => return ended_without_invocation(&rt, &fault),
     };
-    let done = match order {
+    let done = match invocation {
         Invocation::Check => checked(&rt),
         Invocation::Replay { seats } => replayed(&rt, seats),
-        Invocation::Serve(site) => {
+        Invocation::Serve(words) => {
             let (mut input, mut output, mut errors) = (rt.stdin(), rt.stdout(), rt.stderr());
-            let timeout = message_timeout(&rt, &mut errors);
-            let Ok(operators) = operator_users(&rt, &mut errors) else {
-                return ExitCode::FAILURE;
-            };
-            let Ok(log) = access_log(&rt, &mut errors) else {
-                return ExitCode::FAILURE;
-            };
-            let settings = Settings {
-                timeout,
-                log: log.as_ref(),
-                operators,
-            };
-            serve(
-                &rt,
-                rt.alloc(),
-                site,
-                settings,
-                &mut input,
-                &mut output,
-                &mut errors,
-            )
+            served(&rt, words, &mut input, &mut output, &mut errors)
         }
     };
     match done {
@@ -98,6 +86,35 @@ fn replayed(rt: &HostRuntime, seats: u8) -> Result<u8, RunEnd> {
         &mut rt.stderr(),
     )?;
     Ok(status)
+}
+
+/// Carries out `serve` with the settings of the words and of the environment. Returns the exit status.
+fn served<R, I: Read, W: Write, E: Write>(
+    rt: &R,
+    words: ServeSettings,
+    input: &mut I,
+    output: &mut W,
+    errors: &mut E,
+) -> Result<u8, RunEnd>
+where
+    R: Net<Listener = TcpListener, Stream = TcpStream> + Threads + Wait + Clock + Sync,
+    R: Env + AllocGlobal,
+{
+    let timeout = message_timeout(rt, errors);
+    let Ok(operators) = operator_users(rt, errors) else {
+        return Ok(1);
+    };
+    let Ok(log) = access_log(rt, errors) else {
+        return Ok(1);
+    };
+    let mut settings = RunSettings {
+        alloc: rt.alloc(),
+        words,
+        timeout,
+        log: log.as_ref(),
+        operators,
+    };
+    serve(rt, &mut settings, input, output, errors)
 }
 
 /// The message timeout that the environment sets. Writes a notice if the environment gives no usable
@@ -143,8 +160,8 @@ fn access_log<R: Env + AllocGlobal, E: Write>(
     }
 }
 
-/// Writes the version, or why the words are not an order.
-fn ended_without_order(rt: &HostRuntime, fault: &InvocationFault) -> ExitCode {
+/// Writes the version, or why the words are wrong.
+fn ended_without_invocation(rt: &HostRuntime, fault: &InvocationFault) -> ExitCode {
     match fault {
         InvocationFault::Words(version) if fault.asks_for_version() => match print!(rt;
             "{version}"
@@ -166,9 +183,9 @@ fn ended(rt: &HostRuntime, end: RunEnd) -> ExitCode {
     ExitCode::FAILURE
 }
 
-/// The order of the process's words. If a word is not UTF-8, the word U+FFFD stands for all of
+/// What the process's words ask for. If a word is not UTF-8, the word U+FFFD stands for all of
 /// them.
-fn process_order<R: Env + AllocGlobal>(rt: &R) -> Result<Invocation, InvocationFault> {
+fn process_invocation<R: Env + AllocGlobal>(rt: &R) -> Result<Invocation, InvocationFault> {
     let alloc = rt.alloc();
     let texts = match env::args(rt) {
         Ok(texts) => texts,

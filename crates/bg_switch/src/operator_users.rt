@@ -1,4 +1,4 @@
-//! The users whose orders are taken.
+//! The users whose lines are answered.
 
 use bg_peers::{Users, UsersFault};
 use std::alloc::Global;
@@ -42,12 +42,12 @@ fn users_of<E: Write>(alloc: Global, list: &str, errors: &mut E) -> Option<Users
     match Users::read(alloc, list) {
         Ok(users) => Some(users),
         Err(fault) => {
-            tell_fault(fault, errors);
+            write_fault(fault, errors);
             None
         }
     }
 }
 
-fn tell_fault<E: Write>(fault: UsersFault, errors: &mut E) {
+fn write_fault<E: Write>(fault: UsersFault, errors: &mut E) {
     let _ = writeln!(errors, "bg_switch: {OPERATORS_VARIABLE}: {fault}");
 }

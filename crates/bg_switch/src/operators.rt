@@ -1,13 +1,13 @@
 //! The lines of operators, answered one after the other.
 ghost use Rattle.std.specs.Prelude.{◌≡◌};
-ghost use Rattle.bg_switch.specs.Orders.{is_decision, is_order};
+ghost use Rattle.bg_switch.specs.Decisions.{is_decision, makes_decision};
 ghost use Rattle.bg_switch.specs.Rollbacks.{ends_attempt, is_rollback, is_unsuccessful};
 
-use crate::revision_ports::{DownPorts, update};
-use crate::telling::Telling;
+use crate::context::ServeContext;
+use crate::notices::Notices;
+use crate::revision_ports::{DownPorts, update_directory};
 use bg_book::{Control, Desk};
 use bg_control_port::{AfterReply, Asker, ControlPort, LinePriority};
-use bg_endpoints::Directory;
 use bg_history::AnalysisResult;
 use bg_ledger::Names;
 use bg_operator::{Command, LineFault, OperatorLines};
@@ -25,7 +25,7 @@ const CARRIED_OUT: &[u8] = b"ok ";
 #[derive(Drop)]
 pub struct Operator<'c, R: Clock + Wait> {
     rt: &'c R,
-    telling: &'c Telling<'c>,
+    notices: &'c Notices<'c>,
     lines: OperatorLines,
     rollbacks: RollbacksFirst,
     /// The line that is being answered, with its line end.
@@ -38,10 +38,10 @@ pub struct Operator<'c, R: Clock + Wait> {
 
 impl<'c, R: Clock + Wait> Operator<'c, R> {
     /// Allocates nothing; the memory for lines and replies is allocated when they come.
-    pub fn new(rt: &'c R, alloc: Global, telling: &'c Telling<'c>) -> Operator<'c, R> {
+    pub fn new(rt: &'c R, alloc: Global, notices: &'c Notices<'c>) -> Operator<'c, R> {
         Operator {
             rt,
-            telling,
+            notices,
             lines: OperatorLines::new(alloc),
             rollbacks: RollbacksFirst { alloc },
             line: Vec::new(alloc),
@@ -53,7 +53,7 @@ impl<'c, R: Clock + Wait> Operator<'c, R> {
     /// Waits for the next line of any operator.
     fn next(&mut self, control: &ControlPort) {
         self.reply.clear();
-        let asker = control.next(self.rt, self.telling, &self.rollbacks, &mut self.line);
+        let asker = control.next(self.rt, self.notices, &self.rollbacks, &mut self.line);
         self.asker = Some(asker);
     }
 
@@ -64,7 +64,7 @@ impl<'c, R: Clock + Wait> Operator<'c, R> {
         let end = answer_before_open(&mut self.lines, &mut line, &mut self.reply);
         match &end {
             Ok(LinesEnd::Open(_)) => {}
-            Ok(LinesEnd::Quit) => self.tell_order(),
+            Ok(LinesEnd::Quit) => self.note_decision(),
             Ok(LinesEnd::End) => self.deliver(control, AfterReply::GoesOn),
             Ok(LinesEnd::SpeaksHttp) => self.deliver(control, AfterReply::Closes),
             Err(_) => self.end(control),
@@ -86,13 +86,13 @@ impl<'c, R: Clock + Wait> Operator<'c, R> {
             rt: self.rt,
             alloc,
             desk,
-            refused_for_room: self.telling.refused_lines(),
+            refused_for_room: self.notices.refused_lines(),
             receiver: down,
         };
         let end = answer_at_desk(at_desk, &mut self.lines, &mut line, &mut self.reply);
         match end {
             Ok(ControlEnd::Quit) => {
-                self.tell_order();
+                self.note_decision();
                 return true;
             }
             Ok(ControlEnd::End) => self.deliver(control, AfterReply::GoesOn),
@@ -103,7 +103,7 @@ impl<'c, R: Clock + Wait> Operator<'c, R> {
     }
 
     /// Answers an `open`.
-    pub fn say(&mut self, control: &ControlPort, answer: &Answer) {
+    pub fn answer_open(&mut self, control: &ControlPort, answer: &Answer) {
         self.reply.clear();
         match write_answer(answer, &mut self.reply) {
             Ok(()) => self.deliver(control, AfterReply::GoesOn),
@@ -111,26 +111,26 @@ impl<'c, R: Clock + Wait> Operator<'c, R> {
         }
     }
 
-    /// Gives the reply to the connection whose line it answers. Tells of the line if it was carried out.
+    /// Gives the reply to the connection whose line it answers. Writes a notice of the line if it was carried out.
     fn deliver(&mut self, control: &ControlPort, after: AfterReply) {
         if self.reply.starts_with(CARRIED_OUT) {
-            self.tell_order();
+            self.note_decision();
         }
         if let Some(asker) = self.asker.take() {
             control.reply(self.rt, asker, &self.reply, after, &self.rollbacks);
         }
     }
 
-    /// Tells of the line, if it is an order and its user is known.
-    fn tell_order(&self) {
+    /// Writes a notice of the line, if it makes a decision and its user is known.
+    fn note_decision(&self) {
         let Some(user) = self.asker.and_then(|asker| asker.user()) else {
             return;
         };
         let mut line = self.line.as_slice();
         if let Ok(Some(read)) = OperatorLines::new(self.rollbacks.alloc).next(&mut line)
-            && is_order(&read)
+            && makes_decision(&read)
         {
-            self.telling.tell_order(user, &self.line);
+            self.notices.write_decision(user, &self.line);
         }
     }
 
@@ -143,8 +143,8 @@ impl<'c, R: Clock + Wait> Operator<'c, R> {
 }
 
 /// Whether a line opens the book, changes the rollout by a decision, or ends the program.
-fn is_order(read: &Result<Command, LineFault>) -> bool
-    ensures { result ≡ is_order read.now }
+fn makes_decision(read: &Result<Command, LineFault>) -> bool
+    ensures { result ≡ makes_decision read.now }
 {
     match read {
         Ok(command) => match command {
@@ -218,39 +218,23 @@ fn is_unsuccessful(verdict: AnalysisResult) -> bool
 /// Answers the `open` that opened the book, and then the lines of all operators, up to `quit`. The directory, if
 /// there is one, gets the ports of the revisions that exist after each line, before the next one is answered.
 pub fn answer_operators<'a, N: Names, R: Clock + Wait>(
-    rt: &'a R,
-    alloc: Global,
+    context: &ServeContext<'a, R>,
     desk: &Desk<N>,
-    opener: &mut Operator<R>,
-    control: &'a ControlPort,
-    telling: &'a Telling,
-    directory: Option<&'a Directory>,
+    operator: &mut Operator<R>,
 ) {
     let down = DownPorts {
-        rt,
-        alloc,
-        directory,
+        rt: context.rt,
+        alloc: context.alloc,
+        directory: context.directory,
     };
-    telling.note_open();
-    update_directory(rt, alloc, desk, directory);
-    opener.say(control, &Answer::Opened);
-    for _ in rt.forever() {
-        telling.note_entries(desk.entries_used(rt));
-        if opener.quits_at_desk(alloc, desk, control, &down) {
+    context.notices.note_open();
+    update_directory(context, desk);
+    operator.answer_open(&context.ports.control, &Answer::Opened);
+    for _ in context.rt.forever() {
+        context.notices.note_entries(desk.entries_used(context.rt));
+        if operator.quits_at_desk(context.alloc, desk, &context.ports.control, &down) {
             return;
         }
-        update_directory(rt, alloc, desk, directory);
-    }
-}
-
-/// Gives the directory, if there is one, the ports of the revisions.
-fn update_directory<N: Names, R: Wait>(
-    rt: &R,
-    alloc: Global,
-    desk: &Desk<N>,
-    directory: Option<&Directory>,
-) {
-    if let Some(directory) = directory {
-        update(rt, desk, alloc, directory);
+        update_directory(context, desk);
     }
 }

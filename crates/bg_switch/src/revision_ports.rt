@@ -1,6 +1,7 @@
 //! The ports of the revisions, by which a directory of endpoints knows which ports belong together.
 ghost use Rattle.std.specs.Prelude.{⊤};
 
+use crate::context::ServeContext;
 use bg_book::{Book, Desk, Question};
 use bg_endpoints::{Directory, PortList, PortLists};
 use bg_ledger::Names;
@@ -8,11 +9,16 @@ use bg_script::MarksDown;
 use std::alloc::{AllocError, Global};
 use std::sync::Wait;
 
-/// Gives a directory the ports of each revision that exists. If an allocation fails, the directory keeps the lists
-/// of before.
-pub fn update<N: Names, R: Wait>(rt: &R, desk: &Desk<N>, alloc: Global, directory: &Directory) {
-    if let Ok(lists) = desk.look(rt, PortsOfRevisions { alloc }) {
-        directory.set(rt, lists);
+/// Gives the directory, if there is one, the ports of each revision that exists. If an allocation fails, it keeps the
+/// lists of before.
+pub fn update_directory<N: Names, R: Wait>(context: &ServeContext<R>, desk: &Desk<N>) {
+    if let Some(directory) = context.directory {
+        let question = PortsOfRevisions {
+            alloc: context.alloc,
+        };
+        if let Ok(lists) = desk.look(context.rt, question) {
+            directory.set(context.rt, lists);
+        }
     }
 }
 

@@ -1,15 +1,18 @@
 //! `serve`: workers at the client ports, and operators at the control port.
 
-use crate::opening::{Scene, await_open};
-use crate::ports::{BindFault, FewDescriptors, Ports, preview_workers, service_name};
-use crate::telling::Telling;
+use crate::addresses::BindFault;
+use crate::book_opener::await_open;
+use crate::context::ServeContext;
+use crate::descriptors::FewDescriptors;
+use crate::notices::Notices;
+use crate::ports::{Ports, preview_workers, service_name};
 use bg_access_log::AccessLog;
-use bg_command_line::{Connections, MessageTimeout, Site};
-use bg_control_port::ControlPort;
+use bg_command_line::{Connections, MessageTimeout, ServeSettings};
 use bg_endpoints::{Directory, Share};
 use bg_peers::Users;
 use bg_revisions::Service;
 use bg_script::{Finding, RunEnd, finding_of_input, write_finding};
+use bg_strategy::Strategy;
 use std::alloc::Global;
 use std::io;
 use std::io::{Read, Write};
@@ -18,9 +21,12 @@ use std::sync::Wait;
 use std::thread::Threads;
 use std::time::Clock;
 
-/// What the environment sets.
+/// The settings of a run of `serve`.
 #[derive(Drop)]
-pub struct Settings<'l> {
+pub struct RunSettings<'l> {
+    pub alloc: Global,
+    /// What the words of the command line set.
+    pub words: ServeSettings,
     /// The timeout within which a request or a response has to be complete.
     pub timeout: MessageTimeout,
     /// The log of ended connections.
@@ -43,9 +49,7 @@ pub struct Settings<'l> {
 /// nothing else.
 pub fn serve<R, I: Read, W: Write, E: Write>(
     rt: &R,
-    alloc: Global,
-    site: Site,
-    settings: Settings,
+    settings: &mut RunSettings,
     input: &mut I,
     output: &mut W,
     errors: &mut E,
@@ -53,62 +57,96 @@ pub fn serve<R, I: Read, W: Write, E: Write>(
 where
     R: Net<Listener = TcpListener, Stream = TcpStream> + Threads + Wait + Clock + Sync,
 {
-    let Settings {
-        timeout,
-        log,
-        operators,
-    } = settings;
-    let finding = finding_of_input(alloc, input, errors)?;
-    let Finding::Means(strategy) = &finding else {
-        written(write_finding(&finding, output))?;
-        return Ok(finding.status());
-    };
-    if site.preview.is_some() && strategy.preview_service.is_none() {
-        tell_useless_preview(errors);
+    let finding = finding_of_input(settings.alloc, input, errors)?;
+    match &finding {
+        Finding::Means(strategy) => serve_strategy(rt, settings, strategy, output, errors),
+        finding => write_fault(finding, output),
     }
-    tell_few_descriptors(&site, errors);
-    let ports = match Ports::bind(rt, alloc, &site, timeout.seconds(), operators) {
-        Ok(ports) => ports,
-        Err(fault) => {
-            tell_bind_fault(&fault, errors);
-            written(writeln!(output, "fault Bind"))?;
-            return Ok(1);
-        }
-    };
-    written(tell_listening(output))?;
-    let telling = Telling::new(alloc, &ports, &site, log);
-    let previews = preview_workers(&site);
-    let seats = u32::from(site.workers).saturating_add(previews);
-    let directory = directory_of(rt, alloc, &site, seats);
-    let scene = Scene {
-        alloc,
-        strategy,
-        ports: &ports,
-        seats,
-        previews,
-        count: most_connections(site.connections),
-        shuts_down: site.connections == Connections::Forever,
-        timeout,
-        log,
-        directory: directory.as_ref(),
-        telling: &telling,
-    };
-    serve_at(rt, &scene, &ports.control, output)?;
-    tell_cut_responses(rt, &ports, errors);
-    Ok(0)
 }
 
-/// Serves operators and clients at ports that are bound.
-fn serve_at<'a, R, W: Write>(
-    rt: &'a R,
-    scene: &Scene<'a>,
-    control: &'a ControlPort,
+/// Writes the fault of the strategy. Returns the exit status.
+fn write_fault<W: Write>(finding: &Finding, output: &mut W) -> Result<u8, RunEnd> {
+    written(write_finding(finding, output))?;
+    Ok(finding.status())
+}
+
+/// Binds the ports, and serves operators and clients at them.
+fn serve_strategy<R, W: Write, E: Write>(
+    rt: &R,
+    settings: &mut RunSettings,
+    strategy: &Strategy,
+    output: &mut W,
+    errors: &mut E,
+) -> Result<u8, RunEnd>
+where
+    R: Net<Listener = TcpListener, Stream = TcpStream> + Threads + Wait + Clock + Sync,
+{
+    if settings.words.preview.is_some() && strategy.preview_service.is_none() {
+        write_useless_preview(errors);
+    }
+    write_few_descriptors(&settings.words, errors);
+    let operators = settings.operators.take();
+    match bind_ports(rt, settings, operators) {
+        // one path for both results, since each path on which the ports are dropped is proved by itself
+        Ok(ports) => match serve_at_ports(rt, settings, strategy, &ports, output) {
+            Ok(()) => {
+                write_cut_responses(rt, &ports, errors);
+                Ok(0)
+            }
+            Err(end) => Err(end),
+        },
+        Err(fault) => write_bind_fault(&fault, output, errors),
+    }
+}
+
+/// Binds the ports of the settings.
+fn bind_ports<R: Net<Listener = TcpListener, Stream = TcpStream> + Clock>(
+    rt: &R,
+    settings: &RunSettings,
+    operators: Option<Users>,
+) -> Result<Ports, BindFault> {
+    let request_seconds = settings.timeout.seconds();
+    Ports::bind(
+        rt,
+        settings.alloc,
+        &settings.words,
+        request_seconds,
+        operators,
+    )
+}
+
+/// Writes `listening`, and serves operators and clients at ports that are bound.
+fn serve_at_ports<R, W: Write>(
+    rt: &R,
+    settings: &RunSettings,
+    strategy: &Strategy,
+    ports: &Ports,
     output: &mut W,
 ) -> Result<(), RunEnd>
 where
     R: Net<Listener = TcpListener, Stream = TcpStream> + Threads + Wait + Clock + Sync,
 {
-    await_open(rt, scene, control, output)
+    written(write_listening(output))?;
+    let words = &settings.words;
+    let notices = Notices::new(settings.alloc, ports, words, settings.log);
+    let previews = preview_workers(words);
+    let seats = u32::from(words.workers).saturating_add(previews);
+    let directory = directory_of(rt, settings.alloc, words, seats);
+    let context = ServeContext {
+        rt,
+        alloc: settings.alloc,
+        strategy,
+        ports,
+        seats,
+        previews,
+        count: most_connections(words.connections),
+        shuts_down: words.connections == Connections::Forever,
+        timeout: settings.timeout,
+        log: settings.log,
+        directory: directory.as_ref(),
+        notices: &notices,
+    };
+    await_open(&context, output)
 }
 
 /// The maximum number of connections that each worker takes.
@@ -124,21 +162,21 @@ fn most_connections(connections: Connections) -> u64 {
 fn directory_of<R: Clock>(
     rt: &R,
     alloc: Global,
-    site: &Site,
+    settings: &ServeSettings,
     concurrency: u32,
 ) -> Option<Directory> {
-    if !site.redispatch {
+    if !settings.redispatch {
         return None;
     }
     let share = Share {
-        given: site.endpoint_limit,
+        given: settings.endpoint_limit,
         concurrency,
     };
     Some(Directory::new(rt, alloc, share))
 }
 
 /// Writes the notice that the preview port has no effect.
-fn tell_useless_preview<E: Write>(errors: &mut E) {
+fn write_useless_preview<E: Write>(errors: &mut E) {
     let _ = writeln!(
         errors,
         "bg_switch: the strategy has no previewService: requests at the preview port are answered 503"
@@ -146,14 +184,14 @@ fn tell_useless_preview<E: Write>(errors: &mut E) {
 }
 
 /// Writes that the limit on descriptors leaves few of them to pending connections, if it does.
-fn tell_few_descriptors<E: Write>(site: &Site, errors: &mut E) {
-    if let Some(few) = FewDescriptors::of(site) {
+fn write_few_descriptors<E: Write>(settings: &ServeSettings, errors: &mut E) {
+    if let Some(few) = FewDescriptors::of(settings) {
         let _ = writeln!(errors, "bg_switch: {few}");
     }
 }
 
 /// Writes how many responses were cut at each client port, if any were.
-fn tell_cut_responses<R: Wait, E: Write>(rt: &R, ports: &Ports, errors: &mut E) {
+fn write_cut_responses<R: Wait, E: Write>(rt: &R, ports: &Ports, errors: &mut E) {
     for service in [Service::Active, Service::Preview] {
         if let Some(port) = ports.of(service) {
             let cut = port.take_cut_responses(rt);
@@ -170,13 +208,19 @@ fn tell_cut_responses<R: Wait, E: Write>(rt: &R, ports: &Ports, errors: &mut E) 
     }
 }
 
-/// Writes which port cannot be bound, and why.
-fn tell_bind_fault<E: Write>(fault: &BindFault, errors: &mut E) {
+/// Writes which port cannot be bound, and why. Returns the exit status.
+fn write_bind_fault<W: Write, E: Write>(
+    fault: &BindFault,
+    output: &mut W,
+    errors: &mut E,
+) -> Result<u8, RunEnd> {
     let _ = writeln!(errors, "bg_switch: {fault}");
+    written(writeln!(output, "fault Bind"))?;
+    Ok(1)
 }
 
 /// Writes that the ports are bound, and flushes.
-fn tell_listening<W: Write>(output: &mut W) -> io::Result<()> {
+fn write_listening<W: Write>(output: &mut W) -> io::Result<()> {
     writeln!(output, "listening")?;
     output.flush()
 }

@@ -4,7 +4,7 @@ use crate::ports::{Ports, service_name};
 use bg_access_log::{AccessLog, LogTrouble};
 use bg_book::Limits;
 use bg_client_port::ClientPort;
-use bg_command_line::Site;
+use bg_command_line::ServeSettings;
 use bg_control_port::ControlEvents;
 use bg_revisions::Service;
 use libc::STDERR_FILENO;
@@ -21,11 +21,11 @@ const SECONDS_TO_BEGIN: u64 = 3;
 /// A notice.
 #[derive(Drop)]
 enum Notice<'a> {
-    /// The number of workers of a port that have begun, and the number that was ordered.
+    /// The number of workers of a port that have begun, and the number that it should have.
     FewerWorkers {
         port: &'static str,
         begun: usize,
-        ordered: usize,
+        expected: usize,
     },
     NoEventLoop {
         port: &'static str,
@@ -49,13 +49,13 @@ enum Notice<'a> {
         lines: u64,
         requests: u64,
     },
-    /// What the user with this number has ordered.
-    Ordered {
+    /// A line of the user with this number, which was carried out.
+    Decision {
         user: u32,
         line: &'a str,
     },
     /// The number of connections of other users since the last such notice.
-    TurnedAway {
+    RefusedConnections {
         connections: u64,
     },
     LogTakesNothing {
@@ -72,8 +72,8 @@ impl fmt::Display for Notice<'_> {
             Notice::FewerWorkers {
                 port,
                 begun,
-                ordered,
-            } => write!(f, "the {port} port has {begun} of {ordered} workers"),
+                expected,
+            } => write!(f, "the {port} port has {begun} of {expected} workers"),
             Notice::NoEventLoop { port } => write!(f, "the {port} port has no event loop"),
             Notice::AcceptsFail { port } => {
                 write!(f, "accepts fail at the {port} port, and are tried again")
@@ -93,8 +93,8 @@ impl fmt::Display for Notice<'_> {
                 f,
                 "the history is full; lines refused: {lines}, requests refused: {requests}"
             ),
-            Notice::Ordered { user, line } => write!(f, "user {user}: {line}"),
-            Notice::TurnedAway { connections } => write!(
+            Notice::Decision { user, line } => write!(f, "user {user}: {line}"),
+            Notice::RefusedConnections { connections } => write!(
                 f,
                 "connections at the control port that are not of the users of BG_SWITCH_OPERATORS: {connections}"
             ),
@@ -107,18 +107,18 @@ impl fmt::Display for Notice<'_> {
     }
 }
 
-/// The notices that were written about a client port.
+/// Which notices were written about a client port.
 #[derive(Drop)]
-struct Told {
+struct PortNotices {
     workers: AtomicBool,
     event_loop: AtomicBool,
     used_up: AtomicBool,
 }
 
-impl Told {
+impl PortNotices {
     /// No notices yet.
-    fn new() -> Told {
-        Told {
+    fn new() -> PortNotices {
+        PortNotices {
             workers: AtomicBool::new(false),
             event_loop: AtomicBool::new(false),
             used_up: AtomicBool::new(false),
@@ -126,23 +126,23 @@ impl Told {
     }
 }
 
-/// Writes notices to standard error while the ports are open: fewer threads than ordered, failed
+/// Writes notices to standard error while the ports are open: fewer threads than expected, failed
 /// accepts, a port that is closed because its workers have taken all their connections, a history that is
 /// nearly full, lines and requests that are refused because it is full, an access log that takes nothing
-/// or has lost lines, and, if only listed users are served, their orders and the connections of others. Each is
+/// or has lost lines, and, if only listed users are served, their decisions and the connections of others. Each is
 /// written once, or once for each client port, with these exceptions. Failed accepts at the control port, and a log
-/// that takes nothing, are told once for each series of failures. Refusals, and connections of others, are told each
-/// second in which something was refused. Each order is told. A failed write changes nothing else.
+/// that takes nothing, are written once for each series of failures. Refusals, and connections of others, are written
+/// each second in which something was refused. Each decision is written. A failed write changes nothing else.
 #[derive(Drop)]
-pub struct Telling<'p> {
+pub struct Notices<'p> {
     alloc: Global,
     ports: &'p Ports,
     log: Option<&'p AccessLog>,
     /// The number of workers of the active service, and of the preview service.
     workers: usize,
     preview_workers: usize,
-    of_active: Told,
-    of_preview: Told,
+    of_active: PortNotices,
+    of_preview: PortNotices,
     is_open: AtomicBool,
     /// The number of seconds since the book was opened.
     open_seconds: AtomicU64,
@@ -151,32 +151,32 @@ pub struct Telling<'p> {
     refused_lines: AtomicU64,
     /// The number of such requests.
     refused_requests: AtomicU64,
-    /// The number of connections that were turned away at the control port, since the last notice about that.
-    turned_away: AtomicU64,
+    /// The number of connections that were refused at the control port, since the last notice about that.
+    refused_connections: AtomicU64,
 }
 
-impl<'p> Telling<'p> {
+impl<'p> Notices<'p> {
     /// No notice was written yet, and no book is open.
     pub fn new(
         alloc: Global,
         ports: &'p Ports,
-        site: &Site,
+        settings: &ServeSettings,
         log: Option<&'p AccessLog>,
-    ) -> Telling<'p> {
-        Telling {
+    ) -> Notices<'p> {
+        Notices {
             alloc,
             ports,
             log,
-            workers: usize::from(site.workers),
-            preview_workers: usize::from(site.preview_workers),
-            of_active: Told::new(),
-            of_preview: Told::new(),
+            workers: usize::from(settings.workers),
+            preview_workers: usize::from(settings.preview_workers),
+            of_active: PortNotices::new(),
+            of_preview: PortNotices::new(),
             is_open: AtomicBool::new(false),
             open_seconds: AtomicU64::new(0),
             nearly_full: AtomicBool::new(false),
             refused_lines: AtomicU64::new(0),
             refused_requests: AtomicU64::new(0),
-            turned_away: AtomicU64::new(0),
+            refused_connections: AtomicU64::new(0),
         }
     }
 
@@ -190,7 +190,7 @@ impl<'p> Telling<'p> {
     pub fn note_entries(&self, used: u64) {
         let most = Limits::usual().entries;
         if used >= most / 10 * 9 {
-            self.tell_once(&self.nearly_full, &Notice::HistoryNearlyFull { used, most });
+            self.write_once(&self.nearly_full, &Notice::HistoryNearlyFull { used, most });
         }
     }
 
@@ -204,91 +204,91 @@ impl<'p> Telling<'p> {
         self.refused_requests.fetch_add(1, Ordering::SeqCst);
     }
 
-    /// Tells how many lines and requests were refused because the history is full, if any were refused since the
+    /// Writes how many lines and requests were refused because the history is full, if any were refused since the
     /// last call.
-    pub fn tell_refusals(&self) {
+    pub fn write_refusals(&self) {
         let lines = self.refused_lines.swap(0, Ordering::SeqCst);
         let requests = self.refused_requests.swap(0, Ordering::SeqCst);
         if lines > 0 || requests > 0 {
-            self.tell(&Notice::HistoryFull { lines, requests });
+            self.write(&Notice::HistoryFull { lines, requests });
         }
     }
 
-    /// Tells of the access log: that its file takes nothing, once for each series of failed writes, and how many lines
+    /// Writes about the access log: that its file takes nothing, once for each series of failed writes, and how many lines
     /// were lost.
-    pub fn tell_log(&self) {
+    pub fn write_log_trouble(&self) {
         match self.log {
             Some(log) => match log.take_trouble() {
-                Some(LogTrouble::TakesNothing(reason)) => self.tell(&Notice::LogTakesNothing {
+                Some(LogTrouble::TakesNothing(reason)) => self.write(&Notice::LogTakesNothing {
                     reason: &reason,
                 }),
-                Some(LogTrouble::LinesLost(lost)) => self.tell(&Notice::LogLinesLost { lost }),
+                Some(LogTrouble::LinesLost(lost)) => self.write(&Notice::LogLinesLost { lost }),
                 None => {}
             },
             None => {}
         }
     }
 
-    /// Tells whose order was carried out: the line of an operator, and the number of its user.
-    pub fn tell_order(&self, user: u32, line: &[u8]) {
+    /// Writes who has made a decision: the line of an operator, and the number of its user.
+    pub fn write_decision(&self, user: u32, line: &[u8]) {
         if let Ok(line) = str::from_utf8(line) {
-            self.tell(&Notice::Ordered {
+            self.write(&Notice::Decision {
                 user,
                 line: line.trim_end(),
             });
         }
     }
 
-    /// Tells how many connections were turned away, if any were since the last call.
-    fn tell_turned_away(&self) {
-        let connections = self.turned_away.swap(0, Ordering::SeqCst);
+    /// Writes how many connections were refused, if any were since the last call.
+    fn write_refused_connections(&self) {
+        let connections = self.refused_connections.swap(0, Ordering::SeqCst);
         if connections > 0 {
-            self.tell(&Notice::TurnedAway { connections });
+            self.write(&Notice::RefusedConnections { connections });
         }
     }
 
     /// Checks a client port.
-    fn look_at(&self, service: Service, is_late: bool) {
+    fn check_port(&self, service: Service, is_late: bool) {
         let Some(port) = self.ports.of(service) else {
             return;
         };
         let name = service_name(service);
         if port.take_accept_failure() {
-            self.tell(&Notice::AcceptsFail { port: name });
+            self.write(&Notice::AcceptsFail { port: name });
         }
-        let told = self.told_of(service);
+        let written = self.written_of(service);
         if port.is_closed() {
-            self.tell_once(&told.used_up, &Notice::UsedUp { port: name });
+            self.write_once(&written.used_up, &Notice::UsedUp { port: name });
         } else if is_late {
-            self.look_at_threads(port, service);
+            self.check_threads(port, service);
         }
     }
 
     /// Checks whether the threads of a port have begun.
-    fn look_at_threads(&self, client_port: &ClientPort, service: Service) {
+    fn check_threads(&self, client_port: &ClientPort, service: Service) {
         let port = service_name(service);
-        let told = self.told_of(service);
-        let ordered = match service {
+        let written = self.written_of(service);
+        let expected = match service {
             Service::Active => self.workers,
             Service::Preview => self.preview_workers,
         };
         let begun = client_port.workers_begun();
-        if begun < ordered {
-            self.tell_once(
-                &told.workers,
+        if begun < expected {
+            self.write_once(
+                &written.workers,
                 &Notice::FewerWorkers {
                     port,
                     begun,
-                    ordered,
+                    expected,
                 },
             );
         }
         if !client_port.has_event_loop() {
-            self.tell_once(&told.event_loop, &Notice::NoEventLoop { port });
+            self.write_once(&written.event_loop, &Notice::NoEventLoop { port });
         }
     }
 
-    fn told_of(&self, service: Service) -> &Told {
+    fn written_of(&self, service: Service) -> &PortNotices {
         match service {
             Service::Active => &self.of_active,
             Service::Preview => &self.of_preview,
@@ -303,15 +303,15 @@ impl<'p> Telling<'p> {
         }
     }
 
-    fn tell_once(&self, is_told: &AtomicBool, notice: &Notice) {
-        if !is_told.swap(true, Ordering::SeqCst) {
-            self.tell(notice);
+    fn write_once(&self, is_written: &AtomicBool, notice: &Notice) {
+        if !is_written.swap(true, Ordering::SeqCst) {
+            self.write(notice);
         }
     }
 
     /// Writes a line to standard error. If standard error takes nothing now, the line is lost: operators are
     /// served by this thread, and do not wait for whoever reads it.
-    fn tell(&self, notice: &Notice) {
+    fn write(&self, notice: &Notice) {
         let mut line = Vec::new(self.alloc);
         if writeln!(line, "bg_switch: {notice}").is_err() || self.hands_over(&line) {
             return;
@@ -332,25 +332,26 @@ fn takes_a_line() -> bool {
     poll(&mut asked, 0) > 0
 }
 
-impl ControlEvents for Telling<'_> {
+impl ControlEvents for Notices<'_> {
     fn accept_failed(&self, reason: &io::Error) {
-        self.tell(&Notice::ControlAcceptsFail { reason });
+        self.write(&Notice::ControlAcceptsFail { reason });
     }
 
-    fn turned_away(&self, connections: u64) {
-        self.turned_away.fetch_add(connections, Ordering::SeqCst);
+    fn connections_refused(&self, connections: u64) {
+        self.refused_connections
+            .fetch_add(connections, Ordering::SeqCst);
     }
 
     fn second_passed(&self) {
-        self.tell_turned_away();
+        self.write_refused_connections();
         if !self.is_open.load(Ordering::SeqCst) {
             return;
         }
         let passed = self.open_seconds.fetch_add(1, Ordering::SeqCst);
         let is_late = passed >= SECONDS_TO_BEGIN;
-        self.look_at(Service::Active, is_late);
-        self.look_at(Service::Preview, is_late);
-        self.tell_refusals();
-        self.tell_log();
+        self.check_port(Service::Active, is_late);
+        self.check_port(Service::Preview, is_late);
+        self.write_refusals();
+        self.write_log_trouble();
     }
 }

@@ -7,14 +7,14 @@ use std::sync::Wait;
 use std::time::Clock;
 
 /// A request that is counted at a port until this is dropped. The directory then learns how the port took it.
-pub(crate) struct Visit<'a, R: Clock + Wait> {
+pub(crate) struct CountedRequest<'a, R: Clock + Wait> {
     rt: &'a R,
     directory: &'a Directory,
     port: u16,
     health: Health,
 }
 
-impl<'a, R: Clock + Wait> Visit<'a, R> {
+impl<'a, R: Clock + Wait> CountedRequest<'a, R> {
     /// Chooses the port that is dialled next for a ticket's port, after those that were tried, and counts a
     /// request there. `None` if no port is left.
     pub(crate) fn begin(
@@ -22,11 +22,11 @@ impl<'a, R: Clock + Wait> Visit<'a, R> {
         directory: &'a Directory,
         ticket: u16,
         tried: &[u16],
-    ) -> Option<Visit<'a, R>>
-        ensures { IfSome result (λ visit. is_new visit.port tried.now ≡ true) }
+    ) -> Option<CountedRequest<'a, R>>
+        ensures { IfSome result (λ counted. is_new counted.port tried.now ≡ true) }
     {
         let port = directory.begin(rt, ticket, tried)?;
-        Some(Visit {
+        Some(CountedRequest {
             rt,
             directory,
             port,
@@ -57,9 +57,9 @@ impl<'a, R: Clock + Wait> Visit<'a, R> {
     }
 }
 
-impl<R: Clock + Wait> Drop for Visit<'_, R> {
+impl<R: Clock + Wait> Drop for CountedRequest<'_, R> {
     fn drop(self) {
-        let Visit {
+        let CountedRequest {
             rt,
             directory,
             port,

@@ -1,6 +1,6 @@
 //! Connects to ports of this machine.
 ghost use Rattle.std.specs.Prelude.{◌≡◌};
-ghost use Rattle.bg_endpoints.specs.Addresses.{home_address};
+ghost use Rattle.bg_endpoints.specs.Addresses.{loopback_address};
 
 use libc::net::{_SS_SIZE, AF_INET, SOCK_CLOEXEC, SOCK_STREAM};
 use os::FromRawFd;
@@ -56,7 +56,7 @@ pub(crate) fn connect<C: Clock>(
         Ok(stream) => stream,
         Err(error) => return Err(ConnectFault::NoSocket(error)),
     };
-    match connect_to(stream.as_raw_fd(), &home_address(port)) {
+    match connect_to(stream.as_raw_fd(), &loopback_address(port)) {
         Ok(()) => Ok(stream),
         Err(error) => Err(ConnectFault::Failed(error)),
     }
@@ -120,8 +120,8 @@ fn connect_to(socket: RawFd, address: &[u8; _SS_SIZE]) -> io::Result<()> {
 }
 
 /// The address of a port of 127.0.0.1, as C's sockaddr_in.
-fn home_address(port: u16) -> [u8; _SS_SIZE]
-    ensures { result ≡ home_address port }
+fn loopback_address(port: u16) -> [u8; _SS_SIZE]
+    ensures { result ≡ loopback_address port }
 {
     let [high, low] = port.to_be_bytes();
     let mut bytes = [0u8; _SS_SIZE];

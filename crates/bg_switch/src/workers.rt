@@ -4,13 +4,10 @@ ghost use Rattle.bg_forward.specs.Seats.{AllOut, AllWorked};
 ghost use Rattle.bg_switch.specs.Services.{services_in};
 
 use crate::clients::Clients;
-use crate::opening::Scene;
+use crate::context::ServeContext;
 use crate::operators::{Operator, answer_operators};
-use crate::ports::Ports;
-use bg_access_log::AccessLog;
 use bg_book::Desk;
 use bg_command_line::MessageTimeout;
-use bg_control_port::ControlPort;
 use bg_endpoints::{Endpoints, ResponseTimeout};
 use bg_forward::{DeskGate, run_workers};
 use bg_ledger::{Names, Seat};
@@ -18,7 +15,7 @@ use bg_revisions::Service;
 use std::alloc::{AllocError, Global};
 use std::net::{Net, TcpListener, TcpStream};
 use std::sync::Wait;
-use std::thread::{Threads, join_mut};
+use std::thread::{Threads, for_each_mut, join_mut};
 use std::time::Clock;
 
 /// The service of each of this many workers. The last `previews` of them serve the preview service. If the
@@ -39,9 +36,7 @@ pub fn services_of(alloc: Global, workers: u32, previews: u32) -> Result<Vec<Ser
 /// Runs the workers with the event loops of their ports, and answers operators in parallel. Returns
 /// when all are done.
 pub fn work_beside_operators<'a, N: Names + Send + Sync, R>(
-    rt: &'a R,
-    scene: &Scene<'a>,
-    control: &'a ControlPort,
+    context: &ServeContext<'a, R>,
     desk: &Desk<N>,
     services: &[Service],
     seats: &mut [Seat<N>],
@@ -51,34 +46,37 @@ where
     R: Net<Listener = TcpListener, Stream = TcpStream> + Threads + Wait + Clock + Sync,
     requires out { AllOut seats.old }
     requires services { length services.now ≡ length seats.old }
-    ensures { AllWorked scene.now.count seats.old seats.new }
+    ensures { AllWorked context.now.count seats.old seats.new }
 {
-    let count = scene.count;
-    let shuts_down = scene.shuts_down;
-    let ports = scene.ports;
-    let telling = scene.telling;
-    let directory = scene.directory;
+    let count = context.count;
     join_mut(
-        rt,
+        context.rt,
         &mut ||
             requires { AllOut seats.now × (length services.now ≡ length seats.now) }
             ensures { AllWorked count seats.entry.now seats.exit.now }
-        { work_beside_log(rt, scene, desk, services, seats, count) },
-        &mut || {
-            answer_operators(rt, scene.alloc, desk, operator, control, telling, directory);
-            control.close(rt);
-            if shuts_down {
-                ports.close_client_ports(rt);
-            }
-        },
+        { work_beside_side_threads(context, desk, services, seats, count) },
+        &mut || run_operators(context, desk, operator),
     );
 }
 
-/// Runs the workers, each for at most this many connections, and writes the access log in parallel.
-/// Returns when both are done.
-fn work_beside_log<N: Names + Send + Sync, R>(
-    rt: &R,
-    scene: &Scene,
+/// Answers operators up to `quit`, and then closes the control port. If a shutdown is asked for, begins that of
+/// the client ports.
+fn run_operators<'a, N: Names, R: Clock + Wait>(
+    context: &ServeContext<'a, R>,
+    desk: &Desk<N>,
+    operator: &mut Operator<R>,
+) {
+    answer_operators(context, desk, operator);
+    context.ports.control.close(context.rt);
+    if context.shuts_down {
+        context.ports.close_client_ports(context.rt);
+    }
+}
+
+/// Runs the workers, each for at most this many connections, and in parallel the event loops of their ports and the
+/// writer of the access log. Returns when all are done.
+fn work_beside_side_threads<N: Names + Send + Sync, R>(
+    context: &ServeContext<R>,
     desk: &Desk<N>,
     services: &[Service],
     seats: &mut [Seat<N>],
@@ -90,51 +88,19 @@ where
     requires services { length services.now ≡ length seats.old }
     ensures { AllWorked count seats.old seats.new }
 {
-    let log = scene.log;
     join_mut(
-        rt,
-        &mut || run_log_writer(rt, log),
+        context.rt,
+        &mut || run_side_threads(context),
         &mut ||
             requires { AllOut seats.now × (length services.now ≡ length seats.now) }
             ensures { AllWorked count seats.entry.now seats.exit.now }
-        {
-            work_beside_event_loops(rt, scene, desk, services, seats, count);
-            end_log(log);
-        },
+        { work(context, desk, services, seats, count) },
     );
 }
 
-/// Runs the workers, each for at most this many connections, and the event loops in parallel. Returns
-/// when all are done.
-fn work_beside_event_loops<N: Names + Send + Sync, R>(
-    rt: &R,
-    scene: &Scene,
-    desk: &Desk<N>,
-    services: &[Service],
-    seats: &mut [Seat<N>],
-    count: u64,
-)
-where
-    R: Net<Listener = TcpListener, Stream = TcpStream> + Threads + Wait + Clock + Sync,
-    requires out { AllOut seats.old }
-    requires services { length services.now ≡ length seats.old }
-    ensures { AllWorked count seats.old seats.new }
-{
-    let ports = scene.ports;
-    join_mut(
-        rt,
-        &mut || run_event_loops(rt, ports),
-        &mut ||
-            requires { AllOut seats.now × (length services.now ≡ length seats.now) }
-            ensures { AllWorked count seats.entry.now seats.exit.now }
-        { work(rt, scene, desk, services, seats, count) },
-    );
-}
-
-/// Runs the workers, each for at most this many connections.
+/// Runs the workers, each for at most this many connections, and then ends the writer of the access log.
 fn work<N: Names + Send + Sync, R>(
-    rt: &R,
-    scene: &Scene,
+    context: &ServeContext<R>,
     desk: &Desk<N>,
     services: &[Service],
     seats: &mut [Seat<N>],
@@ -146,20 +112,13 @@ where
     requires services { length services.now ≡ length seats.old }
     ensures { AllWorked count seats.old seats.new }
 {
-    let desk_gate = DeskGate::new(rt, desk);
-    let clients = Clients::new(
-        rt,
-        scene.alloc,
-        scene.ports,
-        scene.log,
-        scene.telling,
-        scene.directory.is_some(),
-    );
-    let timeout = response_timeout(scene.timeout);
-    let endpoints = Endpoints::new(rt, scene.ports.own, timeout, scene.directory);
+    let desk_gate = DeskGate::new(context.rt, desk);
+    let clients = Clients { context };
+    let timeout = response_timeout(context.timeout);
+    let endpoints = Endpoints::new(context.rt, context.ports.own, timeout, context.directory);
     run_workers(
-        rt,
-        scene.alloc,
+        context.rt,
+        context.alloc,
         &desk_gate,
         seats,
         services,
@@ -167,32 +126,51 @@ where
         &endpoints,
         count,
     );
+    if let Some(log) = context.log {
+        log.end();
+    }
 }
 
-/// Runs the event loops of the client ports. Returns when both have ended.
-fn run_event_loops<R: Threads + Wait + Clock + Sync>(rt: &R, ports: &Ports) {
-    join_mut(
-        rt,
-        &mut || run_event_loop(rt, ports, Service::Preview),
-        &mut || run_event_loop(rt, ports, Service::Active),
+/// A thread beside those of the workers and the operators.
+#[derive(Clone, Copy, Drop)]
+enum SideThread {
+    LogWriter,
+    EventLoop(Service),
+}
+
+/// Runs each side thread. Returns when all have ended: the event loops at the end of their ports, and the writer after
+/// the workers. If the system refuses threads, the last ones run first.
+fn run_side_threads<R: Threads + Wait + Clock + Sync>(context: &ServeContext<R>) {
+    let mut threads = [
+        SideThread::LogWriter,
+        SideThread::EventLoop(Service::Preview),
+        SideThread::EventLoop(Service::Active),
+    ];
+    let count = threads.len();
+    for_each_mut(
+        context.rt,
+        &mut threads,
+        count,
+        &|_, thread: &mut SideThread| run_side_thread(context, *thread),
     );
 }
 
-fn run_event_loop<R: Wait + Clock>(rt: &R, ports: &Ports, service: Service) {
-    if let Some(port) = ports.of(service) {
-        port.run_event_loop(rt);
+fn run_side_thread<R: Wait + Clock>(context: &ServeContext<R>, thread: SideThread) {
+    match thread {
+        SideThread::LogWriter => run_log_writer(context),
+        SideThread::EventLoop(service) => run_event_loop(context, service),
     }
 }
 
-fn run_log_writer<R: Wait + Clock>(rt: &R, log: Option<&AccessLog>) {
-    if let Some(log) = log {
-        log.run_writer(rt);
+fn run_log_writer<R: Wait + Clock>(context: &ServeContext<R>) {
+    if let Some(log) = context.log {
+        log.run_writer(context.rt);
     }
 }
 
-fn end_log(log: Option<&AccessLog>) {
-    if let Some(log) = log {
-        log.end();
+fn run_event_loop<R: Wait + Clock>(context: &ServeContext<R>, service: Service) {
+    if let Some(port) = context.ports.of(service) {
+        port.run_event_loop(context.rt);
     }
 }
 

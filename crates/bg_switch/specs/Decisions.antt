@@ -1,4 +1,4 @@
--- Which lines of operators are orders.
+-- Which lines of operators make a decision.
 use Rattle.std.specs.Prelude.{Bool, true, false, Result, Ok}
 use Rattle.bg_operator.specs.declared.command.Command.{Command}
 use Rattle.bg_operator.specs.declared.command.Command.TheVariants.{Control, Open, Quit}
@@ -13,8 +13,8 @@ is_decision (Available revision size) = false
 is_decision _ = true
 
 -- whether a line opens the book, changes the rollout by a decision, or ends the program
-abbrev pub is_order : Result Command LineFault → Bool
-is_order (Ok (Control event)) = is_decision event
-is_order (Ok (Open name ports)) = true
-is_order (Ok Quit) = true
-is_order _ = false
+abbrev pub makes_decision : Result Command LineFault → Bool
+makes_decision (Ok (Control event)) = is_decision event
+makes_decision (Ok (Open name ports)) = true
+makes_decision (Ok Quit) = true
+makes_decision _ = false

@@ -1,0 +1,36 @@
+//! What the threads of `serve` share.
+
+use crate::notices::Notices;
+use crate::ports::Ports;
+use bg_access_log::AccessLog;
+use bg_command_line::MessageTimeout;
+use bg_endpoints::Directory;
+use bg_strategy::Strategy;
+use std::alloc::Global;
+
+/// What the workers and the operators' side share after the ports are bound.
+#[derive(Drop)]
+pub struct ServeContext<'a, R> {
+    /// The handle for threads, waits, sockets and the clock.
+    pub rt: &'a R,
+    pub alloc: Global,
+    pub strategy: &'a Strategy,
+    pub ports: &'a Ports,
+    /// The number of workers, including those of the preview service: 1 to 2,048. With any other number,
+    /// each `open` is refused.
+    pub seats: u32,
+    /// How many of these workers serve the preview service.
+    pub previews: u32,
+    /// The maximum number of connections that each worker takes.
+    pub count: u64,
+    /// Whether `quit` begins a graceful shutdown of the client ports.
+    pub shuts_down: bool,
+    /// The timeout within which a request or a response has to be complete.
+    pub timeout: MessageTimeout,
+    /// The log of ended connections.
+    pub log: Option<&'a AccessLog>,
+    /// The endpoints of the revisions, if a request may be dialled at another one than its ticket's.
+    pub directory: Option<&'a Directory>,
+    /// The notices on standard error.
+    pub notices: &'a Notices<'a>,
+}
