@@ -20,21 +20,30 @@ check:
 	rt all check
 	scripts/whole_program.sh
 
-# rt locks a crate and all below it, and proves one crate at a time below the one that it is asked for. So the libraries
-# are proved side by side in groups that share none, and those of the longest chain by several processors each.
+# What the program stands on, from the bottom up. rt locks a crate and all crates below it, so libraries that share one
+# can't be proved at the same time: each group is a loop, and the groups run side by side. The order matters: where a library
+# below isn't proved yet, rt first reads the sources of all of them, and after that proves them.
+RULE_BASE := bg_strategy bg_revisions bg_history bg_scaledown bg_history_laws bg_promotion
+RULE_CHAIN := bg_rollout bg_book bg_operator bg_report bg_script bg_forward bg_endpoints
+HTTP := bg_http bg_http_read bg_peers bg_client_port bg_control_port
+OTHERS := bg_openlist bg_ledger bg_command_line bg_access_log
+
+# A check that is split into several jobs costs more processor time in all, since each job reads the libraries. So it has
+# one job, except in the longest chain once the other groups have ended and processors would be idle. The program has one
+# job too: two thirds of its check is work that each job would do again.
+prove = for crate in $(2); do (cd crates/$$crate && rt lib --jobs $(1)) || exit; done
+
 build:
 	@$(MAKE) --no-print-directory --jobs=$(CHECKS) $(GROUPS)
-	cd crates/bg_switch && rt run --jobs $(PROCESSORS) -- check < ../../examples/direct.json > /dev/null
+	cd crates/bg_switch && rt run --jobs 1 -- check < ../../examples/direct.json > /dev/null
 
 group-rules:
-	cd crates/bg_history_laws && rt lib --jobs 2
-	cd crates/bg_promotion && rt lib --jobs 2
-	cd crates/bg_script && rt lib --jobs $(PROCESSORS)
+	$(call prove,1,$(RULE_BASE))
+	$(call prove,$(PROCESSORS),$(RULE_CHAIN))
 group-http:
-	cd crates/bg_client_port && rt lib --jobs 1
+	$(call prove,1,$(HTTP))
 group-others:
-	for crate in bg_openlist bg_ledger bg_command_line bg_control_port bg_access_log; do \
-	    (cd crates/$$crate && rt lib --jobs 1) || exit; done
+	$(call prove,1,$(OTHERS))
 
 $(foreach crate,$(LIBRARIES),$(eval $(crate): $(call below,$(crate))))
 
