@@ -5,7 +5,8 @@ ghost use Rattle.bg_rollout.specs.Gathering.{indices};
 ghost use Rattle.bg_ledger.specs.Blanks.{AreAllFor};
 
 use crate::books::{close, open, open_requests, tell_available};
-use crate::fakes::{Asked, Endpoint, FakeStream, Pace, Seen, Shut, Uses};
+use crate::fakes::{Asked, Endpoint, FakeStream, Pace, STEADY, Seen, Shut, Uses};
+use crate::messages::{CHUNKS, GET, GET_ON};
 use crate::samples::strategy;
 use bg_audit::audit;
 use bg_book::{Desk, Limits, laws as book_laws};
@@ -26,10 +27,12 @@ pub const FIRST_PORT: u16 = 9002;
 /// A connection, with its client, gate and endpoint.
 #[derive(Clone, Copy, Drop)]
 pub struct Setting<'a> {
+    /// What failed assertions print.
+    pub name: &'a str,
     /// The bytes that the client sends.
-    pub request: &'a [u8],
+    pub request: &'a str,
     /// The further bytes that it sends after `100 Continue` was written to it.
-    pub rest: &'a [u8],
+    pub rest: &'a str,
     pub client: Pace,
     pub service: Service,
     /// Whether the gate admits no request.
@@ -41,41 +44,45 @@ pub struct Setting<'a> {
     /// The port at which the endpoint listens.
     pub port: u16,
     /// The answer of the endpoint.
-    pub response: &'a [u8],
+    pub response: &'a str,
     pub endpoint: Pace,
     /// The bytes that should be written to the endpoint.
-    pub forwarded: &'a [u8],
+    pub forwarded: &'a str,
 }
 
-impl<'a> Setting<'a> {
-    /// A connection on which nothing fails.
-    pub fn new(request: &'a str, forwarded: &'a str, response: &'a str) -> Setting<'a> {
-        Setting {
-            request: request.as_bytes(),
-            rest: &[],
-            client: Pace::steady(),
-            service: Service::Active,
-            shut: false,
-            cut_at: 0,
-            available: 2,
-            port: FIRST_PORT,
-            response: response.as_bytes(),
-            endpoint: Pace::steady(),
-            forwarded: forwarded.as_bytes(),
-        }
-    }
+/// A connection on which nothing fails.
+pub const SOUND: Setting<'static> = Setting {
+    name: "nothing fails",
+    request: GET,
+    rest: "",
+    client: STEADY,
+    service: Service::Active,
+    shut: false,
+    cut_at: 0,
+    available: 2,
+    port: FIRST_PORT,
+    response: CHUNKS,
+    endpoint: STEADY,
+    forwarded: GET_ON,
+};
 
+impl<'a> Setting<'a> {
     /// The client's stream.
     fn stream(&self, alloc: Global) -> FakeStream<'a> {
-        FakeStream::waiting(alloc, self.request, self.rest, self.client)
+        FakeStream::waiting(
+            alloc,
+            self.request.as_bytes(),
+            self.rest.as_bytes(),
+            self.client,
+        )
     }
 
     fn endpoint(&self, alloc: Global, seen: &'a Seen) -> Endpoint<'a> {
         Endpoint {
             alloc,
             port: self.port,
-            answer: self.response,
-            desired: self.forwarded,
+            answer: self.response.as_bytes(),
+            desired: self.forwarded.as_bytes(),
             pace: self.endpoint,
             seen,
         }
@@ -83,12 +90,13 @@ impl<'a> Setting<'a> {
 }
 
 /// The outcome of a connection.
-#[derive(Drop)]
+#[derive(Clone, Copy, Drop)]
 pub struct Outcome {
     pub entered: bool,
     pub end: End,
-    /// The bytes that were written to the client.
-    pub written: Vec<u8>,
+    /// The number of bytes that were written to the client, and whether the answer begins with them.
+    pub written: usize,
+    pub is_of_answer: bool,
     /// The numbers of reads and writes of the client, and of the endpoint.
     pub client: Uses,
     pub endpoint: Uses,
@@ -223,8 +231,13 @@ fn serve_over<N: Names, R: Wait, D: Dial>(
     })
 }
 
-/// Serves a connection, and gives its outcome.
-pub fn serve<R: Wait>(rt: &R, alloc: Global, setting: &Setting) -> Result<Option<Outcome>, Fail> {
+/// Serves a connection, and gives its outcome. The client should get this answer.
+pub fn serve<R: Wait>(
+    rt: &R,
+    alloc: Global,
+    setting: &Setting,
+    answer: &str,
+) -> Result<Option<Outcome>, Fail> {
     let strategy = strategy(alloc)?;
     let seen = Seen::new();
     let questions = AtomicU64::new(0);
@@ -244,12 +257,11 @@ pub fn serve<R: Wait>(rt: &R, alloc: Global, setting: &Setting) -> Result<Option
         return Ok(None);
     };
     let stream = client.get_ref();
-    let mut written = Vec::new(alloc);
-    written.extend_from_slice(stream.shows())?;
     Ok(Some(Outcome {
         entered: served.entered.is_some(),
         end: served.end,
-        written,
+        written: stream.shows().len(),
+        is_of_answer: answer.as_bytes().starts_with(stream.shows()),
         client: stream.uses(),
         endpoint: seen.uses(),
         questions: questions.load(Ordering::SeqCst),

@@ -38,19 +38,15 @@ pub struct Pace {
     pub goes_at: Option<u64>,
 }
 
-impl Pace {
-    /// A few bytes at a time, and nothing fails.
-    pub fn steady() -> Pace {
-        Pace {
-            most: 20,
-            failing_read: None,
-            failing_write: None,
-            flush_fails: false,
-            interruptions: Interruptions::None,
-            goes_at: None,
-        }
-    }
-}
+/// A few bytes at a time, and nothing fails.
+pub const STEADY: Pace = Pace {
+    most: 20,
+    failing_read: None,
+    failing_write: None,
+    flush_fails: false,
+    interruptions: Interruptions::None,
+    goes_at: None,
+};
 
 /// The number of reads and writes of a stream, without the interrupted ones.
 #[derive(Clone, Copy, PartialEq, Eq, Debug, Drop)]
@@ -237,15 +233,15 @@ pub struct Endpoint<'a> {
 }
 
 /// A connection to it.
-pub struct Upstream<'a> {
+pub struct EndpointStream<'a> {
     stream: FakeStream<'a>,
     desired: &'a [u8],
     seen: &'a Seen,
 }
 
-impl Drop for Upstream<'_> {
+impl Drop for EndpointStream<'_> {
     fn drop(self) {
-        let Upstream {
+        let EndpointStream {
             stream: _,
             desired: _,
             seen,
@@ -255,30 +251,30 @@ impl Drop for Upstream<'_> {
 }
 
 impl<'a> Dial for Endpoint<'a> {
-    type Stream = Upstream<'a>;
+    type Stream = EndpointStream<'a>;
 
-    fn dial(&self, port: u16) -> Dialled<Upstream<'a>> {
+    fn dial(&self, port: u16) -> Dialled<EndpointStream<'a>> {
         self.seen.dialled.fetch_add(1, Ordering::SeqCst);
         if port != self.port {
             return Dialled::once(port, Err(io::Error::from(ErrorKind::ConnectionRefused)));
         }
-        let upstream = Upstream {
+        let stream = EndpointStream {
             stream: FakeStream::new(self.alloc, self.answer, self.pace),
             desired: self.desired,
             seen: self.seen,
         };
-        Dialled::once(port, Ok(upstream))
+        Dialled::once(port, Ok(stream))
     }
 }
 
-impl Read for Upstream<'_> {
+impl Read for EndpointStream<'_> {
     fn read(&mut self, buf: &mut [u8]) -> io::Result<usize> {
         self.seen.reads.fetch_add(1, Ordering::SeqCst);
         self.stream.read(buf)
     }
 }
 
-impl Write for Upstream<'_> {
+impl Write for EndpointStream<'_> {
     fn write(&mut self, buf: &[u8]) -> io::Result<usize> {
         self.seen.writes.fetch_add(1, Ordering::SeqCst);
         self.stream.write(buf)

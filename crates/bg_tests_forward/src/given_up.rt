@@ -1,8 +1,8 @@
 //! Requests that the gate gives up while they are forwarded.
 
-use crate::connections::Setting;
-use crate::fakes::{Interruptions, Pace};
-use crate::messages::{CHUNKS, CHUNKS_ON, GET, GET_ON, expect, refusal};
+use crate::connections::{SOUND, Setting};
+use crate::fakes::{Interruptions, Pace, STEADY};
+use crate::messages::{CHUNKS_ON, expect, refusal};
 use bg_forward::End;
 use std::alloc::Global;
 use std::process::Abort;
@@ -11,29 +11,15 @@ use std::test::Fail;
 
 /// An endpoint that is read in one piece or in several, and one whose reads are interrupted.
 pub fn paces() -> [Pace; 3] {
-    let steady = Pace::steady();
     let at_once = Pace {
         most: 4096,
-        ..steady
+        ..STEADY
     };
     let interrupted = Pace {
         interruptions: Interruptions::EverySecond,
-        ..steady
+        ..STEADY
     };
-    [steady, at_once, interrupted]
-}
-
-#[test]
-fn asks_before_each_read(rt: HostRuntime) -> Result<(), Fail> {
-    for endpoint in paces() {
-        let setting = Setting {
-            endpoint,
-            ..Setting::new(GET, GET_ON, CHUNKS)
-        };
-        let outcome = expect(&rt, rt.alloc(), &setting, End::Answered(200), CHUNKS_ON, 2)?;
-        assert_eq!(rt; outcome.questions, outcome.endpoint.reads.saturating_add(1));
-    }
-    Ok(())
+    [STEADY, at_once, interrupted]
 }
 
 /// The number of questions if the gate gives nothing up.
@@ -63,10 +49,7 @@ fn cut_at_question<R: Abort + Wait>(
 #[test]
 fn cut(rt: HostRuntime) -> Result<(), Fail> {
     for endpoint in paces() {
-        let sound = Setting {
-            endpoint,
-            ..Setting::new(GET, GET_ON, CHUNKS)
-        };
+        let sound = Setting { endpoint, ..SOUND };
         let count = questions(&rt, rt.alloc(), &sound)?;
         assert!(rt; count >= 2);
         for cut_at in 1..=count {
@@ -77,31 +60,6 @@ fn cut(rt: HostRuntime) -> Result<(), Fail> {
             ..sound
         };
         let _questions = questions(&rt, rt.alloc(), &later)?;
-    }
-    Ok(())
-}
-
-#[test]
-fn gives_up_before_it_is_a_bad_gateway(rt: HostRuntime) -> Result<(), Fail> {
-    let steady = Pace::steady();
-    let fails_to_be_written = Pace {
-        failing_write: Some(0),
-        ..steady
-    };
-    let fails_to_be_read = Pace {
-        failing_read: Some(0),
-        ..steady
-    };
-    for (endpoint, cut_at) in [(fails_to_be_written, 1), (fails_to_be_read, 2)] {
-        let failing = Setting {
-            endpoint,
-            ..Setting::new(GET, GET_ON, CHUNKS)
-        };
-        let end = End::Refused(502);
-        let _failed = expect(&rt, rt.alloc(), &failing, end, refusal(502), 2)?;
-        let given_up = Setting { cut_at, ..failing };
-        let end = End::Refused(503);
-        let _outcome = expect(&rt, rt.alloc(), &given_up, end, refusal(503), 2)?;
     }
     Ok(())
 }

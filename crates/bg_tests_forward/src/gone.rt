@@ -1,9 +1,9 @@
 //! Clients that go while their requests are forwarded.
 
-use crate::connections::{Outcome, Setting};
-use crate::fakes::{Interruptions, Pace};
+use crate::connections::{Outcome, SOUND, Setting};
+use crate::fakes::{Interruptions, Pace, STEADY};
 use crate::given_up::paces;
-use crate::messages::{CHUNKS, CHUNKS_ON, GET, GET_ON, expect, refusal};
+use crate::messages::{CHUNKS_ON, expect, refusal};
 use bg_forward::End;
 use std::alloc::Global;
 use std::process::Abort;
@@ -14,7 +14,7 @@ use std::test::Fail;
 fn gone_at(question: u64) -> Pace {
     Pace {
         goes_at: Some(question),
-        ..Pace::steady()
+        ..STEADY
     }
 }
 
@@ -22,7 +22,7 @@ fn gone_at(question: u64) -> Pace {
 fn silent() -> Pace {
     Pace {
         interruptions: Interruptions::EveryRead,
-        ..Pace::steady()
+        ..STEADY
     }
 }
 
@@ -43,7 +43,7 @@ fn goes<R: Abort + Wait>(rt: &R, alloc: Global, endpoint: Pace, question: u64) -
     let setting = Setting {
         client: gone_at(question),
         endpoint,
-        ..Setting::new(GET, GET_ON, CHUNKS)
+        ..SOUND
     };
     let refused = expect(rt, alloc, &setting, End::Refused(503), refusal(503), 2)?;
     let_go(rt, &refused, question);
@@ -68,17 +68,15 @@ fn lets_a_silent_endpoint_go(rt: HostRuntime) -> Result<(), Fail> {
     Ok(())
 }
 
-/// A client that stays is asked before each read, and gets its answer. A client that has gone at one of these
-/// questions does not.
+/// A client that stays is asked before each read, after the gate, and gets its answer. A client that has gone at one of
+/// these questions does not.
 fn stays_or_goes<R: Abort + Wait>(rt: &R, alloc: Global, endpoint: Pace) -> Result<(), Fail> {
-    let setting = Setting {
-        endpoint,
-        ..Setting::new(GET, GET_ON, CHUNKS)
-    };
+    let setting = Setting { endpoint, ..SOUND };
     let stays = expect(rt, alloc, &setting, End::Answered(200), CHUNKS_ON, 2)?;
     let reads = stays.endpoint.reads;
     assert!(rt; reads >= 1);
     assert_eq!(rt; stays.client_questions, reads);
+    assert_eq!(rt; stays.questions, reads.saturating_add(1));
     assert_eq!(rt; stays.dropped, 1);
     for question in 1..=reads {
         goes(rt, alloc, endpoint, question)?;
@@ -103,13 +101,13 @@ fn asks_before_each_read(rt: HostRuntime) -> Result<(), Fail> {
 fn does_not_ask_before_the_endpoint_has_its_request(rt: HostRuntime) -> Result<(), Fail> {
     let sound = Setting {
         client: gone_at(1),
-        ..Setting::new(GET, GET_ON, CHUNKS)
+        ..SOUND
     };
     let not_dialled = Setting { port: 1, ..sound };
     let not_written = Setting {
         endpoint: Pace {
             failing_write: Some(0),
-            ..Pace::steady()
+            ..STEADY
         },
         ..sound
     };

@@ -5,27 +5,17 @@
 #[cfg(test)]
 mod books;
 #[cfg(test)]
-mod compactions;
+mod cases;
 #[cfg(test)]
 mod connections;
 #[cfg(test)]
-mod desk_gates;
-#[cfg(test)]
-mod expectations;
-#[cfg(test)]
 mod fakes;
-#[cfg(test)]
-mod gates;
 #[cfg(test)]
 mod given_up;
 #[cfg(test)]
 mod gone;
 #[cfg(test)]
-mod hostile;
-#[cfg(test)]
-mod interruptions;
-#[cfg(test)]
-mod limits;
+mod many_requests;
 #[cfg(test)]
 mod messages;
 #[cfg(test)]
@@ -35,7 +25,6 @@ mod ports;
 #[cfg(test)]
 mod samples;
 #[cfg(test)]
-mod truncated;
-#[cfg(test)]
+mod worker_counts;
 #[cfg(test)]
 mod workers;

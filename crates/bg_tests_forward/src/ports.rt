@@ -1,6 +1,6 @@
 //! Client ports, which give their workers what a test says.
 
-use crate::fakes::{FakeStream, Pace};
+use crate::fakes::{FakeStream, STEADY};
 use crate::messages::{CHUNKS_ON, GET, refusal};
 use bg_forward::{Accept, Served};
 use bg_revisions::Service;
@@ -34,7 +34,7 @@ pub struct Counts {
 
 /// The same counts, while they rise.
 #[derive(Drop)]
-pub struct Uses {
+pub struct RisingCounts {
     active_accepts: AtomicU64,
     preview_accepts: AtomicU64,
     whole: AtomicU64,
@@ -43,9 +43,9 @@ pub struct Uses {
     unavailable: AtomicU64,
 }
 
-impl Uses {
-    pub fn new() -> Uses {
-        Uses {
+impl RisingCounts {
+    pub fn new() -> RisingCounts {
+        RisingCounts {
             active_accepts: AtomicU64::new(0),
             preview_accepts: AtomicU64::new(0),
             whole: AtomicU64::new(0),
@@ -67,12 +67,12 @@ impl Uses {
     }
 }
 
-/// The ports of both services. Each gives these turns, and after the last one clients that ask.
+/// The ports of both services. Each gives these results, and after the last one clients that ask.
 #[derive(Drop)]
 pub struct Ports<'a> {
     pub alloc: Global,
-    pub turns: &'a [NextClient],
-    pub uses: &'a Uses,
+    pub accepted: &'a [NextClient],
+    pub counts: &'a RisingCounts,
 }
 
 impl Accept for Ports<'_> {
@@ -80,18 +80,17 @@ impl Accept for Ports<'_> {
 
     fn accept(&self, service: Service) -> io::Result<Option<FakeStream<'static>>> {
         let accepts = match service {
-            Service::Active => &self.uses.active_accepts,
-            Service::Preview => &self.uses.preview_accepts,
+            Service::Active => &self.counts.active_accepts,
+            Service::Preview => &self.counts.preview_accepts,
         };
         let before = accepts.fetch_add(1, Ordering::SeqCst);
-        let turn = match self.turns.get(before as usize) {
-            Some(turn) => *turn,
+        let next = match self.accepted.get(before as usize) {
+            Some(next) => *next,
             None => NextClient::Client(GET),
         };
-        match turn {
+        match next {
             NextClient::Client(request) => {
-                let request = request.as_bytes();
-                Ok(Some(FakeStream::new(self.alloc, request, Pace::steady())))
+                Ok(Some(FakeStream::new(self.alloc, request.as_bytes(), STEADY)))
             }
             NextClient::Fails => Err(io::Error::from(ErrorKind::ConnectionAborted)),
             NextClient::Ends => Ok(None),
@@ -101,16 +100,16 @@ impl Accept for Ports<'_> {
     fn close(&self, client: FakeStream<'static>, served: &Served) {
         // a request that entered was read to its end
         let ended = if served.entered.is_some() {
-            &self.uses.whole
+            &self.counts.whole
         } else {
-            &self.uses.other
+            &self.counts.other
         };
         ended.fetch_add(1, Ordering::SeqCst);
         if client.shows() == CHUNKS_ON.as_bytes() {
-            self.uses.answered.fetch_add(1, Ordering::SeqCst);
+            self.counts.answered.fetch_add(1, Ordering::SeqCst);
         }
         if client.shows() == refusal(503).as_bytes() {
-            self.uses.unavailable.fetch_add(1, Ordering::SeqCst);
+            self.counts.unavailable.fetch_add(1, Ordering::SeqCst);
         }
     }
 }

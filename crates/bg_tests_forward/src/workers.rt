@@ -5,7 +5,7 @@ ghost use Rattle.bg_forward.specs.Seats.{AllOut, AllWorked};
 ghost use Rattle.bg_ledger.specs.Blanks.{AreAllFor};
 
 use crate::books::{close, open, tell_available};
-use crate::fakes::{FakeStream, Pace};
+use crate::fakes::{FakeStream, STEADY};
 use crate::messages::{CHUNKS, CHUNKS_ON, GET};
 use crate::samples::strategy;
 use bg_book::{Control, Desk, EnterFault, GoOn, Left, Limits, Ticket, laws as book_laws};
@@ -23,7 +23,7 @@ use std::thread::{Threads, join_mut};
 use std::{io, thread};
 
 /// The number of times that the first endpoint checks whether the second request was answered.
-const TURNS: u32 = 10_000_000;
+const CHECKS: u32 = 10_000_000;
 
 /// The number of ticks that are made in parallel with the workers.
 const TICKS: u64 = 100;
@@ -120,7 +120,7 @@ impl<'a> Accept for Clients<'a> {
 
     fn accept(&self, _service: Service) -> io::Result<Option<Client<'a>>> {
         Ok(Some(Client {
-            stream: FakeStream::new(self.alloc, GET.as_bytes(), Pace::steady()),
+            stream: FakeStream::new(self.alloc, GET.as_bytes(), STEADY),
             counts: self.counts,
         }))
     }
@@ -130,23 +130,23 @@ impl<'a> Accept for Clients<'a> {
 
 /// An endpoint whose first connection waits until a client was answered.
 #[derive(Drop)]
-struct Endpoint<'a> {
+struct WaitingEndpoint<'a> {
     alloc: Global,
     counts: &'a WorkerCounts,
 }
 
 /// A connection to it.
 #[derive(Drop)]
-struct Upstream<'a> {
+struct WaitingStream<'a> {
     stream: FakeStream<'a>,
     waits: bool,
     counts: &'a WorkerCounts,
 }
 
-impl Upstream<'_> {
+impl WaitingStream<'_> {
     /// Waits until a client was answered. Returns whether one was.
     fn wait(&self) -> bool {
-        for _ in 0..TURNS {
+        for _ in 0..CHECKS {
             if self.counts.answered.load(Ordering::SeqCst) > 0 {
                 return true;
             }
@@ -156,7 +156,7 @@ impl Upstream<'_> {
     }
 }
 
-impl Read for Upstream<'_> {
+impl Read for WaitingStream<'_> {
     fn read(&mut self, buf: &mut [u8]) -> io::Result<usize> {
         if self.waits {
             if !self.wait() {
@@ -168,7 +168,7 @@ impl Read for Upstream<'_> {
     }
 }
 
-impl Write for Upstream<'_> {
+impl Write for WaitingStream<'_> {
     fn write(&mut self, buf: &[u8]) -> io::Result<usize> {
         self.stream.write(buf)
     }
@@ -178,17 +178,17 @@ impl Write for Upstream<'_> {
     }
 }
 
-impl<'a> Dial for Endpoint<'a> {
-    type Stream = Upstream<'a>;
+impl<'a> Dial for WaitingEndpoint<'a> {
+    type Stream = WaitingStream<'a>;
 
-    fn dial(&self, port: u16) -> Dialled<Upstream<'a>> {
+    fn dial(&self, port: u16) -> Dialled<WaitingStream<'a>> {
         let before = self.counts.dialled.fetch_add(1, Ordering::SeqCst);
-        let upstream = Upstream {
-            stream: FakeStream::new(self.alloc, CHUNKS.as_bytes(), Pace::steady()),
+        let stream = WaitingStream {
+            stream: FakeStream::new(self.alloc, CHUNKS.as_bytes(), STEADY),
             waits: before == 0,
             counts: self.counts,
         };
-        Dialled::once(port, Ok(upstream))
+        Dialled::once(port, Ok(stream))
     }
 }
 
@@ -207,7 +207,7 @@ fn work<N: Names + Send + Sync, R: Threads + Wait + Sync>(
     book_laws::same_order();
     let desk_gate = DeskGate::new(rt, desk);
     let clients = Clients { alloc, counts };
-    let endpoint = Endpoint { alloc, counts };
+    let endpoint = WaitingEndpoint { alloc, counts };
     let services = [Service::Active, Service::Active];
     let gate = Counted {
         behind: &desk_gate,
@@ -229,7 +229,7 @@ fn work_none<N: Names + Send + Sync, R: Threads + Wait + Sync>(
     book_laws::same_order();
     let desk_gate = DeskGate::new(rt, desk);
     let clients = Clients { alloc, counts };
-    let endpoint = Endpoint { alloc, counts };
+    let endpoint = WaitingEndpoint { alloc, counts };
     run_workers(
         rt,
         alloc,

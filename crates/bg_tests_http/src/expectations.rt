@@ -9,9 +9,9 @@ const CONTINUE: &[u8] = b"HTTP/1.1 100 Continue\r\n\r\n";
 
 /// The name of a request, its head, the bytes that are written to the client, the body that the
 /// client sends only after they were written, and the fault.
-type Row<'a> = (&'a str, &'a [u8], &'a [u8], &'a [u8], Option<RequestFault>);
+type Expectation<'a> = (&'a str, &'a [u8], &'a [u8], &'a [u8], Option<RequestFault>);
 
-static EXPECTATIONS: [Row<'static>; 15] = [
+static EXPECTATIONS: [Expectation<'static>; 15] = [
     (
         "a length",
         b"PUT / HTTP/1.1\r\nHost: x\r\nExpect: 100-continue\r\nContent-Length: 2\r\n\r\n",
@@ -120,7 +120,7 @@ static EXPECTATIONS: [Row<'static>; 15] = [
 ];
 
 /// Whether a request has its answer, and only the expected bytes are written to the client.
-fn is_answered(alloc: Global, row: &Row<'_>, pace: Pace) -> bool {
+fn is_answered(alloc: Global, row: &Expectation<'_>, pace: Pace) -> bool {
     let (_, head, written, body, fault) = row;
     let mut stream = PacedStream::holding_back(alloc, head, written, body, pace);
     let answer = read(alloc, Kind::Request, &mut stream).err();

@@ -1,6 +1,6 @@
 //! Messages at each limit and one past it.
 use crate::paced_stream::{Pace, PacedStream};
-use crate::passing::{Kind, read};
+use crate::passing::{Kind, Message, read};
 use bg_http::RequestFault;
 use std::alloc::{AllocError, Global};
 
@@ -8,7 +8,7 @@ use std::alloc::{AllocError, Global};
 type Parts<'a> = &'a [(&'a [u8], usize)];
 
 /// The message that is sent, and the size of its body or the fault.
-type Row<'a> = (Parts<'a>, Result<usize, RequestFault>);
+type LimitRow<'a> = (Parts<'a>, Result<usize, RequestFault>);
 
 fn text(alloc: Global, start: &[u8], parts: Parts<'_>) -> Result<Vec<u8>, AllocError> {
     let mut text = Vec::new(alloc);
@@ -21,22 +21,44 @@ fn text(alloc: Global, start: &[u8], parts: Parts<'_>) -> Result<Vec<u8>, AllocE
     Ok(text)
 }
 
-/// The size of the body, or the fault.
-fn size(alloc: Global, kind: Kind<'_>, input: &[u8], most: usize) -> Result<usize, RequestFault> {
-    let mut stream = PacedStream::new(alloc, input, Pace::UpTo(most));
-    match read(alloc, kind, &mut stream) {
+/// The size of the body of a message that was read, or the fault.
+fn size(read: &Result<Message, RequestFault>) -> Result<usize, RequestFault> {
+    match read {
         Ok(message) => Ok(message.body_size()),
-        Err(fault) => Err(fault),
+        Err(fault) => Err(*fault),
     }
 }
 
-/// Whether a message that begins with `start` has its answer, at once and in pieces of 1,000 bytes.
-fn is_answered(alloc: Global, kind: Kind<'_>, start: &[u8], row: &Row<'_>) -> bool {
-    let Ok(input) = text(alloc, start, row.0) else {
+/// Whether a message has its answer in pieces of up to `most` bytes.
+fn is_answered_in_pieces(
+    alloc: Global,
+    kind: Kind<'_>,
+    input: &[u8],
+    most: usize,
+    answer: Result<usize, RequestFault>,
+) -> bool {
+    let mut stream = PacedStream::new(alloc, input, Pace::UpTo(most));
+    size(&read(alloc, kind, &mut stream)) == answer
+}
+
+/// Messages of one kind.
+#[derive(Clone, Copy, Drop)]
+struct Group {
+    kind: Kind<'static>,
+    /// The bytes with which each of them begins.
+    start: &'static [u8],
+    rows: &'static [LimitRow<'static>],
+    /// The most bytes of a piece, in each of the readings.
+    pieces: &'static [usize],
+}
+
+/// Whether a message of a group has its answer in pieces of each size.
+fn is_answered(alloc: Global, group: &Group, row: &LimitRow<'_>) -> bool {
+    let Ok(input) = text(alloc, group.start, row.0) else {
         return false;
     };
-    for most in [65_536usize, 1_000] {
-        if size(alloc, kind, &input, most) != row.1 {
+    for most in group.pieces {
+        if !is_answered_in_pieces(alloc, group.kind, &input, *most, row.1) {
             return false;
         }
     }
@@ -44,32 +66,22 @@ fn is_answered(alloc: Global, kind: Kind<'_>, start: &[u8], row: &Row<'_>) -> bo
 }
 
 /// The place of the first row that has another answer, or for which an allocation fails.
-fn first_wrong(alloc: Global, kind: Kind<'_>, start: &[u8], rows: &[Row<'_>]) -> Option<usize> {
-    for (place, row) in rows.iter().enumerate() {
-        if !is_answered(alloc, kind, start, row) {
+fn first_wrong(alloc: Global, group: &Group) -> Option<usize> {
+    for (place, row) in group.rows.iter().enumerate() {
+        if !is_answered(alloc, group, row) {
             return Some(place);
         }
     }
     None
 }
 
-/// The same if the message comes one byte at a time.
-fn first_wrong_by_byte(
-    alloc: Global,
-    kind: Kind<'_>,
-    start: &[u8],
-    rows: &[Row<'_>],
-) -> Option<usize> {
-    for (place, row) in rows.iter().enumerate() {
-        let Ok(input) = text(alloc, start, row.0) else {
-            return Some(place);
-        };
-        if size(alloc, kind, &input, 1) != row.1 {
-            return Some(place);
-        }
-    }
-    None
-}
+/// At once, and in pieces of 1,000 bytes.
+const LARGE_PIECES: &[usize] = &[65_536, 1_000];
+
+/// The same, and one byte at a time.
+const ALL_PIECES: &[usize] = &[65_536, 1_000, 1];
+
+const RESPONSE_TO_GET: Kind<'static> = Kind::ResponseTo(b"GET");
 
 /// The beginning of a head, of 25 bytes and one field.
 const REQUEST: &[u8] = b"PUT / HTTP/1.1\r\nHost: x\r\n";
@@ -90,7 +102,7 @@ const HEAD_TOO_LARGE: Result<usize, RequestFault> = Err(RequestFault::HeadTooLar
 const TOO_LARGE: Result<usize, RequestFault> = Err(RequestFault::TooLarge);
 
 /// After 25 bytes and one field of a head: it may have 16,384 bytes and 64 fields.
-static HEADS: [Row<'static>; 11] = [
+static HEADS: [LimitRow<'static>; 11] = [
     (&[(b"A:", 1), (b"a", 16_353), (b"\r\n\r\n", 1)], Ok(0)),
     (
         &[(b"A:", 1), (b"a", 16_354), (b"\r\n\r\n", 1)],
@@ -108,7 +120,7 @@ static HEADS: [Row<'static>; 11] = [
 ];
 
 /// A request's head, whose target may be as long as the head has room for.
-static TARGETS: [Row<'static>; 3] = [
+static TARGETS: [LimitRow<'static>; 3] = [
     (
         &[
             (b"GET /", 1),
@@ -130,7 +142,7 @@ static TARGETS: [Row<'static>; 3] = [
 
 /// After the head of a chunked message: the line of each chunk may have 1,024 bytes, including its
 /// end.
-static CHUNK_LINES: [Row<'static>; 6] = [
+static CHUNK_LINES: [LimitRow<'static>; 6] = [
     (
         &[(b"2;", 1), (b"a", 1_020), (b"\r\nhi\r\n0\r\n\r\n", 1)],
         Ok(2),
@@ -152,7 +164,7 @@ static CHUNK_LINES: [Row<'static>; 6] = [
 ];
 
 /// After the head of a chunked message: trailers may have 16,384 bytes and 64 fields.
-static TRAILERS: [Row<'static>; 7] = [
+static TRAILERS: [LimitRow<'static>; 7] = [
     (&[(b"0\r\n", 1), (b"A: b\r\n", 64), (b"\r\n", 1)], Ok(0)),
     (&[(b"0\r\n", 1), (b"A: b\r\n", 65), (b"\r\n", 1)], BAD),
     (&[(b"0\r\n", 1), (b"A: b\r\n", 64)], CLOSED),
@@ -163,7 +175,7 @@ static TRAILERS: [Row<'static>; 7] = [
 ];
 
 /// After a request's head up to its first field: its body may have 1,048,576 bytes.
-static REQUEST_BODIES: [Row<'static>; 3] = [
+static REQUEST_BODIES: [LimitRow<'static>; 3] = [
     (
         &[
             (b"Content-Length: 1048576\r\n\r\n", 1),
@@ -190,7 +202,7 @@ static REQUEST_BODIES: [Row<'static>; 3] = [
 ];
 
 /// After a response's head up to its first field: its body may have 4,194,304 bytes.
-static RESPONSE_BODIES: [Row<'static>; 5] = [
+static RESPONSE_BODIES: [LimitRow<'static>; 5] = [
     (
         &[
             (b"Content-Length: 4194304\r\n\r\n", 1),
@@ -225,7 +237,7 @@ static RESPONSE_BODIES: [Row<'static>; 5] = [
 ];
 
 /// 16 interim responses may come before a response, each with a head of 16,384 bytes.
-static INTERIM: [Row<'static>; 5] = [
+static INTERIM: [LimitRow<'static>; 5] = [
     (
         &[
             (b"HTTP/1.1 102 a\r\n\r\n", 16),
@@ -263,50 +275,75 @@ static INTERIM: [Row<'static>; 5] = [
     ),
 ];
 
-#[test]
-fn requests_at_their_limits(rt: HostRuntime) {
-    let alloc = rt.alloc();
-    let kind = Kind::Request;
-    assert_eq!(rt; first_wrong(alloc, kind, REQUEST, &HEADS), None);
-    assert_eq!(rt; first_wrong(alloc, kind, b"", &TARGETS), None);
-    assert_eq!(rt; first_wrong(alloc, kind, REQUEST, &REQUEST_BODIES), None);
-    assert_eq!(rt;
-        first_wrong(alloc, kind, REQUEST_IN_CHUNKS, &CHUNK_LINES),
-        None
-    );
-    assert_eq!(rt;
-        first_wrong(alloc, kind, REQUEST_IN_CHUNKS, &TRAILERS),
-        None
-    );
+/// All messages.
+fn groups() -> [Group; 10] {
+    [
+        Group {
+            kind: Kind::Request,
+            start: REQUEST,
+            rows: &HEADS,
+            pieces: LARGE_PIECES,
+        },
+        Group {
+            kind: Kind::Request,
+            start: b"",
+            rows: &TARGETS,
+            pieces: LARGE_PIECES,
+        },
+        Group {
+            kind: Kind::Request,
+            start: REQUEST,
+            rows: &REQUEST_BODIES,
+            pieces: LARGE_PIECES,
+        },
+        Group {
+            kind: Kind::Request,
+            start: REQUEST_IN_CHUNKS,
+            rows: &CHUNK_LINES,
+            pieces: LARGE_PIECES,
+        },
+        Group {
+            kind: Kind::Request,
+            start: REQUEST_IN_CHUNKS,
+            rows: &TRAILERS,
+            pieces: ALL_PIECES,
+        },
+        Group {
+            kind: RESPONSE_TO_GET,
+            start: RESPONSE,
+            rows: &HEADS,
+            pieces: LARGE_PIECES,
+        },
+        Group {
+            kind: RESPONSE_TO_GET,
+            start: b"",
+            rows: &INTERIM,
+            pieces: LARGE_PIECES,
+        },
+        Group {
+            kind: RESPONSE_TO_GET,
+            start: RESPONSE,
+            rows: &RESPONSE_BODIES,
+            pieces: LARGE_PIECES,
+        },
+        Group {
+            kind: RESPONSE_TO_GET,
+            start: RESPONSE_IN_CHUNKS,
+            rows: &CHUNK_LINES,
+            pieces: LARGE_PIECES,
+        },
+        Group {
+            kind: RESPONSE_TO_GET,
+            start: RESPONSE_IN_CHUNKS,
+            rows: &TRAILERS,
+            pieces: ALL_PIECES,
+        },
+    ]
 }
 
 #[test]
-fn responses_at_their_limits(rt: HostRuntime) {
-    let alloc = rt.alloc();
-    let kind = Kind::ResponseTo(b"GET");
-    assert_eq!(rt; first_wrong(alloc, kind, RESPONSE, &HEADS), None);
-    assert_eq!(rt; first_wrong(alloc, kind, b"", &INTERIM), None);
-    assert_eq!(rt; first_wrong(alloc, kind, RESPONSE, &RESPONSE_BODIES), None);
-    assert_eq!(rt;
-        first_wrong(alloc, kind, RESPONSE_IN_CHUNKS, &CHUNK_LINES),
-        None
-    );
-    assert_eq!(rt;
-        first_wrong(alloc, kind, RESPONSE_IN_CHUNKS, &TRAILERS),
-        None
-    );
-}
-
-#[test]
-fn trailers_that_drip(rt: HostRuntime) {
-    let alloc = rt.alloc();
-    let response = Kind::ResponseTo(b"GET");
-    assert_eq!(rt;
-        first_wrong_by_byte(alloc, Kind::Request, REQUEST_IN_CHUNKS, &TRAILERS),
-        None
-    );
-    assert_eq!(rt;
-        first_wrong_by_byte(alloc, response, RESPONSE_IN_CHUNKS, &TRAILERS),
-        None
-    );
+fn messages_at_their_limits(rt: HostRuntime) {
+    for (place, group) in groups().iter().enumerate() {
+        assert_eq!(rt; first_wrong(rt.alloc(), group), None, "group {place}");
+    }
 }

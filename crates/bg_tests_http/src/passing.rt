@@ -146,18 +146,25 @@ fn is_outcome(alloc: Global, read: &Result<Message, RequestFault>, outcome: Outc
     }
 }
 
-/// Whether the input has this outcome at every pace, and nothing is written in the meantime.
+/// The paces at which each message is read.
+static PACES: [Pace; 4] = [
+    Pace::UpTo(65_536),
+    Pace::UpTo(7),
+    Pace::UpTo(1),
+    Pace::InterruptedOnce,
+];
+
+/// Whether the input has this outcome at a pace, and nothing is written in the meantime.
+fn comes_at(alloc: Global, kind: Kind<'_>, input: &[u8], outcome: Outcome<'_>, pace: Pace) -> bool {
+    let mut stream = PacedStream::new(alloc, input, pace);
+    let read = read(alloc, kind, &mut stream);
+    is_outcome(alloc, &read, outcome) && stream.written().is_empty()
+}
+
+/// Whether the input has this outcome at every pace.
 fn comes_of(alloc: Global, kind: Kind<'_>, input: &[u8], outcome: Outcome<'_>) -> bool {
-    let paces = [
-        Pace::UpTo(65_536),
-        Pace::UpTo(7),
-        Pace::UpTo(1),
-        Pace::InterruptedOnce,
-    ];
-    for pace in paces {
-        let mut stream = PacedStream::new(alloc, input, pace);
-        let read = read(alloc, kind, &mut stream);
-        if !is_outcome(alloc, &read, outcome) || !stream.written().is_empty() {
+    for pace in &PACES {
+        if !comes_at(alloc, kind, input, outcome, *pace) {
             return false;
         }
     }

@@ -11,7 +11,7 @@ use crate::state::State;
 use crate::stop::Stop;
 use crate::strategies::base_strategy;
 use bg_book::{Book, Desk, EnterFault, GoOn, Left, Limits, Question, Ticket, laws as book_laws};
-use bg_forward::{DeskGate, Dial, Dialled, End, InMemoryResult, Gate, serve_in_memory};
+use bg_forward::{DeskGate, Dial, Dialled, End, Gate, InMemoryResult, serve_in_memory};
 use bg_ledger::{Blanks, Names, Seat};
 use bg_revisions::Service;
 use bg_rollout::{MOST_ENTRIES, PLACES_OF_A_REQUEST};

@@ -56,7 +56,12 @@ fn make_settings<R: AllocGlobal + Print + Eprint>(rt: &R) -> Result<Page, Stop> 
 /// What a strategy means.
 fn new_settings(alloc: Global) -> Result<Page, Stop> {
     let mut settings = Page::new();
-    match check(alloc, &mut STRATEGY.as_bytes(), &mut settings, &mut io::sink())? {
+    match check(
+        alloc,
+        &mut STRATEGY.as_bytes(),
+        &mut settings,
+        &mut io::sink(),
+    )? {
         0 => Ok(settings),
         _ => Err(Stop::OtherFault),
     }

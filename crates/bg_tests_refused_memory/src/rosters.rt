@@ -11,13 +11,13 @@ const NAMES: [&str; 3] = ["v1", "v2", "v3"];
 
 /// A roster. Its display shows everything that it answers.
 #[derive(Drop)]
-struct Revisions {
+struct RosterSubject {
     roster: Roster,
 }
 
-impl Revisions {
-    fn new(alloc: Global) -> Result<Revisions, Stop> {
-        Ok(Revisions {
+impl RosterSubject {
+    fn new(alloc: Global) -> Result<RosterSubject, Stop> {
+        Ok(RosterSubject {
             roster: Roster::new(alloc, 2)?,
         })
     }
@@ -34,7 +34,7 @@ impl Revisions {
     }
 }
 
-impl fmt::Display for Revisions {
+impl fmt::Display for RosterSubject {
     fn fmt<W: fmt::Write>(&self, f: &mut fmt::Formatter<W>) -> fmt::Result {
         let roster = &self.roster;
         writeln!(f, "last {} count {}", roster.last(), roster.count())?;
@@ -61,7 +61,7 @@ impl fmt::Display for LookUps<'_> {
     }
 }
 
-impl Subject for Revisions {
+impl Subject for RosterSubject {
     /// The name of the revision that is added.
     type Call = &'static str;
 
@@ -111,11 +111,11 @@ fn new_ports(alloc: Global) -> Result<Ports, Stop> {
     Ok(Ports::new(alloc, &[9001, 9002])?)
 }
 
-fn make_roster<R: AllocGlobal + Print + Eprint>(rt: &R) -> Result<Revisions, Stop> {
+fn make_roster<R: AllocGlobal + Print + Eprint>(rt: &R) -> Result<RosterSubject, Stop> {
     let alloc = rt.alloc();
-    match made(rt, "Roster::new", Revisions::new(alloc))? {
+    match made(rt, "Roster::new", RosterSubject::new(alloc))? {
         Some(revisions) => Ok(revisions),
-        None => made_again(rt, "Roster::new", Revisions::new(alloc)),
+        None => made_again(rt, "Roster::new", RosterSubject::new(alloc)),
     }
 }
 
@@ -124,7 +124,7 @@ fn make_revisions<R: AllocGlobal + Print + Eprint>(rt: &R) -> Result<(), Stop> {
     add_revisions(rt, &mut revisions)
 }
 
-fn add_revisions<R: Print + Eprint>(rt: &R, revisions: &mut Revisions) -> Result<(), Stop> {
+fn add_revisions<R: Print + Eprint>(rt: &R, revisions: &mut RosterSubject) -> Result<(), Stop> {
     change(rt, "Roster::add", revisions, &NAMES)?;
     show(rt, revisions)
 }

@@ -117,7 +117,13 @@ fn reads_nothing_after_quit(rt: HostRuntime) {
     let input =
         "{\"spec\":{\"strategy\":{\"blueGreen\":{\"activeService\":\"web\"}}}}\n---\nopen v1 9001\nquit\nreport\n";
     let mut reader = Slow::new(input.as_bytes(), 1000);
-    let status = replay(rt.alloc(), 1, &mut reader, &mut Page::new(), &mut io::sink());
+    let status = replay(
+        rt.alloc(),
+        1,
+        &mut reader,
+        &mut Page::new(),
+        &mut io::sink(),
+    );
     assert_eq!(rt; status, Ok(0));
     assert_eq!(rt; reader.unread(), b"report\n".as_slice());
 }
@@ -126,7 +132,13 @@ fn reads_nothing_after_quit(rt: HostRuntime) {
 fn reads_nothing_after_a_fault_of_the_strategy(rt: HostRuntime) {
     let input = "{\"spec\": 5}\n---\nopen v1 9001\n";
     let mut reader = Slow::new(input.as_bytes(), 1000);
-    let status = replay(rt.alloc(), 1, &mut reader, &mut Page::new(), &mut io::sink());
+    let status = replay(
+        rt.alloc(),
+        1,
+        &mut reader,
+        &mut Page::new(),
+        &mut io::sink(),
+    );
     assert_eq!(rt; status, Ok(1));
     assert_eq!(rt; reader.unread(), b"open v1 9001\n".as_slice());
 }
@@ -136,7 +148,13 @@ fn cut_lines(rt: HostRuntime) {
     let input = DRAINING.as_bytes();
     for length in 0..input.len() {
         let (mut reader, _cut_off) = input.split_at(length);
-        let status = replay(rt.alloc(), 1, &mut reader, &mut Vec::new(rt.alloc()), &mut io::sink());
+        let status = replay(
+            rt.alloc(),
+            1,
+            &mut reader,
+            &mut Vec::new(rt.alloc()),
+            &mut io::sink(),
+        );
         assert!(rt; status.is_ok(), "{length} bytes");
     }
 }

@@ -1,4 +1,4 @@
-use Rattle.bg_tests_forward.proofs.limits.work_both.Goals as goal
+use Rattle.bg_tests_forward.proofs.worker_counts.work_both.Goals as goal
 
 pub returns : goal.returns
 returns g c =
