@@ -16,7 +16,7 @@ use Rattle.bg_history.specs.Promotion.{attempts}
 use Rattle.bg_history.specs.Allowed.{is_allowed, fits_namesake, may_deploy}
 use Rattle.bg_history_laws.specs.Reachable.{Reachable}
 use Rattle.bg_history_laws.specs.Listed.{sized, revision_of, revisions_of}
-use Rattle.bg_audit.specs.Sizes.{desired, desired_in}
+use Rattle.bg_audit.specs.Sizes.{desired as desired_of_listed, desired_in}
 use Rattle.bg_audit.proofs.Tests.{and_parts, or_right, equal_itself, equal_numbers}
 
 -- the law of finding, for one number
@@ -31,7 +31,7 @@ sized-desired r n m (Some t) = refl
 pub desired-listed : (s : Strategy) (o : Opening) (past : List Entry) (r : ℕ) → Finds s o past r → exists_in r past ≡ true
     → desired_in r (revisions_of s o past) ≡ desired s r past
 desired-listed s o past r finds is =
-    ap desired (finds ∙ ap (λ b. cond b (Some (revision_of s o past r)) None) is) ∙ sized-desired r (desired s r past) _ (template o r past)
+    ap desired_of_listed (finds ∙ ap (λ b. cond b (Some (revision_of s o past r)) None) is) ∙ sized-desired r (desired s r past) _ (template o r past)
 
 -- a revision whose desired number of endpoints is raised
 pub raised-listed : (s : Strategy) (o : Opening) (past : List Entry) (e : Entry) (q n : ℕ) (old new : List Revision)

@@ -90,11 +90,7 @@ impl Facts {
             → result ≡ is_template name.now ports.now (template o (newest_of past) past) }
     {
         laws::finds();
-        has_template(
-            with_number(&self.revisions, self.state.newest),
-            name,
-            ports,
-        )
+        has_template(with_number(&self.revisions, self.state.newest), name, ports)
     }
 
     /// Whether the revision of this name has this number and these ports; or no revision has the name, the number is

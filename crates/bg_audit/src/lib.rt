@@ -6,8 +6,8 @@
 
 mod allowed;
 mod audited_attempt;
-mod auditing;
 mod audited_state;
+mod auditing;
 mod due;
 mod facts;
 mod fault;

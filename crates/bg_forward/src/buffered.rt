@@ -55,7 +55,7 @@ impl<S> Buffered<S> {
 impl<S: Write> Buffered<S> {
     /// Writes the buffered bytes to the stream. If that fails, the bytes that were not written stay
     /// buffered.
-    fn hand_on(&mut self) -> io::Result<()>
+    fn send_buffered(&mut self) -> io::Result<()>
         ensures bytes { Keeps (buffered S.contents self.old) (buffered S.contents self.new) }
         ensures empty { OnOk result (held self.new ≡ []) }
     {
@@ -91,7 +91,7 @@ impl<S: Write> Write for Buffered<S> {
 
     fn write(&mut self, bytes: &[u8]) -> io::Result<usize> {
         if bytes.len() > self.held.capacity() - self.held.len() {
-            self.hand_on()?;
+            self.send_buffered()?;
         }
         if bytes.len() > self.held.capacity() {
             return self.stream.write(bytes);
@@ -104,7 +104,7 @@ impl<S: Write> Write for Buffered<S> {
         ensures bytes { Keeps (buffered S.contents self.old) (buffered S.contents self.new) }
         ensures empty { OnOk result (held self.new ≡ []) }
     {
-        self.hand_on()?;
+        self.send_buffered()?;
         self.stream.flush()
     }
 }

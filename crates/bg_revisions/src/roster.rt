@@ -3,9 +3,9 @@ ghost use Rattle.std.specs.Prelude.{◌≡◌, ◌<◌, ◌≤◌, ◌+◌, ◌^
 ghost use Rattle.std.specs.Option.{option_copied, IsSomeAnd};
 ghost use Rattle.bg_revisions.specs.Rosters.{numbered, named, is_well_formed, well_formed, template_of, refused_by, resized, reported, report_of, IsRoster};
 
-use crate::replica_ports::are_replica_ports;
 use crate::name::Name;
 use crate::ports::Ports;
+use crate::replica_ports::are_replica_ports;
 use crate::revision::Revision;
 use crate::revision_fault::RevisionFault;
 use bg_strategy::is_dns_label;

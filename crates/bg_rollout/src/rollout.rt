@@ -19,11 +19,11 @@ mod requests;
 mod settling;
 
 use crate::limits::{Limits, PLACES_OF_A_REQUEST};
+use crate::request_lists::RequestLists;
 use bg_history::History;
 use bg_history_laws as laws;
 use bg_ledger::{Names, SeatRecord};
 use bg_promotion::{Core, Phase};
-use crate::request_lists::RequestLists;
 use bg_revisions::{Revision, Roster, Selectors};
 use bg_scaledown::Deadlines;
 use bg_strategy::Strategy;

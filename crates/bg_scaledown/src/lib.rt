@@ -4,8 +4,8 @@
 mod deadlines;
 pub mod laws;
 mod mark;
-mod marks;
 mod mark_list;
+mod marks;
 
 pub use deadlines::Deadlines;
 pub use mark::{Cause, RevisionMark};

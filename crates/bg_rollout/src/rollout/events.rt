@@ -64,7 +64,11 @@ impl<N: Names> Rollout<N> {
             }
             Control::Deploy { name, ports } => {
                 let namesake = self.check_deploy(name.get(), ports.get())?;
-                Ok(AcceptedEvent::Deploy { namesake, name, ports })
+                Ok(AcceptedEvent::Deploy {
+                    namesake,
+                    name,
+                    ports,
+                })
             }
             Control::Available { revision, size } => {
                 let (revision, size) = (*revision, *size);
@@ -168,7 +172,11 @@ impl<N: Names> Rollout<N> {
     {
         match accepted {
             AcceptedEvent::Tick(moment) => self.take_tick(moment),
-            AcceptedEvent::Deploy { namesake, name, ports } => {
+            AcceptedEvent::Deploy {
+                namesake,
+                name,
+                ports,
+            } => {
                 self.take_deploy(alloc, namesake, name.get(), ports.get())?;
             }
             AcceptedEvent::Available { revision, size } => self.take_report(revision, size),

@@ -11,11 +11,11 @@ ghost use Rattle.bg_ledger.specs.declared.holding.Holding.{Holding};
 
 use crate::fault::{GatherFault, OpenFault};
 use crate::limits::Limits;
+use crate::request_lists::{MOST_SEATS, RequestLists};
 use crate::rollout::Rollout;
 use bg_history::History;
 use bg_ledger::{Blanks, Names, Seat, SeatRecord, pair};
 use bg_promotion::Core;
-use crate::request_lists::{MOST_SEATS, RequestLists};
 use bg_revisions::{Roster, are_replica_ports};
 use bg_scaledown::Deadlines;
 use bg_strategy::{Strategy, is_dns_label};

@@ -12,13 +12,13 @@ ghost use Rattle.bg_history.specs.declared.entry.Entry.TheVariants as entry;
 use crate::fault::EnterFault;
 use crate::go_on::GoOn;
 use crate::limits::PLACES_OF_A_REQUEST;
+use crate::request_lists::OpenRequest;
 use crate::rollout::Rollout;
 use crate::ticket::{Left, Ticket};
 use bg_history::Entry;
 use bg_history_laws as laws;
 use bg_ledger::{Names, Seat};
 use bg_promotion::laws as promotion_laws;
-use crate::request_lists::OpenRequest;
 use bg_revisions::Service;
 
 impl<N: Names> Rollout<N> {

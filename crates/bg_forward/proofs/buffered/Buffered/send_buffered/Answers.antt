@@ -1,8 +1,8 @@
 use Rattle.std.proofs.Common.{refl, subst, take}
 use Rattle.std.specs.Io.KnownBytes.{Appends}
 use Rattle.bg_forward.proofs.HandedOn.{handed_on, not_handed_on}
-use Rattle.bg_forward.proofs.buffered.Buffered.hand_on.Goals as goal
-use Rattle.bg_forward.proofs.buffered.Buffered.hand_on.Goals.{in-Ok, in-Err+else-ne}
+use Rattle.bg_forward.proofs.buffered.Buffered.send_buffered.Goals as goal
+use Rattle.bg_forward.proofs.buffered.Buffered.send_buffered.Goals.{in-Ok, in-Err+else-ne}
 
 pub returns-in-Ok-eq0-clause-bytes : goal.returns-in-Ok-eq0-clause-bytes
 returns-in-Ok-eq0-clause-bytes g c =
