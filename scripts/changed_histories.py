@@ -715,6 +715,19 @@ def sort_key(judged: Judged) -> tuple[str, str, list[int], str]:
     return row, words[0], [int(word) if word.isdigit() else -1 for word in words], line
 
 
+def distinct() -> list[tuple[Row, Strategy, History]]:
+    """The rows with their strategies and histories, without each whose history another one begins with."""
+    found: list[tuple[Row, Strategy, History]] = []
+    for row in rows():
+        s = strategy_of(row.document)
+        h = gathered(s, row.script)
+        assert fault(s, h) is None, row.name
+        if not any(other[: len(h)] == h for _, _, other in found):
+            found = [it for it in found if h[: len(it[2])] != it[2]]
+            found.append((row, s, h))
+    return found
+
+
 def choose() -> tuple[dict[Row, History], list[Judged]]:
     """The history of each row, and the changes of these histories. At least a third of the changes, where so many are found,
     leave the history legal and settled; the others are spread over what they break."""
@@ -722,10 +735,7 @@ def choose() -> tuple[dict[Row, History], list[Judged]]:
     histories: dict[Row, History] = {}
     good: list[Change] = []
     by_fault: dict[str, list[Change]] = {}
-    for row in rows():
-        s = strategy_of(row.document)
-        h = gathered(s, row.script)
-        assert fault(s, h) is None, row.name
+    for row, s, h in distinct():
         histories[row] = h
         seen = {h}
         for _ in range(60 * len(h)):

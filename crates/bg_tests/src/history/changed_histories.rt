@@ -12,7 +12,7 @@ pub(super) struct Changed {
     pub(super) changes: &'static str,
 }
 
-pub(super) const CHANGED: [Changed; 40] = [
+pub(super) const CHANGED: [Changed; 31] = [
     // abort_at_the_latest_moment
     Changed {
         strategy: r#"{"spec": {"replicas": 2, "strategy": {"blueGreen": {"activeService": "web", "abortScaleDownDelaySeconds": 2147483647}}}}"#,
@@ -26,10 +26,9 @@ deploy 2 v2 9101 9102
 abort
 deploy 1 v1 9001 9002
 scaled_down 2",
-        changes: "good change 1 deploy 2 v2 9001 9102
-bad drop 4
-bad move 1 3
-bad move 2 0",
+        changes: "good double 0
+good drop 2
+bad move 2 3",
     },
     // aborted_revision_after_its_delay
     Changed {
@@ -55,11 +54,16 @@ scaled_down 2
 retry
 available 2 2
 ready 2",
-        changes: "good change 5 tick 31
+        changes: "good change 0 deploy 2 v3 9101 9102
+good change 0 deploy 2 v2 9101 9103
+good change 4 tick 30
 bad change 7 promote
+bad change 7 promote_full
+good double 1
+bad drop 1
 bad drop 9
-bad move 1 2
-bad move 5 3",
+bad move 4 7
+bad move 9 7",
     },
     // aborted_revision_drains
     Changed {
@@ -84,13 +88,18 @@ abort
 tick 30
 leave 0 1 2
 scaled_down 2",
-        changes: "bad change 1 deploy 2 v2 9101 9103
-bad change 3 switched 2
-bad change 7 promote
+        changes: "good change 1 deploy 2 v3 9101 9102
+bad change 5 promoted 2
 bad change 7 retry
-bad double 6
-bad double 7
-bad move 7 0",
+good change 8 tick 31
+bad change 9 leave 0 2 2
+good double 8
+good drop 0
+bad drop 10
+good move 0 7
+bad move 7 0
+bad move 8 6
+good move 9 8",
     },
     // drain_limit_ten
     Changed {
@@ -120,122 +129,13 @@ tick 39
 tick 40
 leave 0 1 1
 scaled_down 1",
-        changes: "bad change 1 enter 0 preview 1 1 9002
-bad change 1 enter 1 active 1 1 9002
-good change 2 deploy 2 v2 9001 9102
-good change 8 tick 31
-bad change 11 leave 0 0 1
-good double 3
-bad move 4 1
-bad move 11 1",
-    },
-    // drain_limit_zero
-    Changed {
-        strategy: r#"{"spec": {"replicas": 2, "strategy": {"blueGreen": {"activeService": "web", "drainLimitSeconds": 0}}}}"#,
-        script: "available 1 2
-enter 0 active
-deploy v2 9101 9102
-available 2 2
-tick 30
-report",
-        entries: "available 1 2
-enter 0 active 1 1 9002
-deploy 2 v2 9101 9102
-available 2 2
-ready 2
-resumed 2
-switched 2
-promoted 2
-tick 30
-leave 0 1 1
-scaled_down 1",
-        changes: "bad change 2 deploy 2 v2 9101 9101
-good change 2 deploy 2 v2 9103 9102
-bad change 9 leave 0 0 1
-bad double 6
-bad drop 1
-good move 8 9",
-    },
-    // drains_before_scaling_down
-    Changed {
-        strategy: r#"{"spec": {"replicas": 2, "strategy": {"blueGreen": {"activeService": "web"}}}}"#,
-        script: "available 1 2
-enter 0 active
-deploy v2 9101 9102
-available 2 2
-tick 30
-report
-leave 0
-report",
-        entries: "available 1 2
-enter 0 active 1 1 9002
-deploy 2 v2 9101 9102
-available 2 2
-ready 2
-resumed 2
-switched 2
-promoted 2
-tick 30
-leave 0 1 1
-scaled_down 1",
-        changes: "good change 2 deploy 2 v4 9101 9102
-bad change 6 scaled_down 2
-good double 3
-bad double 5
-bad double 9
-bad move 0 6
-good move 1 3
-good move 1 5",
-    },
-    // failed_post_analysis
-    Changed {
-        strategy: r#"{"spec": {"replicas": 2, "strategy": {"blueGreen": {"activeService": "web", "postPromotionAnalysis": {}}}}}"#,
-        script: "available 1 2
-deploy v2 9101 9102
-available 2 2
-report
-tick 40
-report
-verdict pre failed
-verdict post error
-report",
-        entries: "available 1 2
-deploy 2 v2 9101 9102
-available 2 2
-ready 2
-resumed 2
-switched 2
-tick 40
-verdict post error",
-        changes: "good change 0 available 1 1
-good change 1 deploy 2 v3 9101 9102
-good change 1 deploy 2 v2 9101 9103
-good drop 0
-bad move 7 6",
-    },
-    // failed_post_analysis_without_abort_delay
-    Changed {
-        strategy: r#"{"spec": {"replicas": 2, "strategy": {"blueGreen": {"activeService": "web", "postPromotionAnalysis": {}, "abortScaleDownDelaySeconds": 0}}}}"#,
-        script: "available 1 2
-deploy v2 9101 9102
-available 2 2
-report
-tick 40
-report
-verdict pre failed
-verdict post error
-report",
-        entries: "available 1 2
-deploy 2 v2 9101 9102
-available 2 2
-ready 2
-resumed 2
-switched 2
-tick 40
-verdict post error",
-        changes: "bad change 3 promoted 2
-good change 7 verdict post failed
-good move 0 7",
+        changes: "bad change 1 enter 1 active 1 1 9002
+good change 2 deploy 2 v3 9101 9102
+bad change 5 switched 2
+bad change 7 resumed 2
+good double 10
+bad move 0 9
+bad move 8 9",
     },
     // failed_pre_analysis_and_retry
     Changed {
@@ -262,65 +162,14 @@ verdict pre successful
 resumed 2
 switched 2
 promoted 2",
-        changes: "good change 0 deploy 2 v2 9101 9001
-good change 0 deploy 2 v4 9101 9102
-bad change 4 promote_full
-bad change 5 removed 2
-bad drop 5
+        changes: "good change 0 deploy 2 v2 9001 9102
+bad change 7 removed 2
+bad change 9 removed 2
+bad change 9 promoted 3
 bad drop 9
-bad move 3 7",
-    },
-    // failed_pre_analysis_without_abort_delay
-    Changed {
-        strategy: r#"{"spec": {"replicas": 2, "strategy": {"blueGreen": {"activeService": "web", "prePromotionAnalysis": {"templates": []}, "abortScaleDownDelaySeconds": 0}}}}"#,
-        script: "deploy v2 9101 9102
-available 2 2
-promote
-verdict pre failed
-report",
-        entries: "deploy 2 v2 9101 9102
-available 2 2
-ready 2
-verdict pre failed",
-        changes: "bad change 3 verdict pre successful
-bad move 0 2
-bad move 3 0",
-    },
-    // fails_back_over_two_revisions
-    Changed {
-        strategy: r#"{"spec": {"replicas": 2, "strategy": {"blueGreen": {"activeService": "web", "postPromotionAnalysis": {}}}}}"#,
-        script: "available 1 2
-deploy v2 9101 9102
-available 2 2
-deploy v3 9201 9202
-available 3 2
-report
-verdict post failed
-report",
-        entries: "available 1 2
-deploy 2 v2 9101 9102
-available 2 2
-ready 2
-resumed 2
-switched 2
-deploy 3 v3 9201 9202
-available 3 2
-ready 3
-resumed 3
-switched 3
-verdict post failed",
-        changes: "good change 1 deploy 2 v2 9101 9001
-good change 1 deploy 2 v2 9103 9102
-good change 6 deploy 3 v3 9101 9202
-good change 6 deploy 3 v3 9201 9103
-bad change 7 available 3 1
-bad change 10 removed 3
-bad change 11 verdict post successful
-good double 0
-bad double 5
-bad drop 5
-bad move 1 5
-bad move 6 1",
+bad move 2 1
+bad move 2 3
+bad move 6 0",
     },
     // fails_back_over_two_revisions_without_abort_delay
     Changed {
@@ -349,15 +198,13 @@ switched 3
 verdict post failed
 tick 30
 scaled_down 2",
-        changes: "bad change 1 deploy 2 v3 9101 9102
-good change 1 deploy 2 v2 9103 9102
-bad change 6 deploy 2 v3 9201 9202
+        changes: "good change 1 deploy 2 v2 9101 9001
+good change 6 deploy 3 v3 9101 9202
+good change 6 deploy 3 v3 9201 9001
 good change 6 deploy 3 v3 9201 9101
-good change 6 deploy 3 v3 9201 9103
-bad change 11 verdict post successful
-good double 2
-bad drop 13
-good move 0 1",
+bad change 8 removed 3
+bad double 1
+bad drop 13",
     },
     // full_promotion
     Changed {
@@ -374,12 +221,12 @@ ready 2
 resumed 2
 switched 2
 promoted 2",
-        changes: "bad change 1 retry
+        changes: "bad double 1
 bad drop 0
-bad drop 4
 bad drop 6
 bad move 0 1
-bad move 0 5",
+bad move 0 6
+bad move 5 3",
     },
     // full_promotion_after_the_switch
     Changed {
@@ -394,9 +241,9 @@ resumed 2
 switched 2
 promote_full
 promoted 2",
-        changes: "bad change 3 promoted 2
-bad change 5 promote
-good move 5 3",
+        changes: "good change 0 deploy 2 v2 9103 9102
+bad change 5 retry
+bad drop 6",
     },
     // manual_promotion
     Changed {
@@ -419,11 +266,9 @@ resumed 2
 available 2 2
 switched 2
 promoted 2",
-        changes: "good change 0 deploy 2 v2 9101 9001
-good change 3 available 2 2
-bad drop 2
-bad move 0 5
-bad move 2 4",
+        changes: "good change 0 deploy 2 v3 9101 9102
+bad drop 8
+good move 4 3",
     },
     // manual_promotion_with_preview
     Changed {
@@ -450,16 +295,14 @@ switched 2
 promoted 2
 leave 0 1 1
 leave 1 2 2",
-        changes: "good change 1 deploy 2 v4 9101 9102
-bad change 4 enter 0 active 0 1 9002
-bad change 8 scaled_down 2
-good double 0
-good double 6
-bad move 5 0
-good move 6 5
-good move 10 9
-good move 10 11
-bad move 11 3",
+        changes: "bad change 0 available 2 2
+good change 1 deploy 2 v2 9101 9001
+bad change 2 available 2 3
+good change 6 promote_full
+bad drop 3
+good drop 10
+good move 3 4
+bad move 6 0",
     },
     // moments_and_bad_arguments
     Changed {
@@ -476,23 +319,7 @@ deploy v2 7 7",
         entries: "tick 5
 tick 5
 tick 9007199254740992",
-        changes: "",
-    },
-    // moments_and_sizes
-    Changed {
-        strategy: r#"{"spec":{"replicas":2,"strategy":{"blueGreen":{"activeService":"web"}}}}"#,
-        script: "tick 5
-tick 4
-tick 5
-tick 9007199254740993
-tick 9007199254740992
-available 2 0
-available 1 3",
-        entries: "tick 5
-tick 5
-tick 9007199254740992",
-        changes: "bad change 0 tick 6
-good double 2",
+        changes: "good change 2 tick 9007199254740991",
     },
     // no_drain_limit
     Changed {
@@ -516,14 +343,23 @@ tick 30
 tick 9007199254740992
 leave 0 1 1
 scaled_down 1",
-        changes: "good change 2 deploy 2 v2 9101 9001
-bad change 9 tick 9007199254740993
-good double 0
-bad drop 10
-bad move 1 8
-bad move 7 0
-bad move 9 4
-good move 10 7",
+        changes: "bad change 0 available 2 2
+bad change 1 enter 0 active 1 2 9002
+good change 2 deploy 2 v2 9001 9102
+good change 2 deploy 2 v2 9101 9001
+bad change 7 promoted 1
+bad change 7 ready 2
+bad change 7 promoted 3
+good change 8 tick 29
+bad change 10 leave 0 1 0
+good double 8
+bad double 10
+bad drop 11
+bad move 0 7
+bad move 8 9
+bad move 9 6
+good move 10 7
+bad move 11 5",
     },
     // pause_begins_after_the_analysis
     Changed {
@@ -546,10 +382,11 @@ tick 30
 resumed 2
 switched 2
 promoted 2",
-        changes: "bad change 2 removed 2
-good change 5 tick 30
-good double 3
-bad drop 9",
+        changes: "good change 5 tick 28
+bad drop 9
+bad move 0 8
+good move 3 2
+good move 3 4",
     },
     // pause_by_seconds
     Changed {
@@ -570,13 +407,12 @@ tick 15
 resumed 2
 switched 2
 promoted 2",
-        changes: "good change 0 deploy 2 v4 9101 9102
-bad change 0 deploy 3 v2 9101 9102
-bad change 7 scaled_down 2
-bad drop 8
-bad move 1 7
-bad move 3 4
-bad move 8 6",
+        changes: "bad change 2 available 2 1
+bad double 7
+good move 1 2
+good move 1 3
+bad move 5 3
+bad move 7 6",
     },
     // post_analysis_promotes
     Changed {
@@ -594,7 +430,9 @@ resumed 2
 switched 2
 verdict post successful
 promoted 2",
-        changes: "bad drop 6",
+        changes: "good change 0 deploy 2 v2 9103 9102
+bad move 2 4
+bad move 5 2",
     },
     // preview_size
     Changed {
@@ -613,9 +451,10 @@ resumed 2
 available 2 2
 switched 2
 promoted 2",
-        changes: "bad change 2 ready 1
-good double 5
-bad move 5 0",
+        changes: "bad change 6 scaled_down 2
+bad change 7 resumed 2
+bad change 7 scaled_down 2
+bad drop 7",
     },
     // removes_when_the_last_request_leaves
     Changed {
@@ -642,20 +481,11 @@ leave 0 1 1
 scaled_down 1
 removed 1
 deploy 3 v1 9001 9002",
-        changes: "good change 2 deploy 2 v3 9101 9102
-good change 2 deploy 2 v2 9101 9103
-bad change 10 resumed 1
-good change 12 deploy 3 v1 9102 9002
-good double 0
-bad move 10 0
-bad move 11 7",
-    },
-    // report_at_the_opening
-    Changed {
-        strategy: r#"{"spec": {"replicas": 2, "strategy": {"blueGreen": {"activeService": "web"}}}}"#,
-        script: "report",
-        entries: "",
-        changes: "",
+        changes: "bad change 1 enter 0 active 1 2 9002
+good change 2 deploy 2 v2 9103 9102
+bad change 10 promoted 1
+good move 9 7
+bad move 9 12",
     },
     // requests_enter_and_leave
     Changed {
@@ -671,7 +501,7 @@ enter 0 active 1 1 9002
 enter 1 active 2 1 9001
 leave 0 1 1
 leave 1 2 1",
-        changes: "",
+        changes: "bad change 4 leave 0 2 1",
     },
     // retry_after_a_failed_post_analysis
     Changed {
@@ -699,12 +529,17 @@ retry
 ready 2
 resumed 2
 switched 2",
-        changes: "good change 1 deploy 2 v3 9101 9102
+        changes: "bad change 1 deploy 1 v2 9101 9102
+bad change 5 removed 2
 bad change 8 abort
+bad change 8 promote
+bad drop 5
 bad drop 11
-bad move 7 4
+bad move 7 2
 good move 7 6
-bad move 8 0",
+bad move 7 8
+bad move 8 1
+bad move 10 11",
     },
     // retry_before_the_abort_delay_is_over
     Changed {
@@ -726,19 +561,16 @@ tick 34
 retry
 ready 2
 tick 35",
-        changes: "good change 0 deploy 2 v2 9101 9103
-good change 4 verdict pre error
-bad change 4 verdict pre successful
-bad change 6 promote
-bad change 6 promote_full
-good change 8 tick 36
-good double 5
-good double 8
-good drop 3
+        changes: "good change 0 deploy 2 v2 9001 9102
+good change 0 deploy 2 v2 9101 9103
+good change 0 deploy 2 v2 9103 9102
+good change 5 tick 33
+bad change 6 abort
+good change 8 tick 34
+bad drop 4
 bad drop 7
-bad move 0 8
-good move 2 3
-bad move 2 8",
+bad move 1 7
+bad move 5 8",
     },
     // retry_once_the_abort_delay_is_over
     Changed {
@@ -761,10 +593,17 @@ scaled_down 2
 retry
 available 2 2
 ready 2",
-        changes: "bad change 7 promote_full
-bad change 9 removed 2
+        changes: "good change 0 deploy 2 v2 9101 9103
+bad change 2 promoted 2
+good change 3 tick 4
+bad change 7 abort
+bad change 7 promote
+bad change 7 promote_full
+bad change 8 available 2 3
+good double 3
 bad drop 9
-bad move 0 2",
+good move 4 3
+bad move 7 3",
     },
     // reverts_before_the_switch
     Changed {
@@ -777,7 +616,9 @@ deploy v2 9101 9103",
         entries: "deploy 2 v2 9101 9102
 deploy 1 v1 9001 9002
 scaled_down 2",
-        changes: "bad drop 2",
+        changes: "good change 0 deploy 2 v4 9101 9102
+bad change 1 deploy 1 V4 9001 9002
+bad change 1 deploy 1 v1 9001 9101",
     },
     // reverts_to_the_stable_revision
     Changed {
@@ -802,12 +643,13 @@ tick 40
 deploy 1 v1 9001 9002
 tick 70
 scaled_down 2",
-        changes: "bad double 5
-good drop 6
-good move 0 6
-good move 0 8
-bad move 8 5
-bad move 8 7",
+        changes: "good change 1 deploy 2 v2 9103 9102
+good double 6
+good drop 0
+bad drop 9
+good move 0 3
+good move 0 5
+good move 1 0",
     },
     // reverts_while_draining
     Changed {
@@ -836,9 +678,19 @@ resumed 1
 switched 1
 promoted 1
 leave 0 1 1",
-        changes: "bad change 11 promoted 1
-good double 8
-good move 14 12",
+        changes: "bad change 0 available 1 1
+bad change 1 enter 0 active 1 2 9002
+good change 2 deploy 2 v3 9101 9102
+bad change 14 leave 0 0 1
+bad change 14 leave 1 1 1
+bad drop 13
+bad move 1 11
+bad move 4 5
+bad move 5 14
+good move 8 7
+good move 8 9
+bad move 8 13
+good move 14 5",
     },
     // revision_limit_one
     Changed {
@@ -861,8 +713,7 @@ resumed 3
 switched 3
 promoted 3
 scaled_down 1",
-        changes: "good change 6 deploy 3 v3 9201 9101
-bad change 10 removed 3",
+        changes: "good change 6 deploy 3 v3 9201 9102",
     },
     // revision_limit_zero
     Changed {
@@ -885,9 +736,16 @@ resumed 3
 switched 3
 promoted 3
 scaled_down 2",
-        changes: "bad change 5 promoted 1
-good change 7 deploy 3 v3 9102 9202
-good move 6 9",
+        changes: "bad change 0 deploy 3 v2 9101 9102
+bad change 5 removed 2
+good change 7 deploy 3 v3 9201 9001
+good change 7 deploy 3 v3 9201 9103
+bad change 7 deploy 3 V4 9201 9202
+bad change 9 resumed 3
+bad drop 2
+bad drop 6
+bad move 0 7
+good move 6 13",
     },
     // seconds_ignored_without_auto_promotion
     Changed {
@@ -905,8 +763,13 @@ promote
 resumed 2
 switched 2
 promoted 2",
-        changes: "good change 3 tick 99
-bad move 3 7",
+        changes: "good change 0 deploy 2 v3 9101 9102
+good change 3 tick 99
+bad change 5 removed 2
+good double 1
+good double 4
+good move 3 5
+bad move 4 2",
     },
     // superseded_after_an_abort
     Changed {
@@ -923,14 +786,8 @@ ready 2
 verdict pre failed
 deploy 3 v3 9201 9202
 scaled_down 2",
-        changes: "good change 0 deploy 2 v2 9101 9001
-good change 0 deploy 2 v4 9101 9102
-good change 0 deploy 2 v2 9101 9103
-good change 0 deploy 2 v2 9103 9102
-good change 4 deploy 3 v3 9001 9202
-good change 4 deploy 3 v3 9102 9202
-bad change 4 deploy 3 V4 9201 9202
-bad move 3 5",
+        changes: "bad change 3 verdict post failed
+good change 3 verdict pre error",
     },
     // superseded_while_active
     Changed {
@@ -954,42 +811,12 @@ abort
 tick 30
 scaled_down 2
 scaled_down 3",
-        changes: "bad change 4 resumed 1
-bad change 4 resumed 3
-good change 6 deploy 3 v3 9101 9202
+        changes: "bad change 1 deploy 2 v2 0 9102
+bad change 7 promote
 bad double 7
-bad drop 9
-bad move 5 1
-bad move 7 0",
-    },
-    // superseded_while_active_without_abort_delay
-    Changed {
-        strategy: r#"{"spec": {"replicas": 2, "strategy": {"blueGreen": {"activeService": "web", "postPromotionAnalysis": {}, "abortScaleDownDelaySeconds": 0}}}}"#,
-        script: "available 1 2
-deploy v2 9101 9102
-available 2 2
-deploy v3 9201 9202
-abort
-report
-tick 30",
-        entries: "available 1 2
-deploy 2 v2 9101 9102
-available 2 2
-ready 2
-resumed 2
-switched 2
-deploy 3 v3 9201 9202
-abort
-tick 30
-scaled_down 2",
-        changes: "bad change 1 deploy 1 v2 9101 9102
-bad change 2 available 1 2
-bad change 4 resumed 1
-good change 6 deploy 3 v3 9101 9202
-good change 6 deploy 3 v3 9201 9101
-bad change 7 retry
-good move 0 1
-bad move 1 3",
+good drop 0
+good move 0 8
+bad move 7 1",
     },
     // switches_and_scales_down
     Changed {
@@ -1008,7 +835,11 @@ promoted 2
 tick 29
 tick 30
 scaled_down 1",
-        changes: "bad change 2 ready 3",
+        changes: "good change 0 deploy 2 v2 9001 9102
+good change 0 deploy 2 v2 9101 9103
+bad change 2 scaled_down 2
+good double 7
+bad move 0 5",
     },
     // unscaled_revision_is_not_superseded
     Changed {
@@ -1026,8 +857,10 @@ verdict pre failed
 tick 30
 scaled_down 2
 deploy 3 v3 9201 9202",
-        changes: "good change 0 deploy 2 v2 9101 9001
-bad move 2 6
-good move 6 5",
+        changes: "good change 6 deploy 3 v3 9201 9101
+good change 6 deploy 3 v3 9201 9102
+good double 1
+bad drop 5
+good drop 6",
     },
 ];
