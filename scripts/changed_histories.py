@@ -792,7 +792,7 @@ pub(super) struct Changed {{
     pub(super) changes: &'static str,
 }}
 
-pub(super) const CHANGED: [Changed; {len(parts)}] = [
+pub(super) static CHANGED: [Changed; {len(parts)}] = [
 {"".join(parts)}];
 """
     )

@@ -12,7 +12,7 @@ pub(super) struct Changed {
     pub(super) changes: &'static str,
 }
 
-pub(super) const CHANGED: [Changed; 31] = [
+pub(super) static CHANGED: [Changed; 31] = [
     // abort_at_the_latest_moment
     Changed {
         strategy: r#"{"spec": {"replicas": 2, "strategy": {"blueGreen": {"activeService": "web", "abortScaleDownDelaySeconds": 2147483647}}}}"#,

@@ -66,6 +66,19 @@ fn count_of(alloc: Global, changed: &Changed) -> Result<Result<u64, &'static str
     Ok(Ok(count))
 }
 
+#[test]
+fn tells_changed_histories_apart(rt: HostRuntime) -> Result<(), Fail> {
+    let mut count = 0u64;
+    for changed in &CHANGED {
+        match count_of(rt.alloc(), changed)? {
+            Ok(more) => count = count.saturating_add(more),
+            Err(change) => panic!(rt; "{}\n{change}", changed.entries),
+        }
+    }
+    assert_eq!(rt; count, 200);
+    Ok(())
+}
+
 /// Whether a book that plays the script records the entries.
 fn is_gathered(alloc: Global, changed: &Changed) -> Result<bool, Fail> {
     let strategy = read(alloc, changed.strategy.as_bytes())?;
@@ -77,18 +90,10 @@ fn is_gathered(alloc: Global, changed: &Changed) -> Result<bool, Fail> {
     Ok(entries == played.entries)
 }
 
-/// A book that plays the script of each row records its entries, and the audit tells the changed ones apart. (One test has
-/// both, since each function that names the table costs the time to prove it.)
 #[test]
-fn tells_changed_histories_apart(rt: HostRuntime) -> Result<(), Fail> {
-    let mut count = 0u64;
+fn changes_what_scripts_gather(rt: HostRuntime) -> Result<(), Fail> {
     for changed in &CHANGED {
         assert!(rt; is_gathered(rt.alloc(), changed)?, "{}", changed.script);
-        match count_of(rt.alloc(), changed)? {
-            Ok(more) => count = count.saturating_add(more),
-            Err(change) => panic!(rt; "{}\n{change}", changed.entries),
-        }
     }
-    assert_eq!(rt; count, 200);
     Ok(())
 }
