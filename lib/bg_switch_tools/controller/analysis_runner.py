@@ -3,6 +3,7 @@ import threading
 
 from bg_switch_tools.controller.analysis_process import ANALYSIS_OF_PHASE, Analysis
 from bg_switch_tools.controller.book import Book
+from bg_switch_tools.controller.line_source import LineSource
 from bg_switch_tools.controller.log import Log, OncePerRevision
 from bg_switch_tools.controller.memory import Memory
 from bg_switch_tools.controller.plan import Plan
@@ -31,9 +32,9 @@ class AnalysisRunner:
             self.log.say("analysis", f"the analysis that the controller before has left behind, process {left.pid}, is stopped")
             self.ending = begin_end(left, GRACE)
 
-    def judge(self, book: Book, connection: Connection, plan: Plan, report: Report, is_paused: bool = False) -> None:
+    def judge(self, book: Book, connection: Connection, plan: Plan, report: Report, source: LineSource) -> None:
         """Runs the analysis that the phase asks for. A verdict is handed in on the connection whose report shows that the
-        phase and the revision are those of the analysis. While the controller is paused, none is."""
+        phase and the revision are those of the analysis, once the source of lines allows it."""
         self._note_end()
         name, newest = ANALYSIS_OF_PHASE.get(report.phase), report.newest
         if self.analysis and not self.analysis.is_for(name, newest):
@@ -43,8 +44,9 @@ class AnalysisRunner:
                 self.once.forget(kind, newest)
         elif self.analysis is None:
             self._begin(plan, name, newest)
-        elif not is_paused and (verdict := self.analysis.verdict()) is not None:
-            self._hand_in(book, connection, plan, verdict, newest)
+        elif not source.is_paused() and (verdict := self.analysis.verdict()) is not None:
+            if source.may_hand_in(report, name, verdict, self.analysis.fault):
+                self._hand_in(book, connection, plan, verdict, newest)
 
     def _hand_in(self, book: Book, connection: Connection, plan: Plan, verdict: str, newest: Revision) -> None:
         """Hands a verdict in. `successful` waits until an endpoint of the revision is up: what is down was not judged."""

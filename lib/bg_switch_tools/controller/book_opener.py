@@ -1,4 +1,4 @@
-"""Opens the book of a switch that was started, with the revision that was stable."""
+"""Opens the book of a switch that was started, with the revision that the source of lines names."""
 import contextlib
 import sys
 import time
@@ -6,6 +6,7 @@ import time
 from bg_switch_tools.controller.availability import Availability
 from bg_switch_tools.controller.book import AGAIN, Book
 from bg_switch_tools.controller.crash_losses import losses
+from bg_switch_tools.controller.line_source import LineSource
 from bg_switch_tools.controller.log import Log
 from bg_switch_tools.controller.memory import Memory
 from bg_switch_tools.controller.plan import Plan, PlannedRevision
@@ -23,11 +24,12 @@ class CannotOpen(Exception):
 class BookOpener:
     """What is done while no book is open, and directly after one was opened."""
 
-    def __init__(self, log: Log, memory: Memory, book: Book, availability: Availability) -> None:
+    def __init__(self, log: Log, memory: Memory, book: Book, availability: Availability, source: LineSource) -> None:
         self.log = log
         self.memory = memory
         self.book = book
         self.availability = availability
+        self.source = source
         self.sent: PlannedRevision | None = None  # with which an opening was sent whose reply has not come
         self.begun = time.monotonic()
         self.waits_since: float | None = None  # from when on an opening has waited for an endpoint
@@ -49,10 +51,9 @@ class BookOpener:
 
     def open(self, connection: Connection, plan: Plan) -> bool:
         """Opens the book. False where that has to wait, or is refused."""
-        now, revision = time.monotonic(), self.memory.to_open(plan)
+        now, (revision, why) = time.monotonic(), self.source.to_open(plan)
         if now < self.next or self._waits_for_endpoints(plan, revision):
             return False
-        why = "which was stable" if self.memory.state.stable else "the plan's first revision"
         self.log.say("switch", f"no book is open: it is opened with {revision.name}, {why}")
         reply = self._send(connection, plan, revision)
         if was_carried_out(reply):
@@ -94,24 +95,12 @@ class BookOpener:
 
     def _take_opened(self, plan: Plan, revision: PlannedRevision) -> None:
         """The book was opened with this revision."""
-        again = self._begin_again(plan, revision)
+        again = self.source.take_opened(plan, revision)
         if self.book.lost:
             for loss in losses(self.book.lost, revision, again):
                 self.log.say("switch", f"lost with the book that was open: {loss}")
         self.book.lost = None
         self.memory.set_opened(revision)
-
-    def _begin_again(self, plan: Plan, opened: PlannedRevision) -> PlannedRevision | None:
-        """The plan's last revision is deployed again after an opening where its attempt ran and nobody had undone it."""
-        state, last = self.memory.state, plan.last
-        if state.deployed == last and state.attempt == last:
-            self.log.say("plan", f"the attempt of {last.name}, which ran, is begun again")
-            self.memory.set_deployed(None)
-            return last
-        if state.deployed == last and opened != last:
-            self.log.say("plan", f"{last.name} is not deployed again: it was aborted or undone")
-            return None
-        return last
 
     def check_sizes(self, plan: Plan, report: Report) -> None:
         """Tells, when the controller starts, that the plan's revisions have not one port for each replica."""

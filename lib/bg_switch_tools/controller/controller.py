@@ -1,5 +1,5 @@
-"""The rounds of a controller: it ticks, reports availability, runs analyses, starts and stops endpoints, and deploys by its
-plan."""
+"""The rounds of a controller: it ticks, reports availability, runs analyses, starts and stops endpoints, and sends the lines of
+its source."""
 import os
 import time
 
@@ -9,11 +9,13 @@ from bg_switch_tools.controller.book import AGAIN, Book
 from bg_switch_tools.controller.book_opener import BookOpener
 from bg_switch_tools.controller.history_recorder import HistoryRecorder
 from bg_switch_tools.controller.launcher import Launcher
+from bg_switch_tools.controller.line_source import LineSource, MakeSource, SourceParts
 from bg_switch_tools.controller.log import Log, OncePerRevision
 from bg_switch_tools.controller.memory import Memory
 from bg_switch_tools.controller.notifier import Notifier
 from bg_switch_tools.controller.pause import Pause
-from bg_switch_tools.controller.plan import Plan, PlannedRevision
+from bg_switch_tools.controller.plan import Plan
+from bg_switch_tools.controller.plan_lines import PlanLines
 from bg_switch_tools.controller.probes import Probes
 from bg_switch_tools.controller.progress import ProgressClock
 from bg_switch_tools.switch.connection import Connection
@@ -23,12 +25,14 @@ from bg_switch_tools.switch.reports import Report
 
 ROUND = 0.2  # seconds between two rounds: a line of somebody else is known after that, and kept
 SOON = 0.05  # seconds until the next round, while something is awaited that comes soon
+MOST_LINES = 6  # of the source, in one round
 
 
 class Controller:
     """What is done in a round, over a connection of its own."""
 
-    def __init__(self, path: str, plan: Plan, log: Log, probes: Probes) -> None:
+    def __init__(self, path: str, plan: Plan, log: Log, probes: Probes, make_source: MakeSource = PlanLines) -> None:
+        """`path` is the file beside which the state is kept."""
         folder = os.path.dirname(os.path.abspath(path))
         self.plan = plan
         self.log = log
@@ -42,11 +46,12 @@ class Controller:
         self.book = Book(log)
         self.clock = Clock()
         self.availability = Availability(log, self.once, probes)
-        self.opening = BookOpener(log, self.memory, self.book, self.availability)
         self.analyses = AnalysisRunner(folder, log, self.once, self.memory, probes)
         self.launcher = Launcher(folder, log, self.memory, probes)
+        self.source: LineSource = make_source(SourceParts(log, self.memory, self.history, self.pause, self.launcher))
+        self.opening = BookOpener(log, self.memory, self.book, self.availability, self.source)
         self.progress = ProgressClock()
-        self.next_deploy = 0.0
+        self.next_line = 0.0  # the time from which on the source is asked for a line
         self._watch_endpoints()
 
     def _watch_endpoints(self) -> None:
@@ -61,7 +66,7 @@ class Controller:
             self._forget_book()
             self.opening.sent = None
             self.launcher.former.add(self.plan.control)
-        self.plan, self.next_deploy = plan, 0.0
+        self.plan, self.next_line = plan, 0.0
         self.opening.forget_book()
         self.analyses.take_plan(plan)
         self.notifier.commands = plan.commands
@@ -76,11 +81,11 @@ class Controller:
         self.opening.check_sizes(self.plan, report)
         self.history.take_in(report, self.memory.revisions(self.plan))
         report = self._tick(connection, report)
-        for step in (self._adopt, self._report_availability, self._judge, self._limit_progress, self._launch, self._deploy):
+        self.source.take_report(self.plan, report)
+        for step in (self._report_availability, self._judge, self._limit_progress, self._launch, self._send_lines):
             step(connection, report)
-        if self.book.has_sent:
-            report = self.book.open_report(connection)
-        self.memory.take_in(self.plan, report)
+        latest = self.book.open_report(connection) if self.book.has_sent else self.book.latest or report
+        self.memory.take_in(self.plan, latest)
         self._watch_endpoints()
         return ROUND
 
@@ -100,7 +105,7 @@ class Controller:
         if report is not None:
             self.opening.settle(self.plan, report)
             return report
-        self.launcher.start_and_stop(self.plan, None, self.memory.revisions(self.plan), self.memory.to_open(self.plan))
+        self.launcher.start_and_stop(self.plan, None, self.memory.revisions(self.plan), self.source.to_open(self.plan)[0])
         if not self.opening.open(connection, self.plan):
             return None
         self.clock.begin_at(self.memory.state.moment)
@@ -113,7 +118,8 @@ class Controller:
         self.once.clear()
         self.availability.forget_book()
         self.opening.forget_book()
-        self.next_deploy = 0.0
+        self.source.lose_book()
+        self.next_line = 0.0
 
     def _tick(self, connection: Connection, report: Report) -> Report:
         """Ticks each second. Where somebody has ticked further, or the book was open before, the seconds count on from there."""
@@ -123,25 +129,17 @@ class Controller:
         self.book.send(connection, f"tick {self.clock.moment()}")
         return self.book.open_report(connection)
 
-    def _adopt(self, _: Connection, report: Report) -> None:
-        """Without a state file, a book that is open is gone on with as it stands."""
-        last = self.plan.last
-        existing = report.named(last.name)
-        if not self.memory.is_fresh:
-            return
-        if existing is None:
-            self.log.say("plan", f"{last.name} does not exist yet, so it is deployed")
-        elif existing != report.newest:
-            self.log.say("plan", f"{last.name} exists and is not the newest revision, so it counts as undone and not deployed")
-        self.memory.set_deployed(last if existing else None)
-
     def _report_availability(self, connection: Connection, report: Report) -> None:
         known = self.memory.revisions(self.plan)
         self.availability.report(self.book, connection, self.plan, report, known)
         self.availability.watch_live(self.book, connection, self.plan, report, known)
 
     def _judge(self, connection: Connection, report: Report) -> None:
-        self.analyses.judge(self.book, connection, self.plan, report, self.pause.is_on)
+        why = self.source.why_not_judged(self.plan, report)
+        if why:
+            self.analyses.end(why)
+        else:
+            self.analyses.judge(self.book, connection, self.plan, report, self.source)
 
     def _limit_progress(self, connection: Connection, report: Report) -> None:
         """Tells of an attempt whose endpoints are not there in time, and aborts it where the plan says so."""
@@ -155,31 +153,19 @@ class Controller:
         if limit.abort:
             self.book.send(connection, "abort")
 
-    def _coming(self, report: Report) -> PlannedRevision | None:
-        """The plan's last revision, where it is to be deployed: once, so that what is undone by hand stays undone until the plan
-        names another."""
-        last, deployed = self.plan.last, self.memory.state.deployed
-        if last == deployed:
-            return None
-        is_other_template = deployed is not None and deployed.name == last.name
-        if report.newest.name == last.name and not is_other_template:
-            self.memory.set_deployed(last)
-            return None
-        return last
-
     def _launch(self, _: Connection, report: Report) -> None:
-        self.launcher.start_and_stop(self.plan, report, self.memory.revisions(self.plan), self._coming(report))
+        known, coming = self.memory.revisions(self.plan), self.source.coming(self.plan, report)
+        self.launcher.start_and_stop(self.plan, report, known, coming)
 
-    def _deploy(self, connection: Connection, report: Report) -> None:
-        """Deploys the plan's last revision, once its endpoints were started."""
-        last = self._coming(report)
-        if last is None or self.pause.is_on or time.monotonic() < self.next_deploy or not self.launcher.is_ready(self.plan, last):
-            return
-        self.history.announce(last)
-        reply = self.book.send(connection, f"deploy {last.words}")
-        if was_carried_out(reply):
-            self.memory.set_begun(last)
-        elif reply == "refused SameTemplate":
-            self.memory.set_deployed(last)
-        else:
-            self.next_deploy = time.monotonic() + AGAIN
+    def _send_lines(self, connection: Connection, report: Report) -> None:
+        """Sends the lines of the source, each by the report after the one before."""
+        for _ in range(MOST_LINES):
+            line = self.source.next_line(self.plan, report) if time.monotonic() >= self.next_line else None
+            if line is None:
+                return
+            reply = self.book.send(connection, line)
+            if self.source.take_reply(self.plan, report, line, reply):
+                self.next_line = time.monotonic() + AGAIN
+            if not was_carried_out(reply):
+                return
+            report = self.book.open_report(connection)

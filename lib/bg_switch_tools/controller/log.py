@@ -27,7 +27,8 @@ class Log:
         self.tell: Callable[[dict[str, object]], None] | None = None  # is given each line as an object
 
     def say(self, event: str, text: str) -> None:
-        """Writes a line. `event` is its kind, which only JSON shows: plan, switch, state, change, analysis, outage, command, end."""
+        """Writes a line. `event` is its kind, which only JSON shows: plan, switch, state, change, analysis, outage, command, fleet, leader,
+        end."""
         self._write(event, text, {})
 
     def say_reply(self, line: str, reply: str) -> None:
