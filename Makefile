@@ -1,7 +1,8 @@
 # check: for the working day.  build: proves and builds the program.  test: the gate.  demo: the examples.  demo-live: a
 # rollout under traffic, and one that its analysis takes back.  bench: times, and ratios beside the baseline.  tools: one
 # file of the Python tools.  share: completions and manual pages of bgctl.  lint: judges what no proof reads.  test-tools:
-# the tests of the tools.  NAME: proves and builds the library NAME and what it stands on.
+# the tests of the tools.  model: all searches of the model of a fleet.  NAME: proves and builds the library NAME and what it
+# stands on.
 CRATES := $(shell sed -n 's/^\([a-z_]*\)[^:]*:.*/\1/p' crates.txt)
 LIBRARIES := $(foreach crate,$(CRATES),$(if $(wildcard crates/$(crate)/src/lib.rt),$(crate)))
 # The libraries that a crate stands on, by its line of crates.txt.
@@ -14,7 +15,7 @@ GROUPS := group-rules group-http group-others
 BENCHES := $(filter-out bench/run.sh,$(wildcard bench/*.sh)) bench/sick_endpoint.py
 ARCHIVE := out/bg_switch_tools.pyz
 
-.PHONY: check build test lint tools share test-tools deb dist demo demo-live bench $(GROUPS) $(LIBRARIES)
+.PHONY: check build test lint tools share test-tools model deb dist demo demo-live bench $(GROUPS) $(LIBRARIES)
 
 check:
 	rt all check
@@ -54,6 +55,7 @@ test: lint
 	python3 -m unittest -q scripts/test_gate_cost.py
 	RT_JOBS=$(CHECKS) scripts/gate_cost.py rt ci
 	$(MAKE) --no-print-directory test-tools
+	model/check.py small
 	scripts/whole_program.sh
 	scripts/live.sh
 	scripts/refused_memory.sh
@@ -65,6 +67,10 @@ lint:
 # They need no switch: a thread answers at a control port of its own.
 test-tools:
 	PYTHONPATH=lib:scripts python3 -B -m tests
+
+# Each search needs up to 6 GB of memory and a few minutes. The gate makes the small ones.
+model:
+	model/check.py all
 
 tools:
 	@mkdir -p out

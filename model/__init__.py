@@ -1,0 +1,1 @@
+"""The model of a fleet, and what checks it."""

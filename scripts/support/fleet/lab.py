@@ -1,0 +1,313 @@
+"""A fleet for drills: hosts, each with a member of etcd, a switch, nginx before it, endpoints and an agent; HAProxy and clients before
+them; a looker at each switch; and a recorder of etcd's keys. What each has seen is in the folder of the run."""
+import contextlib
+import json
+import pathlib
+import shutil
+import signal
+import sys
+import time
+from collections.abc import Callable, Sequence
+from types import FrameType
+
+from support import TOP
+from support.checks import comes
+from support.fleet.analysis import bad_file
+from support.fleet.etcd_client import EtcdClient, NoAnswer, Recorder, write_rows
+from support.fleet.hosts import Network, free_block, network_of
+from support.fleet.programs import Programs
+from support.fleet.recording import OUTAGES, REQUESTS, Look, Outage, Recording, look_file, read_recording
+from support.processes import Run, run_to_end
+from support.switch import PROGRAM, words_of_serve
+
+NEEDED = ("etcd", "haproxy", "nginx")
+FLEET = "web"
+FIRST_PORT = 9000  # of the endpoints, where each host has a loopback of its own
+WORKERS, CLIENTS = 4, 4
+LONGEST = 30.0  # seconds for which anything is awaited
+ROLLOUT = {"spec": {"replicas": 2, "revisionHistoryLimit": 3, "strategy": {"blueGreen": {
+    "activeService": "web", "previewService": "web-preview", "autoPromotionEnabled": False,
+    "prePromotionAnalysis": {}, "postPromotionAnalysis": {}, "scaleDownDelaySeconds": 10}}}}
+Words = Callable[["Lab", str], Sequence[str]]
+
+
+def missing_programs() -> list[str]:
+    """The programs that a lab needs and that are not installed."""
+    return [name for name in NEEDED if not shutil.which(name)]
+
+
+def name_of(number: int) -> str:
+    return f"web-{number}"
+
+
+def module_words(module: str, *words: str) -> list[str]:
+    return [sys.executable, "-B", "-m", f"support.fleet.{module}", *words]
+
+
+def switch_words(lab: "Lab", host: str) -> Sequence[str]:
+    """The built switch."""
+    places = lab.network.addresses(host)
+    return [PROGRAM, *words_of_serve(places.active.port, places.control.port, places.preview.port, WORKERS, None)]
+
+
+def agent_words(lab: "Lab", host: str) -> Sequence[str]:
+    """The agent of bin/fleet."""
+    return [str(TOP / "bin" / "fleet"), str(lab.fleet_file(host)), "agent"]
+
+
+class Lab:
+    """A running fleet. It is used in a `with` block, which ends all that it has started, also after an exception or SIGTERM."""
+
+    def __init__(self, folder: pathlib.Path, hosts: Sequence[str] = ("a", "b", "c"), *, revisions: int = 40, network: Network | None = None,
+                 switch: Words = switch_words, agent: Words | None = agent_words, is_quiet: bool = False) -> None:
+        """`revisions` is how many revisions have endpoints. Other words than those of the switch and of the agent can be given; without
+        an agent none is started. A quiet lab prints nothing."""
+        self.folder = folder
+        self.hosts = hosts
+        self.revisions = revisions
+        self.network = network or network_of(hosts)
+        self.switch_words, self.agent_words = switch, agent
+        self.is_quiet = is_quiet
+        self.programs = Programs(folder)
+        self.first_port = free_block(2 * revisions) if self.network.shares_loopback else FIRST_PORT
+        self.broken: dict[tuple[str, str], float] = {}  # by fault and host: since when
+        self.outages: list[Outage] = []
+        self.recorder: Recorder | None = None
+
+    def __enter__(self) -> "Lab":
+        self.previous = signal.signal(signal.SIGTERM, self._interrupt)
+        try:
+            self._up()
+        except BaseException:
+            self._down()
+            raise
+        return self
+
+    def __exit__(self, *_: object) -> None:
+        self._down()
+
+    def _interrupt(self, number: int, _: FrameType | None) -> None:
+        raise SystemExit(128 + number)
+
+    def say(self, text: str) -> None:
+        """Prints what the drill does, and keeps it."""
+        if not self.is_quiet:
+            print(f"{time.strftime('%H:%M:%S')} {text}", flush=True)
+        with open(self.folder / "drill.log", "a", encoding="utf-8") as file:
+            file.write(f"{time.time():.3f} {text}\n")
+
+    def ports_of(self, number: int) -> list[int]:
+        """The ports of the endpoints of web-NUMBER, which are the same on each host: NUMBER is from 1 to `revisions`."""
+        first = self.first_port + 2 * (number - 1)
+        return [first, first + 1]
+
+    def on_host(self, host: str, *words: str) -> Run:
+        """Runs a program on a host to its end; an empty host is that of the load balancer."""
+        return run_to_end([*self.network.words(host), *words])
+
+    def send(self, host: str, line: str) -> Run:
+        """Sends a line to the switch of a host, as a person does who is on that machine."""
+        return self.on_host(host, str(TOP / "bin" / "operator"), str(self.network.addresses(host).control.port), line)
+
+    # ---- what is started ----
+
+    def _up(self) -> None:
+        self.folder.mkdir(parents=True, exist_ok=True)
+        self.network.up()
+        self.etcd = EtcdClient(self.network, FLEET)
+        endpoints = [str(each) for each in self.network.etcd_of("")]
+        self.person_file.write_text(json.dumps({"fleet": FLEET, "etcd": endpoints}), encoding="ascii")
+        for host in self.hosts:
+            self.fleet_file(host).parent.mkdir(exist_ok=True)
+            self.start_etcd(host)
+            self._write_fleet_file(host)
+            self._start_nginx(host)
+            self.start_switch(host)
+        for host in self.hosts[:1] if self.network.shares_loopback else self.hosts:
+            self._start_endpoints(host)
+        self._await("etcd has a leader", self._has_etcd)
+        self.recorder = Recorder(self.network, FLEET, self.folder)
+        for host in self.hosts:
+            self._start(f"look-{host}", host, module_words("look", str(self.network.addresses(host).control.port)), look_file(host))
+            if self.agent_words:
+                self.start_agent(host)
+        self._start_haproxy()
+
+    def _await(self, what: str, holds: Callable[[], object]) -> None:
+        if not comes(holds, LONGEST):
+            raise TimeoutError(f"in {LONGEST:g} seconds it did not come that {what}")
+
+    def _has_etcd(self) -> bool:
+        with contextlib.suppress(NoAnswer):
+            return self.etcd.revision() > 0
+        return False
+
+    def _start(self, name: str, host: str, words: Sequence[str], output: str = "", given: bytes = b"", is_timed: bool = False) -> None:
+        self.programs.start(name, [*self.network.words(host), *words], output=output, given=given, is_timed=is_timed)
+
+    def start_etcd(self, host: str) -> None:
+        places = self.network.addresses(host)
+        cluster = ",".join(f"{each}=http://{self.network.addresses(each).peer}" for each in self.hosts)
+        self._start(f"etcd-{host}", host, [
+            "etcd", "--name", host, "--data-dir", str(self.folder / f"etcd-{host}"), "--logger", "zap", "--log-level", "warn",
+            "--heartbeat-interval", "100", "--election-timeout", "1000", "--unsafe-no-fsync=true",
+            "--listen-client-urls", f"http://{places.etcd}", "--advertise-client-urls", f"http://{places.etcd}",
+            "--listen-peer-urls", f"http://{places.peer}", "--initial-advertise-peer-urls", f"http://{places.peer}",
+            "--initial-cluster", cluster])
+
+    def start_switch(self, host: str) -> None:
+        self._start(f"switch-{host}", host, self.switch_words(self, host), given=json.dumps(ROLLOUT).encode())
+
+    def start_agent(self, host: str) -> None:
+        if self.agent_words:
+            self._start(f"agent-{host}", host, self.agent_words(self, host), is_timed=True)
+
+    def start_clients(self) -> None:
+        """From now on clients ask the load balancer."""
+        at = self.network.balancer()
+        self._start("client", "", module_words("client", at.host, str(at.port), str(CLIENTS)), REQUESTS)
+
+    def _start_endpoints(self, host: str) -> None:
+        words = [f"{name_of(number)}={port}" for number in range(1, self.revisions + 1) for port in self.ports_of(number)]
+        self._start(f"endpoints-{host}", host, module_words("endpoints", *words))
+
+    def _start_nginx(self, host: str) -> None:
+        folder, places = self.folder / f"nginx-{host}", self.network.addresses(host)
+        folder.mkdir(exist_ok=True)
+        paths = "".join(f" {name}_temp_path {folder}/{name};\n" for name in ("client_body", "proxy", "fastcgi", "uwsgi", "scgi"))
+        (folder / "nginx.conf").write_text(
+            f"worker_processes 1; pid {folder}/pid; error_log {folder}/error warn; daemon off;\nevents {{ worker_connections 512; }}\n"
+            f"http {{ access_log off;\n{paths} server {{ listen {places.web}; add_header X-Host {host} always;\n"
+            f"  location / {{ proxy_pass http://{places.active}; proxy_connect_timeout 2s; proxy_read_timeout 10s; }} }} }}\n",
+            encoding="ascii")
+        self._start(f"nginx-{host}", host, ["nginx", "-e", str(folder / "error"), "-c", str(folder / "nginx.conf")])
+
+    def _start_haproxy(self) -> None:
+        path = self.folder / "haproxy.cfg"
+        servers = "".join(f" server {host} {self.network.addresses(host).web} check inter 300 fall 2 rise 2\n" for host in self.hosts)
+        path.write_text(
+            "global\n maxconn 500\ndefaults\n mode http\n timeout connect 1s\n timeout client 15s\n timeout server 15s\n"
+            f" timeout check 2s\n retries 2\n option redispatch\nfrontend all\n bind {self.network.balancer()}\n default_backend machines\nbackend machines\n"
+            f" balance roundrobin\n option httpchk GET /\n{servers}", encoding="ascii")
+        self._start("haproxy", "", ["haproxy", "-db", "-f", str(path)])
+
+    # ---- files ----
+
+    def fleet_file(self, host: str) -> pathlib.Path:
+        return self.folder / f"host-{host}" / "fleet.json"
+
+    @property
+    def person_file(self) -> pathlib.Path:
+        """The fleet file of a person at the load balancer."""
+        return self.folder / "fleet.json"
+
+    def order(self, *words: str) -> Run:
+        """Runs bin/fleet at the load balancer, as a person does: `order("status")`."""
+        return self.on_host("", str(TOP / "bin" / "fleet"), str(self.person_file), *words)
+
+    def _write_fleet_file(self, host: str) -> None:
+        places = self.network.addresses(host)
+        analyses = {step: module_words("analysis", str(self.folder), host, step, str(port))
+                    for step, port in (("pre", places.preview.port), ("post", places.active.port))}
+        told = {"fleet": FLEET, "host": host, "control": places.control.port, "active": places.active.port,
+                "preview": places.preview.port, "analyses": analyses, "etcd": [str(each) for each in self.network.etcd_of(host)]}
+        self.fleet_file(host).write_text(json.dumps(told), encoding="ascii")
+
+    def plan_text(self, *numbers: int, **fleet: object) -> str:
+        """The plan with these revisions, and this for its key `fleet`."""
+        return json.dumps({
+            "health": {"path": "/", "interval": 0.5, "timeout": 2, "failures": 2},
+            "analyses": {"pre": "pre", "post": "post", "seconds": 20},
+            "progress": {"seconds": 25, "abort": True}, "fleet": fleet,
+            "revisions": [{"name": name_of(number), "ports": self.ports_of(number)} for number in numbers]})
+
+    def fail_analysis(self, host: str, step: str, number: int) -> None:
+        """Lets an analysis of a revision fail on one host: `step` is pre or post."""
+        (self.folder / bad_file(host, step, name_of(number))).touch()
+
+    # ---- faults ----
+
+    def _begin_outage(self, what: str, host: str, text: str) -> None:
+        self.broken.setdefault((what, host), time.time())
+        self.say(f"{text} {host}")
+
+    def _end_outage(self, what: str, host: str, text: str) -> None:
+        self.outages.append(Outage(what, host, self.broken.pop((what, host)), time.time()))
+        self.say(f"{text} {host}")
+
+    def kill(self, what: str, host: str) -> None:
+        """Kills the switch, the agent or the member of etcd of a host."""
+        self._begin_outage(what, host, f"KILL {what}")
+        self.programs.kill(f"{what}-{host}")
+
+    def restart(self, what: str, host: str) -> None:
+        """Starts again what was killed."""
+        {"switch": self.start_switch, "agent": self.start_agent, "etcd": self.start_etcd}[what](host)
+        self._end_outage(what, host, f"{what} is started again:")
+
+    def stop(self, what: str, host: str) -> None:
+        """Stops it as by SIGSTOP."""
+        self._begin_outage(what, host, f"STOP {what}")
+        self.programs.stop(f"{what}-{host}")
+
+    def wake(self, what: str, host: str) -> None:
+        self.programs.wake(f"{what}-{host}")
+        self._end_outage(what, host, f"{what} continues:")
+
+    def cut(self, host: str) -> None:
+        """Cuts a host off from etcd, in silence."""
+        self._begin_outage("link", host, "CUT the link to etcd of")
+        self.network.cut(host)
+
+    def mend(self, host: str) -> None:
+        self.network.mend(host)
+        self._end_outage("link", host, "the link to etcd is mended:")
+
+    def mend_all(self) -> None:
+        """Mends all that is broken."""
+        for what, host in list(self.broken):
+            if what == "link":
+                self.mend(host)
+            elif f"{what}-{host}" in self.programs.stopped:
+                self.wake(what, host)
+            else:
+                self.restart(what, host)
+
+    # ---- what is seen ----
+
+    def looks(self) -> dict[str, Look]:
+        """The latest look at each switch."""
+        found = {}
+        for host in self.hosts:
+            lines = (self.folder / look_file(host)).read_text(encoding="ascii").splitlines(keepends=True)
+            whole = [line for line in lines[-2:] if line.endswith("\n")]
+            found[host] = Look(**json.loads(whole[-1])) if whole else Look(0, 0)
+        return found
+
+    def keys(self) -> dict[str, str]:
+        """The keys of the fleet; none where etcd gives no answer."""
+        with contextlib.suppress(NoAnswer):
+            return self.etcd.keys()
+        return {}
+
+    def until(self, holds: Callable[[dict[str, str]], object], longest: float = LONGEST) -> bool:
+        """Whether something comes to hold of the fleet's keys."""
+        return comes(lambda: bool(keys := self.keys()) and holds(keys), longest)
+
+    def record(self) -> Recording:
+        """Ends the recording while the fleet still runs, and reads it. All that is broken has to be mended before."""
+        self.programs.kill("client")
+        for host in self.hosts:
+            self.programs.kill(f"look-{host}")
+        if self.recorder:
+            self.recorder.end()
+            self.recorder = None
+        write_rows(self.folder / OUTAGES, self.outages)
+        return read_recording(self.folder, self.hosts)
+
+    def _down(self) -> None:
+        signal.signal(signal.SIGTERM, self.previous)
+        if self.recorder:
+            self.recorder.ending.set()
+        self.programs.end_all([name for name in list(self.programs.running) if name.startswith("agent-")])
+        self.network.down()
