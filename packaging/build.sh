@@ -62,6 +62,7 @@ put_tools() {
     done
     put_tool bgctl bgctl
     put 644 share/plan.schema.json usr/share/bg-switch/plan.schema.json
+    put 644 share/fleet.schema.json usr/share/bg-switch/fleet.schema.json
 }
 
 # The units, the users, the rotation of the access log, and the Rollout with which the switch starts.

@@ -22,6 +22,7 @@ BELOW: Mapping[str, tuple[str, ...]] = {
     "switch": (),
     "controller": ("switch",),
     "analysis": ("switch",),
+    "fleet": ("switch", "controller", "analysis"),
     "operator": ("switch", "controller"),
     "dashboard": ("switch",),
     "bgctl": ("switch", "controller", "analysis", "operator", "dashboard"),

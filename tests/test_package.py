@@ -119,6 +119,10 @@ class Files(unittest.TestCase):
         self.assertEqual((self.root / place).read_bytes(), (TOP / "share" / "plan.schema.json").read_bytes())
         self.assertIn(f"/{place}", (TOP / "docs" / "OPERATING.md").read_text(encoding="utf-8"))
 
+    def test_editors_find_the_schema_of_fleet_files(self) -> None:
+        place = "usr/share/bg-switch/fleet.schema.json"
+        self.assertEqual((self.root / place).read_bytes(), (TOP / "share" / "fleet.schema.json").read_bytes())
+
     def test_everybody_may_read_all_files_and_run_the_commands(self) -> None:
         for path in self.root.rglob("*"):
             with self.subTest(path.relative_to(self.root)):

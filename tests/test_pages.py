@@ -16,7 +16,7 @@ LINES_OF_A_SCREEN = 12
 
 
 def pages(top: pathlib.Path) -> list[pathlib.Path]:
-    return sorted(page for place in ("", ".github/", "docs/", "examples/**/", "crates/*/") for page in top.glob(f"{place}*.md"))
+    return sorted(page for place in ("", ".github/", "docs/", "examples/**/", "crates/*/", "model/") for page in top.glob(f"{place}*.md"))
 
 
 def without_code(text: str) -> str:

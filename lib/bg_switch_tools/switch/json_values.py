@@ -43,9 +43,10 @@ def shown(value: object) -> str:
 
 
 class Judge:
-    """Reads values, and notes each problem that it finds with its place."""
+    """Reads values, and notes each problem that it finds with its place. `whole` is what the outermost value is."""
 
-    def __init__(self) -> None:
+    def __init__(self, whole: str = "the plan") -> None:
+        self.whole = whole
         self.problems: list[str] = []
 
     def note(self, place: str, problem: str) -> None:
@@ -54,7 +55,7 @@ class Judge:
     def members(self, told: object, place: str, known: Sequence[str], needed: Iterable[str] = ()) -> JsonObject:
         """The members of an object that has no other keys than these; none where it is not an object."""
         if not isinstance(told, JsonObject):
-            self.note(place or "the plan", f"{shown(told)} is not an object")
+            self.note(place or self.whole, f"{shown(told)} is not an object")
             return JsonObject([])
         prefix = f"{place}." if place else ""
         for key in told:

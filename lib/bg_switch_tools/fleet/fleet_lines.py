@@ -1,0 +1,72 @@
+"""The lines that the record of a fleet asks for: a controller's source of lines in place of a plan's file."""
+import time
+
+from bg_switch_tools.controller.line_source import SourceParts
+from bg_switch_tools.controller.plan import Plan, PlannedRevision
+from bg_switch_tools.fleet.agent import Clock
+from bg_switch_tools.fleet.machine import Machine
+from bg_switch_tools.switch.lines import was_carried_out
+from bg_switch_tools.switch.reports import Report
+
+
+class FleetLines:
+    """The source of lines of an agent. Each line rests on a fresh read of the record; a failed verdict of this machine's own analysis
+    does not, since going back needs no permission."""
+
+    def __init__(self, machine: Machine, parts: SourceParts, now: Clock = time.monotonic) -> None:
+        self.machine = machine
+        self.log = parts.log
+        self.history = parts.history
+        self.launcher = parts.launcher
+        self.now = now
+
+    def to_open(self, plan: Plan) -> tuple[PlannedRevision, str]:
+        revision = self.machine.to_open()
+        return (revision, "the fleet's stable revision") if revision else (plan.first, "the plan's first revision")
+
+    def take_opened(self, plan: Plan, opened: PlannedRevision) -> PlannedRevision | None:
+        self.machine.lose_book()
+        record = self.machine.record
+        return record.revision if record and record.is_running else None
+
+    def lose_book(self) -> None:
+        self.machine.lose_book()
+
+    def take_report(self, plan: Plan, report: Report) -> None:
+        self.machine.take_report(report, self.now())
+
+    def coming(self, plan: Plan, report: Report) -> PlannedRevision | None:
+        return self.machine.coming(report, self.now())
+
+    def next_line(self, plan: Plan, report: Report) -> str | None:
+        """The line of the table, but a deploy only once the endpoints of its revision were started."""
+        coming = self.coming(plan, report)
+        if coming and not self.launcher.is_ready(plan, coming):
+            return None
+        line = self.machine.next_line(report, self.now())
+        if coming and line and line.startswith("deploy "):
+            self.history.announce(coming)
+        if line == "promote" and self.machine.record and self.machine.read_at is not None:
+            self.log.say("fleet", f"promotes {report.newest.name} by attempt {self.machine.record.id}, which was read "
+                         f"{self.now() - self.machine.read_at:.3f} seconds ago")
+        return line
+
+    def take_reply(self, plan: Plan, report: Report, line: str, reply: str) -> bool:
+        self.machine.take_reply(line, was_carried_out(reply), reply, report, self.now())
+        return False
+
+    def is_paused(self) -> bool:
+        """A fleet is paused by its plan, and not on one machine."""
+        return False
+
+    def why_not_judged(self, plan: Plan, report: Report) -> str:
+        return self.machine.why_not_judged(report, self.now())
+
+    def may_hand_in(self, report: Report, name: str, verdict: str, fault: str) -> bool:
+        """Holds `verdict post successful` back: the fleet succeeds as a whole, and until then each machine can go back."""
+        if verdict != "successful":
+            self.machine.take_failed(f"analysis {name}: {verdict}" + (f", {fault}" if fault else ""))
+            return True
+        if name == "post" and report.newest.available:
+            self.machine.take_passed()
+        return name != "post"

@@ -1,0 +1,223 @@
+"""A controller whose lines come from the record of a fleet, before a fake switch, with real endpoints and analyses."""
+import contextlib
+import io
+import json
+import pathlib
+import sys
+import tempfile
+import time
+import unittest
+from collections.abc import Callable
+
+from bg_switch_tools.controller.controller import Controller
+from bg_switch_tools.controller.history_file import HistoryFile
+from bg_switch_tools.controller.log import Log
+from bg_switch_tools.controller.plan import Commands, PlannedRevision
+from bg_switch_tools.controller.probes import Probes
+from bg_switch_tools.fleet.agent import FleetAgent
+from bg_switch_tools.fleet.fleet_lines import FleetLines
+from bg_switch_tools.fleet.fleet_plan import MachineSettings
+from bg_switch_tools.fleet.machine import Machine
+from bg_switch_tools.fleet.machine_state import MachineStateFile
+from bg_switch_tools.fleet.record import (ABORTED, DEPLOYING, FAILED, FOLLOWS, PASSED, PROMOTING, READY, SUCCESSFUL, MachineReport,
+                                          Record, read_machine_report)
+from bg_switch_tools.switch.connection import Connection
+from tests.fake_switch import FakeSwitch
+from tests.memory_store import Keys, MemoryStore
+from tests.tool_runs import WAIT, Endpoint
+
+PAUSE = 0.02  # seconds between two rounds
+
+
+class FleetLinesCase(unittest.TestCase):
+    """A machine whose switch has a pause and an analysis after the switch, which passes while the file `good` is there."""
+
+    def setUp(self) -> None:
+        self.stack = self.enterContext(contextlib.ExitStack())
+        self.folder = self.enterContext(tempfile.TemporaryDirectory())
+        self.good = pathlib.Path(self.folder, "good")
+        self.good.touch()
+        self.endpoints = {name: [Endpoint(), Endpoint()] for name in ("web-v1", "web-v2")}
+        for pair in self.endpoints.values():
+            for endpoint in pair:
+                self.stack.callback(endpoint.stop)
+        self.v1, self.v2 = (PlannedRevision(name, tuple(endpoint.port for endpoint in pair)) for name, pair in self.endpoints.items())
+        self.switch = FakeSwitch("pause", "post")
+        self.stack.callback(self.switch.kill)
+        self.keys = Keys(time.monotonic)
+        self.person = MemoryStore(self.keys, "person")
+        self.put_plan()
+        self.put(SUCCESSFUL, self.v1)
+        self.out = io.StringIO()
+        self.start()
+
+    def put_plan(self) -> None:
+        revisions = [{"name": one.name, "ports": list(one.ports)} for one in (self.v1, self.v2)]
+        self.person.write([], {"plan": json.dumps({"revisions": revisions, "analyses": {"post": "errors"},
+                                                   "health": {"interval": 0.1, "timeout": 0.5}})})
+
+    def put(self, stage: str, revision: PlannedRevision | None = None) -> None:
+        self.person.write([], {"attempt": Record(self.keys.keys["plan"].changed, revision or self.v2, self.v1, stage).text()})
+
+    def start(self, commands: Commands = Commands()) -> None:
+        """Starts the agent, as after a restart of its machine."""
+        file = MachineStateFile(str(pathlib.Path(self.folder, "fleet.json")))
+        judge = (sys.executable, "-c", f"import os, sys; sys.exit(not os.path.exists({str(self.good)!r}))")
+        settings = MachineSettings(self.switch.port, {"errors": judge}, commands)
+        machine = Machine("a", "m1", settings, file.write, file.read())
+        self.store = MemoryStore(self.keys, "a")
+        self.agent = FleetAgent(machine, self.store, lambda *_: None)
+        self.agent.read()
+        plan = machine.plan()
+        assert plan is not None
+        probes = Probes()
+        self.stack.callback(probes.stop)
+        self.controller = Controller(str(pathlib.Path(self.folder, "fleet.json")), plan, Log(self.out, False), probes,
+                                     lambda parts: FleetLines(machine, parts))
+        self.stack.callback(self.controller.end)
+
+    def do_round(self) -> None:
+        self.agent.read()
+        with Connection(self.switch.port, WAIT) as connection:
+            connection.allow(WAIT)
+            self.controller.do_round(connection)
+        self.agent.tell(self.controller.book.latest)
+
+    def told(self) -> MachineReport:
+        return read_machine_report(self.keys.keys["machines/a"].value)
+
+    def rounds_until(self, holds: Callable[[], bool]) -> None:
+        deadline = time.monotonic() + WAIT
+        while not holds():
+            self.assertLess(time.monotonic(), deadline, self.out.getvalue())
+            self.do_round()
+            time.sleep(PAUSE)
+
+    def rounds_to(self, state: str) -> None:
+        self.rounds_until(lambda: "machines/a" in self.keys.keys and self.told().state == state)
+
+    def some_rounds(self) -> None:
+        for _ in range(8):
+            self.do_round()
+            time.sleep(PAUSE)
+
+    def joins(self) -> None:
+        self.rounds_to(FOLLOWS)
+        self.put(DEPLOYING)
+        self.rounds_to(READY)
+
+    def words(self, revision: PlannedRevision) -> str:
+        return f"deploy {revision.words}"
+
+    def own_lines(self) -> list[str]:
+        """The lines that select something."""
+        return [line for line in self.switch.sent_lines() if not line.startswith("available ")]
+
+
+class Attempts(FleetLinesCase):
+    def test_a_good_one(self) -> None:
+        self.joins()
+        self.put(PROMOTING)
+        self.rounds_to(PASSED)
+        self.some_rounds()
+        self.assertEqual((self.switch.book.phase, self.switch.book.active, self.switch.book.stable), ("postAnalysis", 2, 1))
+        self.put(SUCCESSFUL)
+        self.rounds_to(FOLLOWS)
+        self.assertEqual(self.own_lines(), [f"open {self.v1.words}", self.words(self.v2), "promote", "verdict post successful"])
+        self.assertEqual((self.switch.book.phase, self.switch.book.stable), ("steady", 2))
+        for text in ("it is opened with web-v1, the fleet's stable revision", f"promotes {self.v2.name} by attempt"):
+            self.assertIn(text, self.out.getvalue())
+
+    def test_the_fleet_aborts(self) -> None:
+        self.joins()
+        self.put(PROMOTING)
+        self.rounds_to(PASSED)
+        self.put(ABORTED)
+        self.rounds_to(FOLLOWS)
+        self.assertEqual((self.switch.book.phase, self.switch.book.active), ("aborted", 1))
+        self.assertEqual(self.own_lines()[-2:], ["promote", "abort"])
+
+    def test_an_analysis_that_fails_takes_the_switch_back_without_the_store(self) -> None:
+        self.joins()
+        self.good.unlink()
+        self.put(PROMOTING)
+        self.rounds_until(lambda: self.switch.book.phase == "postAnalysis")
+        self.store.is_cut = True
+        self.rounds_until(lambda: self.switch.book.phase == "aborted")
+        self.assertEqual(self.switch.book.active, 1)
+        self.store.is_cut = False
+        self.rounds_to(FAILED)
+        self.assertEqual(self.told().reason, "analysis post: failed")
+        self.some_rounds()
+        self.assertEqual(self.own_lines()[-2:], ["promote", "verdict post failed"])
+
+    def test_without_the_store_nothing_is_promoted(self) -> None:
+        self.joins()
+        self.put(PROMOTING)
+        self.store.is_cut = True
+        self.some_rounds()
+        self.assertEqual(self.switch.book.phase, "paused")
+        self.store.is_cut = False
+        self.rounds_to(PASSED)
+
+    def test_a_switch_that_is_started_again_joins_again(self) -> None:
+        self.joins()
+        self.switch.kill()
+        self.switch.lines.clear()
+        self.switch.start()
+        self.rounds_until(lambda: self.switch.book.phase == "paused")
+        self.rounds_to(READY)
+        self.assertEqual(self.own_lines(), [f"open {self.v1.words}", self.words(self.v2)])
+        self.assertNotIn("the attempt of web-v2 is not begun again", self.out.getvalue())
+
+    def test_the_history_has_the_attempt(self) -> None:
+        self.joins()
+        newest = HistoryFile(str(pathlib.Path(self.folder, "fleet.json"))).read()[0].newest
+        self.assertEqual((newest and newest.name, newest and newest.by), ("web-v2", "plan"))
+
+    def test_an_agent_that_is_started_again_goes_on(self) -> None:
+        self.joins()
+        self.put(PROMOTING)
+        self.rounds_to(PASSED)
+        self.controller.end()
+        self.good.unlink()  # it has passed, and is not run again
+        self.start()
+        self.put(SUCCESSFUL)
+        self.rounds_to(FOLLOWS)
+        self.assertEqual(self.own_lines()[-1], "verdict post successful")
+
+    def test_a_promote_by_hand_is_taken_back(self) -> None:
+        self.joins()
+        self.switch.book.answer("promote")
+        self.rounds_to(FAILED)
+        self.assertEqual(self.told().reason, "it was promoted on this machine alone")
+        self.assertEqual((self.switch.book.phase, self.switch.book.active), ("aborted", 1))
+
+    def test_a_machine_that_was_away_catches_up_by_its_own_analysis(self) -> None:
+        self.rounds_to(FOLLOWS)
+        self.good.unlink()
+        self.put(SUCCESSFUL)
+        self.rounds_until(lambda: self.switch.book.phase == "aborted")
+        self.some_rounds()
+        self.assertEqual(self.own_lines()[1:], [self.words(self.v2), "promote", "verdict post failed"])
+        self.assertEqual(self.told().reason, "catches up with web-v2: analysis post: failed")
+
+
+class Endpoints(FleetLinesCase):
+    def test_a_deploy_waits_for_the_start_of_its_endpoints(self) -> None:
+        self.rounds_to(FOLLOWS)
+        self.controller.end()
+        for endpoint in self.endpoints["web-v2"]:
+            endpoint.stop()
+        allowed = pathlib.Path(self.folder, "allowed")
+        self.start(Commands(("test", "-e", str(allowed)), timeout=5))
+        self.put(DEPLOYING)
+        self.some_rounds()
+        self.assertEqual(self.own_lines(), [f"open {self.v1.words}"])
+        self.assertIn("start of web-v2 at port", self.out.getvalue())
+        allowed.touch()
+        self.rounds_until(lambda: self.own_lines()[-1] == self.words(self.v2))
+
+
+if __name__ == "__main__":
+    unittest.main()
