@@ -5,5 +5,5 @@ mod cut;
 mod gathering;
 mod many_seats;
 pub(crate) mod rows;
-mod scripts;
+pub(crate) mod scripts;
 mod threads;

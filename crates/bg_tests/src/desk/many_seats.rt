@@ -23,7 +23,7 @@ const REQUESTS_OF_A_SEAT: u64 = 1000;
 
 /// The results that the test checks.
 #[derive(Drop)]
-struct WorkedSeats {
+struct Worked {
     calls: u64,
     history: History,
 }
@@ -43,7 +43,7 @@ fn open_and_work<N: Names + Send + Sync, R: Threads + Wait + Sync + Abort>(
     rt: &R,
     alloc: Global,
     blanks: Blanks,
-) -> Result<WorkedSeats, Fail>
+) -> Result<Worked, Fail>
     requires blanks { AreAllFor N.Names blanks }
     requires seats { N.seats ≡ 200 }
     ensures { IfOk result (λ worked. worked.history.opening.seats ≡ 200) }
@@ -74,13 +74,10 @@ fn open_and_work<N: Names + Send + Sync, R: Threads + Wait + Sync + Abort>(
     };
     let _outcomes = told?;
     expect_audited(alloc, &history, &strategy)?;
-    Ok(WorkedSeats { calls, history })
+    Ok(Worked { calls, history })
 }
 
-fn with_new_names<R: Threads + Wait + Sync + Abort>(
-    rt: &R,
-    alloc: Global,
-) -> Result<WorkedSeats, Fail>
+fn with_new_names<R: Threads + Wait + Sync + Abort>(rt: &R, alloc: Global) -> Result<Worked, Fail>
     ensures { IfOk result (λ worked. worked.history.opening.seats ≡ 200) }
 {
     open_and_work::<Brand, R>(rt, alloc, Blanks::new())

@@ -1,11 +1,12 @@
-//! The histories of worked rows, each with one entry changed. The audit accepts the good ones and rejects the bad ones.
-use crate::desk::rows::{play_book, write_entries};
+//! Histories that scripts gather, each with one entry changed. The audit accepts the good ones and rejects the
+//! bad ones.
+use crate::book::samples::strategy_with;
+use crate::desk::rows::{play_both, write_entries};
+use crate::desk::scripts::ROWS;
 use crate::history::changed_histories::{CHANGED, Changed};
 use crate::history::texts::{history_of, lines_of};
 use bg_audit::audit;
-use bg_book::Limits;
 use bg_history::History;
-use bg_strategy::read;
 use std::alloc::Global;
 use std::test::Fail;
 
@@ -51,49 +52,38 @@ fn first_word(text: &str) -> (&str, &str) {
     }
 }
 
-/// How many changes of a history the audit accepts or rejects as expected. The first that it does not is the error.
-fn count_of(alloc: Global, changed: &Changed) -> Result<Result<u64, &'static str>, Fail> {
-    let strategy = read(alloc, changed.strategy.as_bytes())?;
-    let mut count = 0u64;
-    for line in changed.changes.lines() {
-        let (verdict, change) = first_word(line);
-        let history = changed_history(alloc, changed, change)?;
-        if audit(alloc, &history, &strategy)? != (verdict == "good") {
-            return Ok(Err(change));
-        }
-        count = count.saturating_add(1);
-    }
-    Ok(Ok(count))
-}
-
 #[test]
 fn tells_changed_histories_apart(rt: HostRuntime) -> Result<(), Fail> {
     let mut count = 0u64;
     for changed in &CHANGED {
-        match count_of(rt.alloc(), changed)? {
-            Ok(more) => count = count.saturating_add(more),
-            Err(change) => panic!(rt; "{}\n{change}", changed.entries),
+        let Some((settings, _script)) = ROWS.get(changed.row) else {
+            panic!(rt; "there is no row {}", changed.row);
+        };
+        let strategy = strategy_with(rt.alloc(), settings)?;
+        for line in changed.changes.lines() {
+            let (verdict, change) = first_word(line);
+            let history = changed_history(rt.alloc(), changed, change)?;
+            let is_good = audit(rt.alloc(), &history, &strategy)?;
+            assert_eq!(rt; is_good, verdict == "good", "{}\n{change}", changed.entries);
+            count = count.saturating_add(1);
         }
     }
     assert_eq!(rt; count, 200);
     Ok(())
 }
 
-/// Whether a book that plays the script records the entries.
-fn is_gathered(alloc: Global, changed: &Changed) -> Result<bool, Fail> {
-    let strategy = read(alloc, changed.strategy.as_bytes())?;
-    let played = play_book(alloc, &strategy, Limits::usual(), changed.script)?;
-    let lines = lines_of(alloc, changed.entries)?;
-    let history = history_of(alloc, 4, &[9001, 9002], &lines)?;
-    let mut entries = Vec::new(alloc);
-    write_entries(&history, &mut entries)?;
-    Ok(entries == played.entries)
-}
-
 #[test]
 fn changes_what_scripts_gather(rt: HostRuntime) -> Result<(), Fail> {
     for changed in &CHANGED {
-        assert!(rt; is_gathered(rt.alloc(), changed)?, "{}", changed.script);
+        let Some((settings, script)) = ROWS.get(changed.row) else {
+            panic!(rt; "there is no row {}", changed.row);
+        };
+        let (at_book, _at_desk) = play_both(&rt, rt.alloc(), settings, script, 0)?;
+        let lines = lines_of(rt.alloc(), changed.entries)?;
+        let history = history_of(rt.alloc(), 4, &[9001, 9002], &lines)?;
+        let mut entries = Vec::new(rt.alloc());
+        write_entries(&history, &mut entries)?;
+        assert_eq!(rt; entries.as_slice(), at_book.entries.as_slice(), "{script}");
     }
     Ok(())
 }
