@@ -7,10 +7,10 @@ usage: scripts/fleet_schema.py             prints the schema
 The schema says what one value can be. That ports stand once, and that the port of an endpoint of etcd is at most 65535, only the
 reader judges.
 """
-import json
 import sys
 
-from plan_schema import DRAFT, TOP, WORD, Schema, an_object, command, port, seconds, text_of, told
+from plan_schema import (DRAFT, TOP, WORD, Schema, an_object, command, port, print_or_write, schema_text, seconds,
+                         text_of, told)
 
 from bg_switch_tools.controller.plan import Commands
 from bg_switch_tools.fleet.etcd_gateway import EtcdSettings
@@ -66,19 +66,8 @@ def schema() -> Schema:
 
 
 def text() -> str:
-    return json.dumps(schema(), indent=2) + "\n"
-
-
-def main() -> int:
-    if sys.argv[1:] == ["--write"]:
-        FILE.write_text(text(), encoding="utf-8")
-    elif sys.argv[1:]:
-        print(__doc__, file=sys.stderr)
-        return 2
-    else:
-        print(text(), end="")
-    return 0
+    return schema_text(schema())
 
 
 if __name__ == "__main__":
-    sys.exit(main())
+    sys.exit(print_or_write(__doc__, FILE, text()))

@@ -91,20 +91,26 @@ def schema() -> Schema:
     return {"$schema": DRAFT, "title": "Plan of a controller of bg_switch", **an_object(properties, ("control", "revisions"))}
 
 
-def text() -> str:
-    return json.dumps(schema(), indent=2) + "\n"
+def schema_text(made: Schema) -> str:
+    """A schema as its file has it."""
+    return json.dumps(made, indent=2) + "\n"
 
 
-def main() -> int:
+def print_or_write(usage: str | None, file: pathlib.Path, made: str) -> int:
+    """Prints the text of a schema, or writes it into its file, as the words of the command say. Gives the exit status."""
     if sys.argv[1:] == ["--write"]:
-        FILE.write_text(text(), encoding="utf-8")
+        file.write_text(made, encoding="utf-8")
     elif sys.argv[1:]:
-        print(__doc__, file=sys.stderr)
+        print(usage, file=sys.stderr)
         return 2
     else:
-        print(text(), end="")
+        print(made, end="")
     return 0
 
 
+def text() -> str:
+    return schema_text(schema())
+
+
 if __name__ == "__main__":
-    sys.exit(main())
+    sys.exit(print_or_write(__doc__, FILE, text()))

@@ -15,6 +15,22 @@ class PlannedRevision:
         return " ".join([self.name, *map(str, self.ports)])
 
 
+class Revisions:
+    """What plans say of their revisions, which go from the first one to the one that is to be live."""
+    revisions: tuple[PlannedRevision, ...]
+
+    @property
+    def first(self) -> PlannedRevision:
+        return self.revisions[0]
+
+    @property
+    def last(self) -> PlannedRevision:
+        return self.revisions[-1]
+
+    def named(self, name: str) -> PlannedRevision | None:
+        return next((revision for revision in self.revisions if revision.name == name), None)
+
+
 @dataclasses.dataclass(frozen=True)
 class Health:
     """How endpoints are probed: a GET of `path` every `interval` seconds, which ends within `timeout` seconds. An endpoint is
@@ -53,7 +69,7 @@ class Commands:
 
 
 @dataclasses.dataclass(frozen=True)
-class Plan:
+class Plan(Revisions):
     """A whole plan. `revisions` go from the first one to the one that is to be live. `services` are the ports of the active and
     the preview service, where the plan names them. `redispatch` says whether the switch passes over endpoints that are down."""
     control: int
@@ -64,14 +80,3 @@ class Plan:
     commands: Commands = Commands()
     redispatch: bool = True
     services: Mapping[str, int] = dataclasses.field(default_factory=dict)
-
-    @property
-    def first(self) -> PlannedRevision:
-        return self.revisions[0]
-
-    @property
-    def last(self) -> PlannedRevision:
-        return self.revisions[-1]
-
-    def named(self, name: str) -> PlannedRevision | None:
-        return next((revision for revision in self.revisions if revision.name == name), None)

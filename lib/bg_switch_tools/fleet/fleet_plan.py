@@ -3,7 +3,7 @@ import dataclasses
 import functools
 from collections.abc import Mapping
 
-from bg_switch_tools.controller.plan import Analyses, Commands, Health, Plan, PlannedRevision, Progress
+from bg_switch_tools.controller.plan import Analyses, Commands, Health, Plan, PlannedRevision, Progress, Revisions
 from bg_switch_tools.controller.plan_reader import (LARGEST, LONGEST, SCHEMA, WrongPlan, compare_ports, read_health,
                                                     read_progress, read_revisions, seconds)
 from bg_switch_tools.controller.plan_text import value_of
@@ -16,7 +16,7 @@ ANALYSES = ("pre", "post")
 
 
 @dataclasses.dataclass(frozen=True)
-class FleetPlan:
+class FleetPlan(Revisions):
     """A whole plan of a fleet. `analyses` has the names of the analyses by `pre` and `post`; each machine has the commands. The
     seconds of an analysis and of `progress` are those of a machine's plan. `by_hand` says that a person orders each promotion;
     else all members have to be ready for `seconds` in a row. At most `max_missing` members may be without a vote. An attempt that
@@ -31,17 +31,6 @@ class FleetPlan:
     seconds: float = 0.0
     max_missing: int = 0
     promoting_seconds: float = Analyses.seconds + Progress.seconds
-
-    @property
-    def first(self) -> PlannedRevision:
-        return self.revisions[0]
-
-    @property
-    def last(self) -> PlannedRevision:
-        return self.revisions[-1]
-
-    def named(self, name: str) -> PlannedRevision | None:
-        return next((revision for revision in self.revisions if revision.name == name), None)
 
 
 @dataclasses.dataclass(frozen=True)
