@@ -52,6 +52,8 @@ def schema() -> Schema:
             "type": "number", "minimum": LEAST_TIMEOUT, "maximum": LONGEST_TIMEOUT}, EtcdSettings._field_defaults["timeout"]),
         "host": told("The name of this machine as a member of the fleet. A file for people alone has no key of a machine.", name()),
         "control": told("The control port of the switch of this machine.", port()),
+        "rollout": told("The file of the Rollout with which the switch of this machine is started. The agent needs it: it refuses a "
+                        "Rollout that lets the switch promote by itself.", PATH),
         "active": told("The port of the active service, which no revision may have.", port()),
         "preview": told("The port of the preview service, which no revision may have.", port()),
         "analyses": told("The commands of the analyses, by their names in plans. They run in the folder of this file.", analyses),

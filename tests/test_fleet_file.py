@@ -20,7 +20,7 @@ from tests.test_plan_schema import library, other_values
 from tests.tool_runs import TOP
 
 GOOD: dict[str, object] = {
-    "fleet": "web", "host": "web-3", "control": 8082, "active": 8080, "preview": 8081,
+    "fleet": "web", "host": "web-3", "control": 8082, "active": 8080, "preview": 8081, "rollout": "rollout.json",
     "etcd": ["10.0.0.1:2379", "store-2.example:2379", "[fd00::3]:2379"],
     "tls": {"ca": "ca.pem", "certificate": "/etc/bg/web-3.pem", "key": "web-3.key"}, "user": "agent", "password_file": "password",
     "timeout_seconds": 1.5, "analyses": {"smoke": ["./smoke_test.sh", "8081"], "log": ["bg-analysis"]},
@@ -55,7 +55,7 @@ class Good(unittest.TestCase):
                             TlsFiles("/etc/bg/ca.pem", "/etc/bg/web-3.pem", "/etc/bg/web-3.key"), "agent", "/etc/bg/password", 1.5)
         machine = MachineSettings(8082, {"smoke": ("./smoke_test.sh", "8081"), "log": ("bg-analysis",)},
                                   Commands(("systemctl", "start", "web@{port}"), ("true",), ("./tell",), 20),
-                                  {"active": 8080, "preview": 8081})
+                                  {"active": 8080, "preview": 8081}, "/etc/bg/rollout.json")
         self.assertEqual(read_fleet_file(json.dumps(GOOD).encode(), FOLDER), FleetFile("web", etcd, FOLDER, "web-3", machine))
 
     def test_what_is_left_out(self) -> None:
@@ -150,7 +150,8 @@ class Files(unittest.TestCase):
             path.write_text(json.dumps(told), encoding="ascii")
             self.assertEqual(missing_files(read_whole_fleet_file(str(path))),
                              ["analyses.smoke[0]: there is no program ./absent.sh that can be run",
-                              f"password_file: {os.path.join(folder, 'password')} can't be read"])
+                              f"password_file: {os.path.join(folder, 'password')} can't be read",
+                              f"rollout: {os.path.join(folder, 'rollout.json')} can't be read"])
             self.assertEqual(missing_files(read_fleet_file(b'{"fleet": "web", "etcd": ["a:1"]}', folder)), [])
 
 

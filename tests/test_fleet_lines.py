@@ -9,13 +9,14 @@ import time
 import unittest
 from collections.abc import Callable
 
-from bg_switch_tools.controller.controller import Controller
+from bg_switch_tools.controller.controller import Controller, Makers, files_beside
 from bg_switch_tools.controller.history_file import HistoryFile
 from bg_switch_tools.controller.log import Log
 from bg_switch_tools.controller.plan import Commands, PlannedRevision
 from bg_switch_tools.controller.probes import Probes
 from bg_switch_tools.fleet.agent import FleetAgent
 from bg_switch_tools.fleet.fleet_lines import FleetLines
+from bg_switch_tools.fleet.fleet_memory import FleetMemory
 from bg_switch_tools.fleet.fleet_plan import MachineSettings
 from bg_switch_tools.fleet.machine import Machine
 from bg_switch_tools.fleet.machine_state import MachineStateFile
@@ -72,8 +73,8 @@ class FleetLinesCase(unittest.TestCase):
         assert plan is not None
         probes = Probes()
         self.stack.callback(probes.stop)
-        self.controller = Controller(str(pathlib.Path(self.folder, "fleet.json")), plan, Log(self.out, False), probes,
-                                     lambda parts: FleetLines(machine, parts))
+        self.controller = Controller(files_beside(str(pathlib.Path(self.folder, "fleet.json"))), plan, Log(self.out, False), probes,
+                                     Makers(lambda *told: FleetMemory(machine, *told), lambda parts: FleetLines(machine, parts)))
         self.stack.callback(self.controller.end)
 
     def do_round(self) -> None:

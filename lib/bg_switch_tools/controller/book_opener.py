@@ -59,9 +59,9 @@ class BookOpener:
         if was_carried_out(reply):
             self._take_opened(plan, revision)
             return True
+        self.next = now + AGAIN
         if not self.has_had_book:
             raise CannotOpen(f"the switch can't be opened with {revision.name}: open {revision.words} => {with_meaning(reply)}")
-        self.next = now + AGAIN
         return False
 
     def _waits_for_endpoints(self, plan: Plan, revision: PlannedRevision) -> bool:

@@ -9,7 +9,7 @@ from collections.abc import Sequence
 from types import FrameType
 
 from bg_switch_tools.controller.book_opener import CannotOpen
-from bg_switch_tools.controller.controller import Controller
+from bg_switch_tools.controller.controller import Controller, files_beside
 from bg_switch_tools.controller.log import Log
 from bg_switch_tools.controller.plan import Plan
 from bg_switch_tools.controller.plan_edit import deploy_by_plan
@@ -18,6 +18,7 @@ from bg_switch_tools.controller.plan_limits import missing_commands
 from bg_switch_tools.controller.plan_reader import WrongPlan
 from bg_switch_tools.controller.probes import Probes
 from bg_switch_tools.controller.state_file import IsLocked, StateLock
+from bg_switch_tools.controller.switch_silence import SwitchSilence
 from bg_switch_tools.switch.connection import Connection, Unreachable
 from bg_switch_tools.switch.reports import NoReport
 
@@ -67,32 +68,8 @@ by `check` or after `deploy`, if the switch can't be opened with it, or if anoth
 """
 CONNECT, ANSWER = 1.0, 10.0  # seconds within which a connection is taken, and for the answers of a round
 RETRY = 0.2  # seconds between two tries where the switch gives no answer
-MINUTE = 60.0
 LOOK = 0.05  # seconds between two looks at whether a signal has come
 LONGEST_END = 1.2  # seconds for the round to end after a signal
-
-
-class SwitchSilence:
-    """Tells in the log when the switch gives no answer: when that begins, each minute, and when it ends."""
-
-    def __init__(self, log: Log) -> None:
-        self.log = log
-        self.since = self.next = 0.0
-        self.lasts = False
-
-    def begin(self, reason: str) -> None:
-        now = time.monotonic()
-        if not self.lasts:
-            self.lasts, self.since, self.next = True, now, now + MINUTE
-            self.log.say("switch", f"no answer: {reason}")
-        elif now >= self.next:
-            self.next += MINUTE
-            self.log.say("switch", f"no answer for {now - self.since:.0f} seconds: {reason}")
-
-    def end(self) -> None:
-        if self.lasts:
-            self.log.say("switch", f"answers again, after {time.monotonic() - self.since:.0f} seconds")
-        self.lasts = False
 
 
 class Runner:
@@ -101,7 +78,7 @@ class Runner:
     def __init__(self, file: PlanFile, plan: Plan, log: Log) -> None:
         self.file = file
         self.log = log
-        self.controller = Controller(file.path, plan, log, Probes())
+        self.controller = Controller(files_beside(file.path), plan, log, Probes())
         self.silence = SwitchSilence(log)
         self.stopping = threading.Event()
         self.connection: Connection | None = None

@@ -2,6 +2,8 @@
 its source."""
 import os
 import time
+from collections.abc import Callable
+from typing import NamedTuple
 
 from bg_switch_tools.controller.analysis_runner import AnalysisRunner
 from bg_switch_tools.controller.availability import Availability
@@ -28,19 +30,35 @@ SOON = 0.05  # seconds until the next round, while something is awaited that com
 MOST_LINES = 6  # of the source, in one round
 
 
+class ControllerFiles(NamedTuple):
+    """The path beside which a controller keeps its files, and the folder in which its commands run."""
+    path: str
+    folder: str
+
+
+def files_beside(plan_path: str) -> ControllerFiles:
+    """The files of a controller that has a plan of its own: all is beside the plan."""
+    return ControllerFiles(plan_path, os.path.dirname(os.path.abspath(plan_path)))
+
+
+class Makers(NamedTuple):
+    """How the memory and the source of lines of a controller are made."""
+    memory: Callable[[str, Plan, Log], Memory] = Memory
+    source: MakeSource = PlanLines
+
+
 class Controller:
     """What is done in a round, over a connection of its own."""
 
-    def __init__(self, path: str, plan: Plan, log: Log, probes: Probes, make_source: MakeSource = PlanLines) -> None:
-        """`path` is the file beside which the state is kept."""
-        folder = os.path.dirname(os.path.abspath(path))
+    def __init__(self, files: ControllerFiles, plan: Plan, log: Log, probes: Probes, makers: Makers = Makers()) -> None:
+        path, folder = files
         self.plan = plan
         self.log = log
         self.probes = probes
         self.once = OncePerRevision(log)
         self.notifier = Notifier(folder, log, plan.commands)
         log.tell = self.notifier.take
-        self.memory = Memory(path, plan, log)
+        self.memory = makers.memory(path, plan, log)
         self.pause = Pause(path, log)
         self.history = HistoryRecorder(path, log, self.memory.state.deployed)
         self.book = Book(log)
@@ -48,7 +66,7 @@ class Controller:
         self.availability = Availability(log, self.once, probes)
         self.analyses = AnalysisRunner(folder, log, self.once, self.memory, probes)
         self.launcher = Launcher(folder, log, self.memory, probes)
-        self.source: LineSource = make_source(SourceParts(log, self.memory, self.history, self.pause, self.launcher))
+        self.source: LineSource = makers.source(SourceParts(log, self.memory, self.history, self.pause, self.launcher))
         self.opening = BookOpener(log, self.memory, self.book, self.availability, self.source)
         self.progress = ProgressClock()
         self.next_line = 0.0  # the time from which on the source is asked for a line

@@ -23,7 +23,8 @@ class Log:
         self.out = out
         self.as_json = as_json
         self.moment: int | None = None
-        self.lock = threading.Lock()
+        self.lock = threading.Lock()  # of `out`
+        self.telling = threading.Lock()  # of `tell`, since several threads of an agent write lines
         self.tell: Callable[[dict[str, object]], None] | None = None  # is given each line as an object
 
     def say(self, event: str, text: str) -> None:
@@ -47,7 +48,8 @@ class Log:
         whole = self._object(event, text, told)
         self._print(whole)
         if self.tell:
-            self.tell(whole)
+            with self.telling:
+                self.tell(whole)
 
     def _print(self, whole: dict[str, object]) -> None:
         moment = "" if whole["moment"] is None else f"moment {whole['moment']}: "

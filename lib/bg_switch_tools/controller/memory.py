@@ -35,22 +35,31 @@ class Memory:
         self.log.say("state", text)
 
     def _read(self, plan: Plan) -> None:
-        otherwise = f"a switch without a book will be opened with {plan.first.name}, the plan's first revision"
+        revision, why = self.to_open(plan)  # as nothing is known yet
+        otherwise = f"a switch without a book will be opened with {revision.name}, {why}"
         try:
             state, why_copy = self.file.read()
         except NoState as reason:
             self._say(f"the state file {self.file.path} is not used, since {reason}; {otherwise}")
             return
         path = self.file.copy if why_copy else self.file.path
-        if not state.belongs_to(plan):
+        if not self.is_of(plan, state):
             self._say(f"the state file {path} is not used, since it is of another plan: neither its stable revision nor the one "
                       f"that was deployed last is in this plan; {otherwise}")
             return
         self.state, self.is_fresh = self._believed(state), False
         if why_copy:
             self._say(f"the state file {self.file.path} {why_copy}, so its copy is used")
-        stable, deployed = (revision.name if revision else "none" for revision in (state.stable, state.deployed))
-        self._say(f"continues from the state file {path}: moment {self.state.moment}, stable {stable}, deployed by the plan {deployed}")
+        self._say(f"continues from the state file {path}: {self.summary()}")
+
+    def is_of(self, plan: Plan, state: State) -> bool:
+        """Whether a state was kept for this plan."""
+        return state.belongs_to(plan)
+
+    def summary(self) -> str:
+        """What the state says, for the log."""
+        stable, deployed = (revision.name if revision else "none" for revision in (self.state.stable, self.state.deployed))
+        return f"moment {self.state.moment}, stable {stable}, deployed by the plan {deployed}"
 
     def _believed(self, state: State) -> State:
         """The state with a moment that can be true: a book would be ticked to any other one, and never again."""
@@ -88,18 +97,18 @@ class Memory:
         is_deployed = deployed is not None and deployed.name == revision.name
         self._keep(dataclasses.replace(self.state, stable=revision, deployed=revision if is_deployed else deployed))
 
-    def to_open(self, plan: Plan) -> PlannedRevision:
-        """The revision that a book is to be opened with: the stable one, and the plan's first one where none is known."""
+    def to_open(self, plan: Plan) -> tuple[PlannedRevision, str]:
+        """The revision that a book is to be opened with, and why this one: the stable one, and the plan's first one where none is
+        known."""
         stable = self.state.stable
-        return (plan.named(stable.name) or stable) if stable else plan.first
+        return (plan.named(stable.name) or stable, "which was stable") if stable else (plan.first, "the plan's first revision")
 
     def take_in(self, plan: Plan, report: Report) -> None:
         """Remembers what a report shows."""
         stable = self.known(plan, report.stable.name)
         if stable is None and report.stable.name != self.unknown_stable:
-            would = self.state.stable or plan.first
             self._say(f"{report.stable.title()} is stable and not in the plan, so its ports are not known: a switch that is "
-                      f"started again would be opened with {would.name}")
+                      f"started again would be opened with {self.to_open(plan)[0].name}")
         self.unknown_stable = None if stable else report.stable.name
         attempt = self.known(plan, report.newest.name) if report.is_running else None
         moment = believed(report.moment, self.state.since, time.time())

@@ -17,8 +17,7 @@ class PlanLines:
         self.launcher = parts.launcher
 
     def to_open(self, plan: Plan) -> tuple[PlannedRevision, str]:
-        why = "which was stable" if self.memory.state.stable else "the plan's first revision"
-        return self.memory.to_open(plan), why
+        return self.memory.to_open(plan)
 
     def take_opened(self, plan: Plan, opened: PlannedRevision) -> PlannedRevision | None:
         """The plan's last revision is deployed again after an opening where its attempt ran and nobody had undone it."""

@@ -180,8 +180,9 @@ class IsLocked(Exception):
 class StateLock:
     """The lock of a plan's state (flock(2)): one controller has it. The system lets it go when the process ends, however."""
 
-    def __init__(self, plan_path: str) -> None:
-        """Takes the lock. `IsLocked` where another process has it; `OSError` where the folder takes no file."""
+    def __init__(self, plan_path: str, other: str = "another controller runs this plan") -> None:
+        """Takes the lock. `IsLocked` where another process has it, which is told as `other`; `OSError` where the folder takes no
+        file."""
         self.path = plan_path + SUFFIX + LOCK
         self.descriptor = os.open(self.path, os.O_RDWR | os.O_CREAT, 0o644)
         try:
@@ -189,7 +190,7 @@ class StateLock:
         except BlockingIOError:
             holder = os.read(self.descriptor, 20).decode("ascii", "replace").strip()
             os.close(self.descriptor)
-            raise IsLocked(f"another controller runs this plan: process {holder or 'not known'} has the lock {self.path}") from None
+            raise IsLocked(f"{other}: process {holder or 'not known'} has the lock {self.path}") from None
         os.ftruncate(self.descriptor, 0)
         os.write(self.descriptor, f"{os.getpid()}\n".encode("ascii"))
 

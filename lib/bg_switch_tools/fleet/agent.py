@@ -1,6 +1,7 @@
 """What an agent does at the store: it keeps the lease of its machine, reads all keys, and tells what the machine reports."""
 import time
 from collections.abc import Callable
+from typing import NamedTuple
 
 from bg_switch_tools.fleet.machine import Machine
 from bg_switch_tools.fleet.record import MACHINES, View
@@ -37,8 +38,19 @@ class Lease:
         return not had_one
 
 
+class Read(NamedTuple):
+    """What came of a read that was begun at this moment: the keys, or why there are none. `is_anew` says that the lease of the machine
+    had ended before, so that the fleet has taken it as away."""
+    begun: float
+    snapshot: Snapshot | None
+    fault: str = ""
+    is_anew: bool = False
+
+
 class FleetAgent:
-    """The store's side of a machine. Where the store gives no answer, everything stays as it is, and the log says so once."""
+    """The store's side of a machine. Where the store gives no answer, everything stays as it is, and the log says so once.
+
+    `fetch` and `write` wait for the store, and may be called by a thread of their own; all else is for the thread of the machine."""
 
     def __init__(self, machine: Machine, store: Store, say: Say, now: Clock = time.monotonic, seconds: int = LEASE) -> None:
         """`seconds` are those of the machine's lease."""
@@ -57,24 +69,36 @@ class FleetAgent:
 
     def read(self) -> None:
         """Reads the keys of the fleet."""
+        self.take(self.fetch())
+
+    def fetch(self) -> Read:
+        """Keeps the lease, and reads the keys of the fleet."""
+        is_anew = False
         try:
-            if not self.lease.hold():
-                self.say("fleet", "the lease of the machine had ended: the fleet has taken it as away")
+            is_anew = not self.lease.hold()
             begun = self.now()
-            self.seen = self.store.read()
+            return Read(begun, self.store.read(), "", is_anew)
         except StoreFault as fault:
-            self._lose(fault)
+            return Read(self.now(), None, str(fault), is_anew)
+
+    def take(self, read: Read) -> None:
+        """Goes on by what was read."""
+        if read.is_anew:
+            self.say("fleet", "the lease of the machine had ended: the fleet has taken it as away")
+        if read.snapshot is None:
+            self._lose(read.fault)
             return
+        self.seen = read.snapshot
         if self.lost_since is not None:
             self.say("fleet", f"the store answers again, after {self.now() - self.lost_since:.0f} seconds")
             self.lost_since = None
-        self.machine.take_read(self.seen, begun)
+        self.machine.take_read(self.seen, read.begun)
         if self.machine.fault != self.told_fault:
             self.told_fault = self.machine.fault
             if self.told_fault:
                 self.say("fleet", self.told_fault)
 
-    def _lose(self, fault: StoreFault) -> None:
+    def _lose(self, fault: str) -> None:
         if self.lost_since is None:
             self.lost_since = self.now()
             self.say("fleet", f"the store gives no answer, so nothing is switched here: {fault}")
@@ -83,17 +107,29 @@ class FleetAgent:
 
     def tell(self, report: Report | None) -> None:
         """Writes what the machine reports, where that has changed since the read of this round."""
-        if self.seen is None or not self.lease.number or self._is_of_another():
-            return
-        key, text = View(self.seen).key(self.key), self.machine.report(report, self.now()).text()
+        fault = self.write(self.seen, self.text(report)) if self.seen else ""
+        if fault:
+            self._lose(fault)
+
+    def text(self, report: Report | None) -> str:
+        """What the machine reports, as its key has it."""
+        return self.machine.report(report, self.now()).text()
+
+    def write(self, snapshot: Snapshot, text: str) -> str:
+        """Writes what the machine reports, unless it stands in this read already. Gives why the store has not done it; empty where it
+        has, and where nothing was to be written."""
+        if not self.lease.number or self.is_of_another(snapshot):
+            return ""
+        key = View(snapshot).key(self.key)
         if key and (key.lease, key.value) == (self.lease.number, text):
-            return
+            return ""
         try:
             self.store.write([Compare(self.key, "changed", key.changed if key else 0)], {self.key: text}, lease=self.lease.number)
         except StoreFault as fault:
-            self._lose(fault)
+            return str(fault)
+        return ""
 
-    def _is_of_another(self) -> bool:
+    def is_of_another(self, snapshot: Snapshot) -> bool:
         """Whether another machine reports as this host: the second agent of a host is refused until the first one's lease ends."""
-        other = View(self.seen).machine(self.machine.host) if self.seen else None
+        other = View(snapshot).machine(self.machine.host)
         return other is not None and other.machine not in ("", self.machine.machine)

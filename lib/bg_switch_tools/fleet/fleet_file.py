@@ -17,7 +17,7 @@ MOST_ENDPOINTS = 16
 LEAST_TIMEOUT, LONGEST_TIMEOUT = 0.1, 60  # seconds of a call of the store
 MOST_ANALYSES = 64
 USER = re.compile(r"[\x21-\x7e]{1,128}")
-MACHINE_KEYS = ("host", "control", *SERVICE_KEYS, "analyses", *COMMAND_KEYS, "timeout")
+MACHINE_KEYS = ("host", "control", "rollout", *SERVICE_KEYS, "analyses", *COMMAND_KEYS, "timeout")
 KEYS = ("fleet", "etcd", "tls", "user", "password_file", "timeout_seconds", *MACHINE_KEYS, SCHEMA)
 TOGETHER = (("user", "password_file"), ("host", "control"))  # neither of a pair can stand without the other
 
@@ -100,7 +100,7 @@ def read_analyses(judge: Judge, told: object, place: str) -> dict[str, tuple[str
     return {name: judge.command(told[name], f"{place}.{judge.key_shown(name)}") for name in told}
 
 
-def read_machine(judge: Judge, members: JsonObject) -> MachineSettings | None:
+def read_machine(judge: Judge, members: JsonObject, folder: str) -> MachineSettings | None:
     """What the machine adds; None where the file has no machine."""
     there = [key for key in MACHINE_KEYS if key in members]
     if not there:
@@ -112,7 +112,8 @@ def read_machine(judge: Judge, members: JsonObject) -> MachineSettings | None:
         judge.member(members, "control", "", port, 1),
         judge.member(members, "analyses", "", lambda value, at: read_analyses(judge, value, at), {}),
         read_commands(judge, members),
-        {key: port(members[key], key) for key in SERVICE_KEYS if key in members})
+        {key: port(members[key], key) for key in SERVICE_KEYS if key in members},
+        judge.member(members, "rollout", "", lambda value, at: read_path(judge, value, at, folder), ""))
 
 
 def _plan(machine: MachineSettings) -> Plan:
@@ -143,7 +144,7 @@ def read_fleet_file(text: bytes, folder: str) -> FleetFile:
         judge.member(members, "password_file", "", lambda value, at: read_path(judge, value, at, folder), ""),
         judge.member(members, "timeout_seconds", "", lambda value, at: judge.number(value, at, LEAST_TIMEOUT, LONGEST_TIMEOUT),
                      EtcdSettings._field_defaults["timeout"]))
-    machine = read_machine(judge, members)
+    machine = read_machine(judge, members, folder)
     made = FleetFile(judge.member(members, "fleet", "", judge.name, ""), etcd, folder,
                      judge.member(members, "host", "", judge.name, ""), machine)
     if machine and not judge.problems:
@@ -168,4 +169,5 @@ def missing_files(fleet_file: FleetFile) -> list[str]:
     problems = missing_commands(_plan(fleet_file.machine), fleet_file.folder) if fleet_file.machine else []
     files = {f"tls.{key}": path for key, path in fleet_file.etcd.tls._asdict().items()} if fleet_file.etcd.tls else {}
     files["password_file"] = fleet_file.etcd.password_file
+    files["rollout"] = fleet_file.machine.rollout if fleet_file.machine else ""
     return problems + [f"{place}: {path} can't be read" for place, path in files.items() if path and not os.access(path, os.R_OK)]

@@ -21,8 +21,7 @@ class FleetLines:
         self.now = now
 
     def to_open(self, plan: Plan) -> tuple[PlannedRevision, str]:
-        revision = self.machine.to_open()
-        return (revision, "the fleet's stable revision") if revision else (plan.first, "the plan's first revision")
+        return self.machine.opening(plan)
 
     def take_opened(self, plan: Plan, opened: PlannedRevision) -> PlannedRevision | None:
         self.machine.lose_book()
@@ -46,10 +45,15 @@ class FleetLines:
         line = self.machine.next_line(report, self.now())
         if coming and line and line.startswith("deploy "):
             self.history.announce(coming)
-        if line == "promote" and self.machine.record and self.machine.read_at is not None:
-            self.log.say("fleet", f"promotes {report.newest.name} by attempt {self.machine.record.id}, which was read "
-                         f"{self.now() - self.machine.read_at:.3f} seconds ago")
-        return line
+        if line != "promote" or self.machine.record is None or self.machine.read_at is None:
+            return line
+        self.log.say("fleet", f"promotes {report.newest.name} by attempt {self.machine.record.id}, which was read "
+                     f"{self.now() - self.machine.read_at:.3f} seconds ago")
+        # The log may wait for its reader, or the process may be stopped meanwhile: the age that counts is that when the line is sent.
+        if self.machine.next_line(report, self.now()) == line:
+            return line
+        self.log.say("fleet", f"does not promote {report.newest.name}: the read has become too old")
+        return None
 
     def take_reply(self, plan: Plan, report: Report, line: str, reply: str) -> bool:
         self.machine.take_reply(line, was_carried_out(reply), reply, report, self.now())

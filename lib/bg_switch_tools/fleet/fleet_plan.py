@@ -36,11 +36,12 @@ class FleetPlan(Revisions):
 @dataclasses.dataclass(frozen=True)
 class MachineSettings:
     """What a machine adds to the plan of its fleet: the control port and the other ports of its switch, the commands of the
-    analyses by their names, and the commands for its endpoints."""
+    analyses by their names, the commands for its endpoints, and the path of the Rollout of its switch (empty: not told)."""
     control: int
     analyses: Mapping[str, tuple[str, ...]] = dataclasses.field(default_factory=dict)
     commands: Commands = Commands()
     services: Mapping[str, int] = dataclasses.field(default_factory=dict)
+    rollout: str = ""
 
 
 def _read_analyses(judge: Judge, told: object, place: str) -> tuple[dict[str, str], float]:

@@ -33,6 +33,7 @@ class Machine:
         self.fault = ""  # why the latest read is not used
         self.failed_at: float | None = None  # since when an attempt that catches up has failed here
         self.refusal = ""  # the latest line that the switch has refused, with its reply
+        self.unfit = ""  # why this machine can't do what the record asks for; empty where it can
 
     @property
     def record(self) -> Record | None:
@@ -123,23 +124,29 @@ class Machine:
         """The revision that a book is opened with: the fleet's stable one, as it was read last. None before the first read."""
         return self.record.fleet_stable if self.record else None
 
+    def opening(self, plan: Plan) -> tuple[PlannedRevision, str]:
+        """The same with why this one, for a plan of the machine's controller."""
+        revision = self.to_open()
+        return (revision, "the fleet's stable revision") if revision else (plan.first, "the plan's first revision")
+
     def lose_book(self) -> None:
-        """The book of the switch is gone, and with it the attempt that it had joined."""
+        """The book of the switch is gone, and with it the attempt that it had joined, and what was refused."""
+        self.refusal = ""
         self._set_joined(Joined())
 
     def next_line(self, report: Report, now: float) -> str | None:
-        """The line to be sent at once; None where none is, or where the latest read is too old. Going back from an attempt that is
-        over needs no fresh read."""
+        """The line to be sent at once; None where none is, where the latest read is too old, or where this machine is unfit. Going
+        back from an attempt that is over needs neither."""
         if self.record is None:
             return None
         known = self._known(self.record, now)
         line = next_line(report, known)
         goes_back = line == "abort" and is_known_to_be_over(report, known)
-        return line if goes_back or self.is_fresh(now) else None
+        return line if goes_back or self.is_fresh(now) and not self.unfit else None
 
     def coming(self, report: Report, now: float) -> PlannedRevision | None:
-        """The revision that is deployed next, by the record as it is known."""
-        line = next_line(report, self._known(self.record, now)) if self.record else None
+        """The revision that is deployed next, by the record as it is known; None where this machine is unfit."""
+        line = next_line(report, self._known(self.record, now)) if self.record and not self.unfit else None
         if self.record is None or line is None or not line.startswith("deploy "):
             return None
         return self.record.fleet_stable if is_behind(report, self.record) else self.record.revision
@@ -172,17 +179,24 @@ class Machine:
     def report(self, report: Report | None, now: float) -> MachineReport:
         """What the machine reports to its fleet; without a report of the switch where that gives none."""
         if report is None:
-            return MachineReport(self.machine, 0, WORKING, "the switch gives no report")
+            return MachineReport(self.machine, 0, WORKING, self.unfit or self.refusal or "the switch gives no report")
         active, preview, stable, newest = (report.service(service).name for service in SERVICES)
-        told = MachineReport(self.machine, 0, WORKING, "", report.phase, active, preview, stable, newest, report.newest.available)
+        told = MachineReport(self.machine, 0, WORKING, self.unfit, report.phase, active, preview, stable, newest, report.newest.available)
         if self.record is None:
             return told
         known = self._known(self.record, now)
         state, reason = state_of(report, known)
         has_joined = not is_behind(report, self.record) and known.has_joined(report)
+        lacks = self._lacks(report, has_joined)
+        if lacks and state != FAILED:
+            state, reason = FAILED, lacks
+        attempt = self.record.id if has_joined or lacks else 0
+        return dataclasses.replace(told, attempt=attempt, state=state, reason=reason or self.unfit or self.refusal)
+
+    def _lacks(self, report: Report, has_joined: bool) -> str:
+        """Why the attempt that runs can't succeed on this machine; empty where it can, and where the machine catches up first."""
+        if self.record is None or not self.record.is_running or is_behind(report, self.record):
+            return ""
         plan = self.fleet_plan
-        missing = missing_analyses(plan, self.settings) if plan else []
-        if has_joined and self.record.is_running and missing and state != FAILED:
-            state, reason = FAILED, f"this machine has no command for the analysis {', '.join(missing)}"
-        attempt = self.record.id if has_joined else 0
-        return dataclasses.replace(told, attempt=attempt, state=state, reason=reason or self.refusal)
+        missing = missing_analyses(plan, self.settings) if plan and has_joined else []
+        return f"this machine has no command for the analysis {', '.join(missing)}" if missing else self.unfit

@@ -2,7 +2,9 @@
 import dataclasses
 import json
 
+from bg_switch_tools.controller.plan_reader import WrongPlan
 from bg_switch_tools.controller.state_file import write_whole
+from bg_switch_tools.fleet.fleet_plan import read_fleet_plan
 from bg_switch_tools.fleet.next_line import Joined
 from bg_switch_tools.fleet.record import VERSION, Record, Unreadable, read_record
 from bg_switch_tools.switch.json_values import JsonObject, Judge, decoded
@@ -48,6 +50,11 @@ def read_machine_state(text: bytes) -> MachineState:
                judge.text(joined["reason"], "joined.reason")))
     if judge.problems:
         raise Unreadable("; ".join(judge.problems))
+    try:
+        if state.plan:
+            read_fleet_plan(state.plan)
+    except WrongPlan as wrong:
+        raise Unreadable(f"its plan is wrong: {wrong}") from None
     return state
 
 

@@ -1,4 +1,5 @@
 """Which Rollouts fit a fleet: the record of the fleet decides on each promotion, so no switch may promote by itself."""
+from bg_switch_tools.controller.plan_reader import LARGEST
 from bg_switch_tools.switch.json_values import JsonObject, decoded
 
 KEY = "spec.strategy.blueGreen"
@@ -30,3 +31,21 @@ def rollout_faults(text: bytes, has_pre: bool) -> list[str]:
     if has_pre and strategy.get("prePromotionAnalysis") is None:
         found.append(f"{KEY}.prePromotionAnalysis is missing, and the plan of the fleet names an analysis before the switch")
     return found
+
+
+class RolloutFile:
+    """The file of the Rollout with which the switch of a machine is started."""
+
+    def __init__(self, path: str) -> None:
+        self.path = path
+
+    def faults(self, has_pre: bool) -> list[str]:
+        """Why a switch that is started with the file as it is now can't be a machine of a fleet, as `rollout_faults` has it."""
+        try:
+            with open(self.path, "rb") as file:
+                text = file.read(LARGEST + 1)
+        except OSError as error:
+            return [f"{self.path} can't be read: {error.strerror}"]
+        if len(text) > LARGEST:
+            return [f"{self.path} has more than {LARGEST} bytes"]
+        return [f"{self.path}: {fault}" for fault in rollout_faults(text, has_pre)]

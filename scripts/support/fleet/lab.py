@@ -28,6 +28,7 @@ LONGEST = 30.0  # seconds for which anything is awaited
 ROLLOUT = {"spec": {"replicas": 2, "revisionHistoryLimit": 3, "strategy": {"blueGreen": {
     "activeService": "web", "previewService": "web-preview", "autoPromotionEnabled": False,
     "prePromotionAnalysis": {}, "postPromotionAnalysis": {}, "scaleDownDelaySeconds": 10}}}}
+ROLLOUT_FILE = "rollout.json"
 Words = Callable[["Lab", str], Sequence[str]]
 
 
@@ -210,7 +211,9 @@ class Lab:
         analyses = {step: module_words("analysis", str(self.folder), host, step, str(port))
                     for step, port in (("pre", places.preview.port), ("post", places.active.port))}
         told = {"fleet": FLEET, "host": host, "control": places.control.port, "active": places.active.port,
-                "preview": places.preview.port, "analyses": analyses, "etcd": [str(each) for each in self.network.etcd_of(host)]}
+                "preview": places.preview.port, "rollout": ROLLOUT_FILE, "analyses": analyses,
+                "etcd": [str(each) for each in self.network.etcd_of(host)]}
+        (self.fleet_file(host).parent / ROLLOUT_FILE).write_text(json.dumps(ROLLOUT), encoding="ascii")
         self.fleet_file(host).write_text(json.dumps(told), encoding="ascii")
 
     def plan_text(self, *numbers: int, **fleet: object) -> str:

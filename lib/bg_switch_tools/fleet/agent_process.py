@@ -1,0 +1,226 @@
+"""The agent of a machine as a process: it keeps the switch at what the record of its fleet asks for, and is a candidate for the leader."""
+import dataclasses
+import math
+import os
+import pathlib
+import signal
+import sys
+import threading
+import time
+from collections.abc import Callable
+from types import FrameType
+
+from bg_switch_tools.controller.controller import ROUND, ControllerFiles
+from bg_switch_tools.controller.log import Log
+from bg_switch_tools.controller.state_file import IsLocked, StateLock
+from bg_switch_tools.fleet.agent import LEASE, FleetAgent, Read
+from bg_switch_tools.fleet.agent_files import StateKeeper, machine_id, path_of
+from bg_switch_tools.fleet.agent_rounds import ANSWER, CONNECT, AgentRounds
+from bg_switch_tools.fleet.agent_status import AgentStatus, AgentStatusFile
+from bg_switch_tools.fleet.candidate import Candidate
+from bg_switch_tools.fleet.etcd import EtcdStore
+from bg_switch_tools.fleet.fleet_file import FleetFile, missing_files
+from bg_switch_tools.fleet.fleet_plan import MachineSettings
+from bg_switch_tools.fleet.handover import Handover
+from bg_switch_tools.fleet.machine import Machine
+from bg_switch_tools.fleet.rollout_settings import RolloutFile
+from bg_switch_tools.fleet.store import Store, StoreFault
+from bg_switch_tools.fleet.store_threads import Leading, StoreTurns, Watch
+
+ENDED, UNFIT, TAKEN, FAULT = 0, 1, 5, 70  # exit statuses
+TURN = 0.3  # seconds
+LOOK = 0.05  # seconds between two looks at whether a signal has come
+LONGEST_END = 1.2  # seconds for the round to end after a signal
+LONGEST_REVOKE = 2.0  # seconds of a call that ends a lease
+CALLS = 3  # of the store, in the turn of a machine: each may take the whole timeout
+MakeStore = Callable[[float], Store]  # is given the seconds within which a call has to end
+
+
+@dataclasses.dataclass(frozen=True)
+class AgentArguments:
+    """How an agent is run. `state` is the path beside which it keeps its files, or a folder for them: left out, it is the folder of
+    the state of systemd's unit, or else that of the fleet file. `round_seconds` are those between two reads of the store where no key
+    changes: above 0, and below a second, since no line goes forward by an older read."""
+    state: pathlib.Path | None = None
+    round_seconds: float = TURN
+    as_json: bool = False
+
+
+def lease_seconds(timeout: float) -> int:
+    """The seconds of a lease, which are more than those of the longest turn: the store needs its whole timeout for each call, and
+    the switch hangs."""
+    return max(LEASE, math.ceil(CALLS * timeout + CONNECT + ANSWER + 2 * ROUND))
+
+
+def clock() -> float:
+    """Monotonic seconds, which count also while the system is suspended: by them a read that was made before is old."""
+    return time.clock_gettime(time.CLOCK_BOOTTIME)
+
+
+class AgentProcess:
+    """The threads of an agent: the rounds at the switch, the turns at the store, the candidate, and the wait for events."""
+
+    def __init__(self, file: FleetFile, settings: MachineSettings, arguments: AgentArguments, log: Log, make_store: MakeStore) -> None:
+        path, timeout = path_of(file, arguments.state), file.etcd.timeout
+        self.log = log
+        self.make_store = make_store
+        self.timeout = timeout
+        self.seconds = lease_seconds(timeout)
+        self.keeper = StateKeeper(path, log.say)
+        machine = Machine(file.host, machine_id(path, log.say), settings, self.keeper.keep, self.keeper.read())
+        self.agent = FleetAgent(machine, make_store(timeout), log.say, clock, self.seconds)
+        self.candidate = Candidate(file.host, make_store(timeout), log.say, clock, seconds=self.seconds)
+        self.rounds = AgentRounds(self.agent, ControllerFiles(path, file.folder), log)
+        self.status = AgentStatusFile(path, AgentStatus(file.fleet, file.host, os.getpid()))
+        self.stopping = threading.Event()
+        self.handover = Handover()
+        self.turns = StoreTurns(self.agent, self.handover, arguments.round_seconds, self.stopping)
+        self.leading = Leading(self.candidate, arguments.round_seconds, self.stopping)
+        self.watch = Watch(make_store(timeout), self.turns, (self.turns.wake, self.leading.wake), self.stopping)
+        self.read_at = self.lost_at = 0.0  # Unix times
+        self.is_known = False  # whether the store has had the report of this machine
+        self.other_since: float | None = None  # since when another machine reports as this host
+        self.refusal = ""  # why this agent ends: another machine reports as its host
+        self.has_fault = False
+        self.round_thread = self._thread(self._run_rounds)
+
+    def _thread(self, run: Callable[[], None]) -> threading.Thread:
+        """A thread whose exception, which nobody expects, ends the process."""
+        def guarded() -> None:
+            try:
+                run()
+            except BaseException:
+                self.has_fault = True
+                raise
+            finally:
+                self.stopping.set()
+        return threading.Thread(target=guarded, daemon=True)
+
+    def start(self) -> None:
+        self.round_thread.start()
+        for run in (self.turns.run, self.leading.run, self.watch.run):
+            self._thread(run).start()
+
+    def _run_rounds(self) -> None:
+        """Rounds at the switch, until the agent is stopped. They wait for no call of the store."""
+        pause = 0.0
+        while not self.stopping.is_set():
+            for read in self.handover.await_reads(pause):
+                self._take(read)
+            text, pause = self.rounds.do_round()
+            if self.handover.finish(text):
+                self.turns.wake.wake()
+            self.keeper.keep_again()
+            self.status.keep(self.read_at, self.lost_at)
+        self.rounds.end()
+        self.status.remove()
+
+    def _take(self, read: Read) -> None:
+        self.agent.take(read)
+        if read.snapshot is None:
+            self.lost_at = self.lost_at or time.time()
+            return
+        self.read_at, self.lost_at = time.time() - max(clock() - read.begun, 0.0), 0.0
+        if not self.agent.is_of_another(read.snapshot):
+            self.is_known = self.is_known or self.agent.key in read.snapshot.keys
+            self.other_since = None
+            self.leading.may_lead.set()
+        elif not self.is_known:
+            self._wait_for_other()
+
+    def _wait_for_other(self) -> None:
+        """Another machine reports as this host: after a restart of the system it may be this one, before. So its lease has twice the
+        time that it needs to end."""
+        limit = 2 * self.seconds
+        if self.other_since is None:
+            self.other_since = clock()
+            self.log.say("fleet", f"this agent ends, unless the lease of the other one ends within {limit} seconds")
+        elif clock() >= self.other_since + limit:
+            self.refusal = self.agent.machine.fault
+            self.stopping.set()
+
+    def stop(self) -> None:
+        """Ends all, within some seconds: what runs, and the leases, so that the other machines know at once."""
+        self.stopping.set()
+        self.rounds.stop()
+        self.handover.end()
+        for wake in (self.turns.wake, self.leading.wake):
+            wake.wake()
+        self.round_thread.join(LONGEST_END)
+        if self.round_thread.is_alive() or self.has_fault:
+            self.rounds.end_at_once()
+        self.rounds.probes.stop()
+        self._revoke()
+
+    def _revoke(self) -> None:
+        store = self.make_store(min(self.timeout, LONGEST_REVOKE))
+        for lease in (self.agent.lease.number, self.candidate.lease.number):
+            try:
+                if lease:
+                    store.revoke(lease)
+            except StoreFault as fault:
+                self.log.say("fleet", f"the others learn of the end when the leases end, since the store gives no answer: {fault}")
+                return
+
+
+def tell(text: str) -> None:
+    """Tells the user something beside the log."""
+    print(f"fleet: {text}", file=sys.stderr)
+
+
+def start_faults(file: FleetFile) -> list[str]:
+    """Why no agent can run by this fleet file, a sentence each; none where one can."""
+    if file.machine is None:
+        return ["the fleet file has neither host nor control: it is one for people, and no agent runs by it"]
+    if not file.machine.rollout:
+        return ["the fleet file has no key rollout, the file of the Rollout with which the switch is started: an agent has to know that "
+                "the switch does not promote by itself"]
+    return RolloutFile(file.machine.rollout).faults(False)
+
+
+def run_agent(file: FleetFile, arguments: AgentArguments) -> int:
+    """Runs the agent of a machine until SIGTERM or ctrl-C. Gives the exit status: `ENDED`; `UNFIT` where the fleet file is none of a
+    machine, where the Rollout lets its switch promote by itself, and where an agent runs here already; `TAKEN` where another machine
+    reports as its host; `FAULT` after a fault of its own."""
+    faults = start_faults(file)
+    for fault in faults:
+        tell(fault)
+    if faults or file.machine is None:
+        return UNFIT
+    path = path_of(file, arguments.state)
+    try:
+        lock = StateLock(path, f"another agent of {file.host} runs here")
+    except IsLocked as reason:
+        tell(str(reason))
+        return UNFIT
+    except OSError as error:
+        tell(f"the lock file beside {path} cannot be made, so a second agent is not noticed: {error.strerror}")
+        return _run_locked(file, file.machine, arguments)
+    try:
+        return _run_locked(file, file.machine, arguments)
+    finally:
+        lock.release()
+
+
+def _run_locked(file: FleetFile, settings: MachineSettings, arguments: AgentArguments) -> int:
+    signals: list[int] = []
+
+    def note(number: int, _: FrameType | None) -> None:
+        signals.append(number)
+    for number in (signal.SIGTERM, signal.SIGINT):
+        signal.signal(number, note)
+    log = Log(sys.stdout, arguments.as_json)
+    for problem in missing_files(file):
+        log.say("plan", problem)
+    process = AgentProcess(file, settings, arguments, log,
+                           lambda seconds: EtcdStore(file.etcd._replace(timeout=seconds), file.fleet))
+    process.start()
+    while not process.stopping.is_set() and not signals:
+        time.sleep(LOOK)
+    process.stop()
+    if process.has_fault:
+        return FAULT
+    if process.refusal:
+        tell(process.refusal)
+        return TAKEN
+    return ENDED

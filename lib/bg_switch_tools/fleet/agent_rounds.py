@@ -1,0 +1,110 @@
+"""The rounds of an agent at its switch: those of a controller, once the plan and the record of the fleet are known."""
+from bg_switch_tools.controller.book_opener import CannotOpen
+from bg_switch_tools.controller.controller import ROUND, Controller, ControllerFiles, Makers
+from bg_switch_tools.controller.log import Log
+from bg_switch_tools.controller.plan import Plan
+from bg_switch_tools.controller.plan_reader import WrongPlan
+from bg_switch_tools.controller.probes import Probes
+from bg_switch_tools.controller.switch_silence import SwitchSilence
+from bg_switch_tools.fleet.agent import FleetAgent
+from bg_switch_tools.fleet.fleet_lines import FleetLines
+from bg_switch_tools.fleet.fleet_memory import FleetMemory
+from bg_switch_tools.fleet.rollout_settings import RolloutFile
+from bg_switch_tools.switch.connection import Connection, Unreachable
+from bg_switch_tools.switch.reports import NoReport, Report, read_report
+
+# Seconds within which a connection is taken, and for the answers of a round: a lease has to be longer than a round at a switch that
+# hangs.
+CONNECT, ANSWER = 0.5, 2.5
+
+
+class AgentRounds:
+    """One round after the other. One thread calls it, but for `stop`."""
+
+    def __init__(self, agent: FleetAgent, files: ControllerFiles, log: Log) -> None:
+        self.agent = agent
+        self.machine = agent.machine
+        self.files = files
+        self.log = log
+        self.rollout = RolloutFile(self.machine.settings.rollout)
+        self.rollout_faults: list[str] = []
+        self.probes = Probes()
+        self.silence = SwitchSilence(log)
+        self.controller: Controller | None = None  # from the first plan on
+        self.connection: Connection | None = None
+        self.is_stopping = False
+
+    def do_round(self) -> tuple[str | None, float]:
+        """A round. Gives what the machine reports then, and the seconds until the next one. Before the first record of a fleet, a
+        machine whose switch gives no answer reports nothing: the fleet begins with what its machines have as stable."""
+        self._go_by_plan()
+        report, pause, is_answered = None, ROUND, False
+        try:
+            with Connection(self.machine.settings.control, CONNECT) as connection:
+                self.connection = connection
+                connection.allow(ANSWER)
+                report, pause = self._round(connection)
+            is_answered = True
+            self.silence.end()
+        except (Unreachable, NoReport) as reason:
+            if not self.is_stopping:
+                self.silence.begin(str(reason))
+        except CannotOpen as reason:
+            self.machine.refusal = str(reason)
+        finally:
+            self.connection = None
+        return (self.agent.text(report) if is_answered or self.machine.record else None), pause
+
+    def _round(self, connection: Connection) -> tuple[Report | None, float]:
+        """The report after the round, and the seconds until the next one. A switch without a book is opened only where its Rollout
+        fits a fleet."""
+        controller = self.controller
+        if controller is None or self.rollout_faults:
+            report = read_report(connection.answer(b"report"))
+            if controller is None or report is None:
+                return report, ROUND
+        pause = controller.do_round(connection)
+        return controller.book.latest, pause
+
+    def _go_by_plan(self) -> None:
+        """Takes a plan that has changed, and judges whether this machine is fit for it."""
+        faults = list[str]()
+        try:
+            if plan := self.machine.plan():
+                self._take_plan(plan)
+        except WrongPlan as wrong:
+            faults = [f"the plan does not fit this machine: {problem}" for problem in wrong.problems]
+        plan_of_fleet = self.machine.fleet_plan
+        self.rollout_faults = self.rollout.faults(plan_of_fleet is not None and "pre" in plan_of_fleet.analyses)
+        unfit = "; ".join(faults + self.rollout_faults)
+        if unfit != self.machine.unfit:
+            self.machine.unfit = unfit
+            self.log.say("plan", f"nothing new is deployed here: {unfit}" if unfit else "this machine is fit for the plan again")
+
+    def _take_plan(self, plan: Plan) -> None:
+        if self.controller is None:
+            makers = Makers(lambda path, plan, log: FleetMemory(self.machine, path, plan, log),
+                            lambda parts: FleetLines(self.machine, parts, self.agent.now))
+            self.controller = Controller(self.files, plan, self.log, self.probes, makers)
+        elif plan != self.controller.plan:
+            self.controller.take_plan(plan)
+
+    def stop(self) -> None:
+        """Cuts the round that runs short. Any thread may call it."""
+        self.is_stopping = True
+        if connection := self.connection:
+            connection.cut()
+
+    def end(self) -> None:
+        """The last thing that is done: what runs is ended."""
+        if self.controller:
+            self.controller.end()
+        self.log.say("end", "ends; the switch continues")
+        if self.controller:
+            self.controller.notifier.end()
+
+    def end_at_once(self) -> None:
+        """Ends what runs where the rounds hang. Another thread may call it."""
+        if self.controller:
+            self.controller.launcher.begin_end()
+            self.controller.analyses.end_at_last()
