@@ -358,12 +358,22 @@ class Telling(FleetCase):
         self.agent.read()
         self.cut(self.agent)
         self.agent.tell(None)
-        self.assertEqual(self.said, ["the store gives no answer, so nothing is switched here: it is away"])
-        self.assertFalse(self.agent.machine.is_fresh(self.time))
+        self.assertEqual(self.said, ["the store does not take the report of this machine: it is away"])
         self.cut(self.agent, False)
-        self.agent.read()
-        self.agent.read()
-        self.assertEqual(self.said[1:], ["the store answers again, after 0 seconds"])
+        for _ in range(2):
+            self.agent.read()
+            self.agent.tell(None)
+        self.assertEqual(self.said[1:], ["the store takes the report of this machine again, after 0 seconds"])
+
+    def test_a_store_that_takes_no_write_is_told_each_minute(self) -> None:
+        """As an etcd that is full: it is read, and each write is refused."""
+        with mock.patch.object(self.agent.store, "write", side_effect=StoreFault("etcd is full")):
+            for _ in range(400):
+                self.agent.read()
+                self.agent.tell(None)
+                self.time += 0.3
+        self.assertEqual(self.said, ["the store does not take the report of this machine: etcd is full",
+                                     "the store does not take the report of this machine, for 60 seconds now: etcd is full"])
 
     def test_the_lease_is_refreshed_in_each_quarter_of_its_time(self) -> None:
         refreshed: list[float] = []
@@ -494,13 +504,23 @@ class Leading(FleetCase):
         assert pending is not None and isinstance(first.store, MemoryStore)
         first.store.is_cut = True
         self.assertFalse(first.send(pending))
-        self.assertEqual(self.said[-1], "the store gives no answer: it is away")
+        self.assertEqual(self.said[-1], "the store does not take what the candidate writes: it is away")
         self.assertFalse(first.do_round())
         first.store.is_cut = False
         first.do_round()
         first.store.is_cut = True
         first.do_round()
         self.assertEqual(sum("gives no answer" in text for text in self.said), 2)
+
+    def test_a_store_that_takes_no_write_is_told_once(self) -> None:
+        first = self.candidate("a")
+        first.do_round()
+        with mock.patch.object(first.store, "write", side_effect=StoreFault("etcd is full")):
+            for _ in range(20):
+                self.assertFalse(first.do_round())
+        self.assertEqual(sum("etcd is full" in text for text in self.said), 1)
+        self.assertTrue(first.do_round())
+        self.assertEqual(sum("takes what the candidate writes, after" in text for text in self.said), 1)
 
     def test_what_was_not_written_is_told(self) -> None:
         first = self.candidate("a")

@@ -8,6 +8,7 @@ import tempfile
 import time
 import unittest
 from collections.abc import Callable
+from unittest import mock
 
 from bg_switch_tools.controller.controller import Controller, Makers, files_beside
 from bg_switch_tools.controller.history_file import HistoryFile
@@ -18,7 +19,7 @@ from bg_switch_tools.fleet.agent import FleetAgent
 from bg_switch_tools.fleet.fleet_lines import FleetLines
 from bg_switch_tools.fleet.fleet_memory import FleetMemory
 from bg_switch_tools.fleet.fleet_plan import MachineSettings
-from bg_switch_tools.fleet.machine import Machine
+from bg_switch_tools.fleet.machine import FRESH, Machine
 from bg_switch_tools.fleet.machine_state import MachineStateFile
 from bg_switch_tools.fleet.record import (ABORTED, DEPLOYING, FAILED, FOLLOWS, PASSED, PROMOTING, READY, SUCCESSFUL, MachineReport,
                                           Record, read_machine_report)
@@ -159,6 +160,23 @@ class Attempts(FleetLinesCase):
         self.some_rounds()
         self.assertEqual(self.switch.book.phase, "paused")
         self.store.is_cut = False
+        self.rounds_to(PASSED)
+
+    def test_no_promote_rests_on_a_read_that_has_become_old_while_the_log_was_written(self) -> None:
+        """A log that nobody reads can wait, and a process can be stopped at any place."""
+        self.joins()
+        self.put(PROMOTING)
+        say, slept = self.controller.log.say, list[str]()
+
+        def slow(event: str, text: str) -> None:
+            say(event, text)
+            if text.startswith("promotes ") and not slept:
+                slept.append(text)
+                time.sleep(FRESH + 0.1)
+        with mock.patch.object(self.controller.log, "say", slow):
+            self.do_round()
+        self.assertEqual((self.switch.book.phase, len(slept)), ("paused", 1))
+        self.assertIn("does not promote web-v2: the read has become too old", self.out.getvalue())
         self.rounds_to(PASSED)
 
     def test_a_switch_that_is_started_again_joins_again(self) -> None:

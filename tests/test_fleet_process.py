@@ -3,13 +3,16 @@ import json
 import pathlib
 import subprocess
 import sys
+import threading
 import time
 import unittest
+from collections.abc import Sequence
 from unittest import mock
 
 from bg_switch_tools.controller.process_groups import identity
 from bg_switch_tools.controller.state_file import State, StateFile
 from bg_switch_tools.controller.plan import PlannedRevision
+from bg_switch_tools.fleet import agent_process
 from bg_switch_tools.fleet.agent_files import StateKeeper, machine_id, path_of
 from bg_switch_tools.fleet.agent_process import AgentArguments, clock, lease_seconds, start_faults
 from bg_switch_tools.fleet.agent_rounds import ANSWER, CONNECT
@@ -188,6 +191,40 @@ class Ends(FleetProcessCase):
         with mock.patch.object(process.agent, "fetch", side_effect=KeyError("a fault")), mock.patch("sys.stderr"):
             self.await_that(process.stopping.is_set, "the process ends")
         self.assertTrue(process.has_fault)
+
+
+class Hangs(FleetProcessCase):
+    def test_an_agent_whose_rounds_hang_is_taken_as_away(self) -> None:
+        """No thread beside the rounds keeps its lease."""
+        process = self.begun()
+        going_on = threading.Event()
+        do_round = process.rounds.do_round
+
+        def hang() -> tuple[str | None, float]:
+            going_on.wait(WAIT)
+            return do_round()
+        with mock.patch.object(process.rounds, "do_round", hang):
+            self.await_that(lambda: self.told() is None, "its report goes with its lease", 4 * LEASE)
+            going_on.set()
+            self.await_log("the lease of the machine had ended")
+        self.await_that(lambda: self.told_is("follows"), "it is back")
+
+    def test_a_switch_that_hangs_does_not_end_the_lease(self) -> None:
+        with mock.patch.object(agent_process, "lease_seconds", lambda _: ANSWER + CONNECT + 1):
+            self.begun()
+        created, going_on = self.network.keys.keys["machines/a"].created, threading.Event()
+        answer = self.switch.control.answer
+
+        def hang(line: str) -> Sequence[str] | None:
+            going_on.wait(WAIT)
+            return answer(line)
+        with mock.patch.object(self.switch.control, "answer", hang):
+            self.await_log("gave no answer in time")
+            self.await_that(lambda: self.told_is("working"), "it is told")
+            time.sleep(ANSWER + CONNECT + 1)
+            self.assertEqual(self.network.keys.keys["machines/a"].created, created)
+            going_on.set()
+        self.await_that(lambda: self.told_is("follows"), "it answers again")
 
 
 class TwoOfOneHost(FleetProcessCase):

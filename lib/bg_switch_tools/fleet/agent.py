@@ -9,6 +9,7 @@ from bg_switch_tools.fleet.store import Compare, Snapshot, Store, StoreFault
 from bg_switch_tools.switch.reports import Report
 
 LEASE = 10  # seconds: longer than a round at a switch that hangs
+MINUTE = 60.0
 Say = Callable[[str, str], None]  # is given the kind of an event, and its text
 Clock = Callable[[], float]
 
@@ -38,6 +39,34 @@ class Lease:
         return not had_one
 
 
+class Trouble:
+    """Something that does not work for a while: the log tells it when that begins, each minute, and when it ends."""
+
+    def __init__(self, say: Callable[[str], None], now: Clock, what: str) -> None:
+        """`what` says what does not work."""
+        self.say = say
+        self.now = now
+        self.what = what
+        self.since: float | None = None
+        self.next = 0.0
+
+    def begin(self, why: str) -> None:
+        """It does not work now. `why` is told where it is due."""
+        now = self.now()
+        if self.since is None:
+            self.since, self.next = now, now + MINUTE
+            self.say(f"{self.what}: {why}")
+        elif now >= self.next:
+            self.next = now + MINUTE
+            self.say(f"{self.what}, for {now - self.since:.0f} seconds now: {why}")
+
+    def end(self, over: str) -> None:
+        """It works. `over` is told where it did not before."""
+        if self.since is not None:
+            self.say(f"{over}, after {self.now() - self.since:.0f} seconds")
+        self.since = None
+
+
 class Read(NamedTuple):
     """What came of a read that was begun at this moment: the keys, or why there are none. `is_anew` says that the lease of the machine
     had ended before, so that the fleet has taken it as away."""
@@ -60,7 +89,8 @@ class FleetAgent:
         self.now = now
         self.lease = Lease(store, now, seconds)
         self.seen: Snapshot | None = None  # the latest read; None where it has failed
-        self.lost_since: float | None = None  # since when the store has given no answer
+        self.silence = Trouble(lambda text: say("fleet", text), now, "the store gives no answer, so nothing is switched here")
+        self.unwritten = Trouble(lambda text: say("fleet", text), now, "the store does not take the report of this machine")
         self.told_fault = ""
 
     @property
@@ -86,48 +116,40 @@ class FleetAgent:
         if read.is_anew:
             self.say("fleet", "the lease of the machine had ended: the fleet has taken it as away")
         if read.snapshot is None:
-            self._lose(read.fault)
+            self.silence.begin(read.fault)
+            self.seen = None
+            self.machine.lose_store()
             return
+        self.silence.end("the store answers again")
         self.seen = read.snapshot
-        if self.lost_since is not None:
-            self.say("fleet", f"the store answers again, after {self.now() - self.lost_since:.0f} seconds")
-            self.lost_since = None
         self.machine.take_read(self.seen, read.begun)
         if self.machine.fault != self.told_fault:
             self.told_fault = self.machine.fault
             if self.told_fault:
                 self.say("fleet", self.told_fault)
 
-    def _lose(self, fault: str) -> None:
-        if self.lost_since is None:
-            self.lost_since = self.now()
-            self.say("fleet", f"the store gives no answer, so nothing is switched here: {fault}")
-        self.seen = None
-        self.machine.lose_store()
-
     def tell(self, report: Report | None) -> None:
         """Writes what the machine reports, where that has changed since the read of this round."""
-        fault = self.write(self.seen, self.text(report)) if self.seen else ""
-        if fault:
-            self._lose(fault)
+        if self.seen:
+            self.write(self.seen, self.text(report))
 
     def text(self, report: Report | None) -> str:
         """What the machine reports, as its key has it."""
         return self.machine.report(report, self.now()).text()
 
-    def write(self, snapshot: Snapshot, text: str) -> str:
-        """Writes what the machine reports, unless it stands in this read already. Gives why the store has not done it; empty where it
-        has, and where nothing was to be written."""
+    def write(self, snapshot: Snapshot, text: str) -> None:
+        """Writes what the machine reports, unless it stands in this read already."""
         if not self.lease.number or self.is_of_another(snapshot):
-            return ""
+            return
         key = View(snapshot).key(self.key)
         if key and (key.lease, key.value) == (self.lease.number, text):
-            return ""
+            return
         try:
             self.store.write([Compare(self.key, "changed", key.changed if key else 0)], {self.key: text}, lease=self.lease.number)
         except StoreFault as fault:
-            return str(fault)
-        return ""
+            self.unwritten.begin(str(fault))
+        else:
+            self.unwritten.end("the store takes the report of this machine again")
 
     def is_of_another(self, snapshot: Snapshot) -> bool:
         """Whether another machine reports as this host: the second agent of a host is refused until the first one's lease ends."""

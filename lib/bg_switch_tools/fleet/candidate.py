@@ -2,7 +2,7 @@
 import time
 from typing import NamedTuple
 
-from bg_switch_tools.fleet.agent import LEASE, Clock, Lease, Say
+from bg_switch_tools.fleet.agent import LEASE, Clock, Lease, Say, Trouble
 from bg_switch_tools.fleet.leader import StageClock, Write, decide
 from bg_switch_tools.fleet.record import LEADER, Unreadable, View
 from bg_switch_tools.fleet.store import Compare, Snapshot, Store, StoreFault
@@ -29,7 +29,8 @@ class Candidate:
         self.created = 0  # the `created` revision of the leader's key while this one leads
         self.clock = StageClock()
         self.told_fault = ""
-        self.is_lost = False
+        self.silence = Trouble(lambda text: say("leader", text), now, "the store gives no answer to the candidate")
+        self.unwritten = Trouble(lambda text: say("leader", text), now, "the store does not take what the candidate writes")
 
     @property
     def leads(self) -> bool:
@@ -48,9 +49,9 @@ class Candidate:
                 self._stop_leading("its lease has ended")
             snapshot = self.store.read()
         except StoreFault as fault:
-            self._lose(fault)
+            self.silence.begin(str(fault))
             return None
-        self.is_lost = False
+        self.silence.end("the store answers the candidate again")
         key = View(snapshot).key(LEADER)
         if key is None:
             self._stop_leading("its key is gone")
@@ -83,19 +84,15 @@ class Candidate:
         self.created = 0
         self.clock.forget()
 
-    def _lose(self, fault: StoreFault) -> None:
-        if not self.is_lost:
-            self.say("leader", f"the store gives no answer: {fault}")
-        self.is_lost = True
-
     def send(self, pending: Pending) -> bool:
         """Writes what was decided. Gives whether it was written: not where something has changed since the read."""
         write = pending.write
         try:
             revision = self.store.write(write.compares, write.puts, write.deletes, pending.lease)
         except StoreFault as fault:
-            self._lose(fault)
+            self.unwritten.begin(str(fault))
             return False
+        self.unwritten.end("the store takes what the candidate writes")
         record = write.record
         if record:
             what = f"attempt {record.id} of {record.revision.name}: {record.stage}" + (f", {record.reason}" if record.reason else "")

@@ -2,7 +2,7 @@
 import threading
 from collections.abc import Sequence
 
-from bg_switch_tools.fleet.agent import FleetAgent, Read
+from bg_switch_tools.fleet.agent import FleetAgent
 from bg_switch_tools.fleet.candidate import Candidate
 from bg_switch_tools.fleet.handover import Handover, Wake
 from bg_switch_tools.fleet.store import Store, StoreFault
@@ -38,9 +38,8 @@ class StoreTurns:
             return
         self.revision = read.snapshot.revision
         self.reads += 1
-        fault = self.agent.write(read.snapshot, text) if text is not None else ""
-        if fault:
-            self.handover.put(Read(self.agent.now(), None, fault))
+        if text is not None:
+            self.agent.write(read.snapshot, text)
 
 
 class Leading:
