@@ -39,6 +39,9 @@ class Rollouts(FleetProcessCase):
         self.put(self.v1, self.v2)
         self.started()
         self.await_stage("web-v2 successful")
+        self.assertIn("attempt 0 of web-v2: successful, the fleet begins with it", self.out.getvalue())
+        self.await_that(lambda: self.told_is("follows"), "the machine follows")
+        self.assertEqual(self.own_lines(), [])
 
     def test_without_its_word_no_fleet_begins(self) -> None:
         """A switch that gives no answer may have any revision live."""

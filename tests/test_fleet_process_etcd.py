@@ -45,7 +45,8 @@ class AgentCase(WithCluster):
         self.switch = FakeSwitch("pause", "post")
         self.addCleanup(self.switch.kill)
         self.store = EtcdStore(EtcdSettings(self.cluster.endpoints), "web")
-        self.store.write([], {"members/a": ""}, list(self.store.read().keys))
+        self.store.write([], {}, list(self.store.read().keys))
+        self.store.write([], {"members/a": ""})
         self.runs = list[ControllerRun]()
 
     def fleet_file(self, folder: str = "a", **members: object) -> str:
@@ -72,9 +73,9 @@ class AgentCase(WithCluster):
 
     def put(self, last: str, **members: object) -> None:
         ports = [endpoint.port for endpoint in self.endpoints]
-        revisions = [{"name": "web-v1", "ports": ports[:2]}, {"name": "web-v2", "ports": ports[2:]}]
-        told = {"revisions": [one for one in revisions if one["name"] <= last], "analyses": {"post": "errors"},
-                "health": {"interval": 0.1, "timeout": 0.5}, **members}
+        revisions = {"web-v1": ports[:2], "web-v2": ports[2:]}
+        told = {"revisions": [{"name": name, "ports": revisions[name]} for name in revisions if name <= last],
+                "analyses": {"post": "errors"}, "health": {"interval": 0.1, "timeout": 0.5}, **members}
         self.store.write([], {"plan": json.dumps(told)})
 
     def order(self, what: str) -> None:
