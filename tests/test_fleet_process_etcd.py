@@ -74,9 +74,9 @@ class AgentCase(WithCluster):
     def put(self, last: str, **members: object) -> None:
         ports = [endpoint.port for endpoint in self.endpoints]
         revisions = {"web-v1": ports[:2], "web-v2": ports[2:]}
-        told = {"revisions": [{"name": name, "ports": revisions[name]} for name in revisions if name <= last],
-                "analyses": {"post": "errors"}, "health": {"interval": 0.1, "timeout": 0.5}, **members}
-        self.store.write([], {"plan": json.dumps(told)})
+        told = [{"name": name, "ports": revisions[name]} for name in revisions if name <= last]
+        self.store.write([], {"plan": json.dumps({"revisions": told, "analyses": {"post": "errors"},
+                                                  "health": {"interval": 0.1, "timeout": 0.5}, **members})})
 
     def order(self, what: str) -> None:
         record = View(self.store.read()).record

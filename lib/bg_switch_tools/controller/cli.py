@@ -68,6 +68,7 @@ by `check` or after `deploy`, if the switch can't be opened with it, or if anoth
 """
 CONNECT, ANSWER = 1.0, 10.0  # seconds within which a connection is taken, and for the answers of a round
 RETRY = 0.2  # seconds between two tries where the switch gives no answer
+MINUTE = 60.0
 LOOK = 0.05  # seconds between two looks at whether a signal has come
 LONGEST_END = 1.2  # seconds for the round to end after a signal
 
@@ -79,7 +80,7 @@ class Runner:
         self.file = file
         self.log = log
         self.controller = Controller(files_beside(file.path), plan, log, Probes())
-        self.silence = SwitchSilence(log)
+        self.silence = SwitchSilence(log, MINUTE)
         self.stopping = threading.Event()
         self.connection: Connection | None = None
         self.unfit = ""

@@ -77,8 +77,12 @@ class Controller:
         self.probes.watch([port for revision in revisions for port in revision.ports], self.plan.health)
 
     def take_plan(self, plan: Plan) -> None:
-        """Goes on by another plan."""
+        """Goes on by another plan, and tells that it has changed."""
         self.log.say("plan", f"the plan has changed: its control port is {plan.control}, its last revision {plan.last.name}")
+        self.go_by(plan)
+
+    def go_by(self, plan: Plan) -> None:
+        """Goes on by another plan."""
         if plan.control != self.plan.control:
             self.book.leave()
             self._forget_book()

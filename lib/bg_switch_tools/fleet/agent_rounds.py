@@ -6,7 +6,7 @@ from bg_switch_tools.controller.plan import Plan
 from bg_switch_tools.controller.plan_reader import WrongPlan
 from bg_switch_tools.controller.probes import Probes
 from bg_switch_tools.controller.switch_silence import SwitchSilence
-from bg_switch_tools.fleet.agent import FleetAgent
+from bg_switch_tools.fleet.agent import MINUTE, FleetAgent
 from bg_switch_tools.fleet.fleet_lines import FleetLines
 from bg_switch_tools.fleet.fleet_memory import FleetMemory
 from bg_switch_tools.fleet.rollout_settings import RolloutFile
@@ -29,8 +29,9 @@ class AgentRounds:
         self.rollout = RolloutFile(self.machine.settings.rollout)
         self.rollout_faults: list[str] = []
         self.probes = Probes()
-        self.silence = SwitchSilence(log)
+        self.silence = SwitchSilence(log, MINUTE)
         self.controller: Controller | None = None  # from the first plan on
+        self.told_plan = ""  # the plan of the fleet that was told last
         self.connection: Connection | None = None
         self.is_stopping = False
 
@@ -82,12 +83,14 @@ class AgentRounds:
             self.log.say("plan", f"nothing new is deployed here: {unfit}" if unfit else "this machine is fit for the plan again")
 
     def _take_plan(self, plan: Plan) -> None:
+        """Takes the plan of this machine, which also has the revisions of the record: what is told is another plan of the fleet."""
+        text, self.told_plan = self.told_plan, self.machine.state.plan
         if self.controller is None:
             makers = Makers(lambda path, plan, log: FleetMemory(self.machine, path, plan, log),
                             lambda parts: FleetLines(self.machine, parts, self.agent.now))
             self.controller = Controller(self.files, plan, self.log, self.probes, makers)
         elif plan != self.controller.plan:
-            self.controller.take_plan(plan)
+            (self.controller.go_by if text == self.told_plan else self.controller.take_plan)(plan)
 
     def stop(self) -> None:
         """Cuts the round that runs short. Any thread may call it."""
