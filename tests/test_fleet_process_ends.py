@@ -3,6 +3,7 @@ import json
 import pathlib
 import subprocess
 import sys
+import threading
 import time
 import unittest
 from unittest import mock
@@ -11,14 +12,15 @@ from bg_switch_tools.controller.plan import PlannedRevision
 from bg_switch_tools.controller.process_groups import identity
 from bg_switch_tools.controller.state_file import State, StateFile
 from bg_switch_tools.fleet.agent_files import StateKeeper, machine_id, path_of
-from bg_switch_tools.fleet.agent_process import AgentArguments, clock, lease_seconds, start_faults
+from bg_switch_tools.fleet.agent_process import AgentArguments, AgentProcess, clock, lease_seconds, start_faults
 from bg_switch_tools.fleet.agent_rounds import ANSWER, CONNECT
 from bg_switch_tools.fleet.etcd_gateway import EtcdSettings
 from bg_switch_tools.fleet.fleet_file import FleetFile
 from bg_switch_tools.fleet.fleet_plan import MachineSettings
 from bg_switch_tools.fleet.machine_state import MachineState
+from bg_switch_tools.fleet.store import Store
 from tests.fleet_processes import FIT, LEASE, FleetProcessCase
-from tests.tool_runs import comes
+from tests.tool_runs import WAIT, comes
 
 
 class Ends(FleetProcessCase):
@@ -30,6 +32,30 @@ class Ends(FleetProcessCase):
         self.assertIn("ends; the switch continues", self.out.getvalue())
         self.assertFalse((self.folder / "state" / "web.a.agent").exists())
         self.assertFalse(process.has_fault)
+
+    def ends_in_a_refresh(self, process: AgentProcess, store: Store) -> None:
+        """No call that was begun before takes a lease again."""
+        self.await_that(lambda: "leader" in self.keys(), "it leads")
+        asked, refresh = threading.Event(), store.refresh
+
+        def slow(lease: int) -> int:
+            asked.set()
+            time.sleep(1)
+            return refresh(lease)
+        with mock.patch.object(store, "refresh", slow):
+            self.assertTrue(asked.wait(WAIT))
+            process.stop()
+            time.sleep(1.5)
+        self.assertEqual([name for name in self.keys() if name in ("leader", "machines/a")], [])
+        self.assertEqual(self.network.keys.leases, {})
+
+    def test_it_ends_while_the_lease_of_the_leader_is_refreshed(self) -> None:
+        process = self.begun()
+        self.ends_in_a_refresh(process, process.candidate.store)
+
+    def test_it_ends_while_the_lease_of_the_machine_is_refreshed(self) -> None:
+        process = self.begun()
+        self.ends_in_a_refresh(process, process.agent.store)
 
     def test_its_analysis_is_ended(self) -> None:
         process = self.begun()

@@ -22,15 +22,17 @@ from bg_switch_tools.fleet.etcd import EtcdStore
 from bg_switch_tools.fleet.fleet_file import FleetFile, missing_files
 from bg_switch_tools.fleet.fleet_plan import MachineSettings
 from bg_switch_tools.fleet.handover import Handover
-from bg_switch_tools.fleet.machine import Machine
+from bg_switch_tools.fleet.machine import FRESH, Machine
 from bg_switch_tools.fleet.rollout_settings import RolloutFile
 from bg_switch_tools.fleet.store import Store, StoreFault
 from bg_switch_tools.fleet.store_threads import Leading, StoreTurns, Watch
+from bg_switch_tools.fleet.time_limit import TimeLimit
 
 ENDED, UNFIT, TAKEN, FAULT = 0, 1, 5, 70  # exit statuses
 TURN = 0.3  # seconds
 LOOK = 0.05  # seconds between two looks at whether a signal has come
 LONGEST_END = 1.2  # seconds for the round to end after a signal
+LONGEST_CALLS = 2.0  # seconds for the calls of the store to end that were begun before
 LONGEST_REVOKE = 2.0  # seconds of a call that ends a lease
 CALLS = 3  # of the store, in the turn of a machine: each may take the whole timeout
 MakeStore = Callable[[float], Store]  # is given the seconds within which a call has to end
@@ -40,7 +42,7 @@ MakeStore = Callable[[float], Store]  # is given the seconds within which a call
 class AgentArguments:
     """How an agent is run. `state` is the path beside which it keeps its files, or a folder for them: left out, it is the folder of
     the state of systemd's unit, or else that of the fleet file. `round_seconds` are those between two reads of the store where no key
-    changes: above 0, and below a second, since no line goes forward by an older read."""
+    changes; more than one counts as one, since no line goes forward by an older read."""
     state: pathlib.Path | None = None
     round_seconds: float = TURN
     as_json: bool = False
@@ -62,6 +64,7 @@ class AgentProcess:
 
     def __init__(self, file: FleetFile, settings: MachineSettings, arguments: AgentArguments, log: Log, make_store: MakeStore) -> None:
         path, timeout = path_of(file, arguments.state), file.etcd.timeout
+        pause = min(arguments.round_seconds, FRESH)
         self.log = log
         self.make_store = make_store
         self.timeout = timeout
@@ -74,8 +77,8 @@ class AgentProcess:
         self.status = AgentStatusFile(path, AgentStatus(file.fleet, file.host, os.getpid()))
         self.stopping = threading.Event()
         self.handover = Handover()
-        self.turns = StoreTurns(self.agent, self.handover, arguments.round_seconds, self.stopping)
-        self.leading = Leading(self.candidate, arguments.round_seconds, self.stopping)
+        self.turns = StoreTurns(self.agent, self.handover, pause, self.stopping)
+        self.leading = Leading(self.candidate, pause, self.stopping)
         self.watch = Watch(make_store(timeout), self.turns, (self.turns.wake, self.leading.wake), self.stopping)
         self.read_at = self.lost_at = 0.0  # Unix times
         self.is_known = False  # whether the store has had the report of this machine
@@ -83,6 +86,7 @@ class AgentProcess:
         self.refusal = ""  # why this agent ends: another machine reports as its host
         self.has_fault = False
         self.round_thread = self._thread(self._run_rounds)
+        self.writing_threads = [self._thread(self.turns.run), self._thread(self.leading.run)]
 
     def _thread(self, run: Callable[[], None]) -> threading.Thread:
         """A thread whose exception, which nobody expects, ends the process."""
@@ -97,9 +101,8 @@ class AgentProcess:
         return threading.Thread(target=guarded, daemon=True)
 
     def start(self) -> None:
-        self.round_thread.start()
-        for run in (self.turns.run, self.leading.run, self.watch.run):
-            self._thread(run).start()
+        for thread in (self.round_thread, *self.writing_threads, self._thread(self.watch.run)):
+            thread.start()
 
     def _run_rounds(self) -> None:
         """Rounds at the switch, until the agent is stopped. They wait for no call of the store."""
@@ -144,12 +147,16 @@ class AgentProcess:
         self.stopping.set()
         self.rounds.stop()
         self.handover.end()
+        self.leading.may_lead.set()
         for wake in (self.turns.wake, self.leading.wake):
             wake.wake()
         self.round_thread.join(LONGEST_END)
         if self.round_thread.is_alive() or self.has_fault:
             self.rounds.end_at_once()
         self.rounds.probes.stop()
+        limit = TimeLimit(LONGEST_CALLS)
+        for thread in self.writing_threads:  # a call that ends after the lease would begin another one
+            thread.join(limit.rest())
         self._revoke()
 
     def _revoke(self) -> None:

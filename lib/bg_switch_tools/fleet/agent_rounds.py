@@ -28,6 +28,7 @@ class AgentRounds:
         self.log = log
         self.rollout = RolloutFile(self.machine.settings.rollout)
         self.rollout_faults: list[str] = []
+        self.unopened = ""  # why the switch can't be opened; empty where it can
         self.probes = Probes()
         self.silence = SwitchSilence(log, MINUTE)
         self.controller: Controller | None = None  # from the first plan on
@@ -51,7 +52,7 @@ class AgentRounds:
             if not self.is_stopping:
                 self.silence.begin(str(reason))
         except CannotOpen as reason:
-            self.machine.refusal = str(reason)
+            self.unopened = str(reason)
         finally:
             self.connection = None
         return (self.agent.text(report) if is_answered or self.machine.record else None), pause
@@ -65,6 +66,8 @@ class AgentRounds:
             if controller is None or report is None:
                 return report, ROUND
         pause = controller.do_round(connection)
+        if controller.book.latest:
+            self.unopened = ""
         return controller.book.latest, pause
 
     def _go_by_plan(self) -> None:
@@ -77,7 +80,7 @@ class AgentRounds:
             faults = [f"the plan does not fit this machine: {problem}" for problem in wrong.problems]
         plan_of_fleet = self.machine.fleet_plan
         self.rollout_faults = self.rollout.faults(plan_of_fleet is not None and "pre" in plan_of_fleet.analyses)
-        unfit = "; ".join(faults + self.rollout_faults)
+        unfit = "; ".join([*faults, *self.rollout_faults, *([self.unopened] if self.unopened else [])])
         if unfit != self.machine.unfit:
             self.machine.unfit = unfit
             self.log.say("plan", f"nothing new is deployed here: {unfit}" if unfit else "this machine is fit for the plan again")
