@@ -57,7 +57,7 @@ put_tools() {
     install -d "$root/${archive%/*}"
     make --no-print-directory --silent tools ARCHIVE="$root/$archive" > /dev/null
     chmod 644 "$root/$archive"
-    for tool in operator controller analysis dashboard; do
+    for tool in operator controller analysis dashboard fleet; do
         put_tool "$tool" "bg-$tool"
     done
     put_tool bgctl bgctl

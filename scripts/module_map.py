@@ -22,8 +22,8 @@ BELOW: Mapping[str, tuple[str, ...]] = {
     "switch": (),
     "controller": ("switch",),
     "analysis": ("switch",),
-    "fleet": ("switch", "controller", "analysis"),
     "operator": ("switch", "controller"),
+    "fleet": ("switch", "controller", "analysis", "operator"),
     "dashboard": ("switch",),
     "bgctl": ("switch", "controller", "analysis", "operator", "dashboard"),
 }

@@ -6,7 +6,7 @@ import os
 import sys
 from collections.abc import Sequence
 
-TOOLS = ("bgctl", "operator", "controller", "analysis", "dashboard")  # each a package
+TOOLS = ("bgctl", "operator", "controller", "analysis", "dashboard", "fleet")  # each a package
 
 
 def prepare_streams() -> None:
@@ -45,7 +45,7 @@ def main(words: Sequence[str]) -> int:
     """Runs the tool that the first word names. Gives the exit status."""
     if not words or words[0] not in TOOLS:
         prepare_streams()
-        print("name a tool first: bgctl, operator, controller, analysis or dashboard; its own words follow", file=sys.stderr)
+        print("name a tool first: bgctl, operator, controller, analysis, dashboard or fleet; its own words follow", file=sys.stderr)
         return 2
     return run(words[0], words[1:])
 
@@ -68,3 +68,7 @@ def analysis() -> int:
 
 def dashboard() -> int:
     return run("dashboard", sys.argv[1:])
+
+
+def fleet() -> int:
+    return run("fleet", sys.argv[1:])

@@ -10,9 +10,9 @@ from bg_switch_tools.switch.lines import meaning_of, was_carried_out, with_meani
 from bg_switch_tools.switch.reports import Revision
 
 
-def local_time() -> str:
-    """The local time with its zone, as ISO 8601 has it: 2026-11-25T18:03:12+01:00."""
-    text = time.strftime("%Y-%m-%dT%H:%M:%S%z")
+def local_time(seconds: float | None = None) -> str:
+    """The local time with its zone, as ISO 8601 has it: 2026-11-25T18:03:12+01:00. It is that of a Unix time, or of now."""
+    text = time.strftime("%Y-%m-%dT%H:%M:%S%z", time.localtime(seconds))
     return f"{text[:-2]}:{text[-2:]}"
 
 

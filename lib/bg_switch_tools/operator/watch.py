@@ -14,7 +14,7 @@ CLEAR = "\x1b[H\x1b[J"  # to the upper left corner, and empties the screen
 MOST_SEEN = 1000  # changes that are kept: no terminal has more rows
 
 
-def _fitting(lines: Sequence[str], seen: Sequence[str]) -> str:
+def fitting(lines: Sequence[str], seen: Sequence[str]) -> str:
     """The lines, and the last of the changes, as a terminal of this size holds them."""
     width, height = shutil.get_terminal_size()
     room = max(height - len(lines) - 2, 0)
@@ -42,7 +42,7 @@ def watch(port: int, wait: float) -> None:
         new = [] if is_first else dated(before, report)
         seen = (seen + new)[-MOST_SEEN:]
         if is_terminal:
-            print(CLEAR + _fitting(draw(report), seen), end="", flush=True)
+            print(CLEAR + fitting(draw(report), seen), end="", flush=True)
         elif is_first or new:
             print("\n".join(draw(report) + new) + "\n", flush=True)
         before, is_first = report, False
