@@ -2,7 +2,7 @@
 from bg_switch_tools.fleet.leader import votes_of
 from bg_switch_tools.fleet.person import Person, Refused, tell
 from bg_switch_tools.fleet.record import (ABORT, ABORTED, ATTEMPT, LEADER, ORDER, PLAN, PROMOTE, PROMOTING, PersonOrder, Record, View)
-from bg_switch_tools.fleet.status_text import attempt_title, plain
+from bg_switch_tools.fleet.status_text import NOT_BEGUN, attempt_title, plain
 from bg_switch_tools.fleet.store import Compare
 
 MOVED_ON = "the attempt, its plan or its order has changed since it was read; nothing was changed, and `status` shows how it stands"
@@ -34,7 +34,7 @@ def order_fault(view: View, order: str, attempt: int | None) -> str:
     stands for the one of this read. `Unreadable` where the record or the plan can't be read."""
     record, standing = view.record, view.order
     if record is None:
-        return "no attempt has begun"
+        return NOT_BEGUN
     if attempt is not None and attempt != record.id:
         return f"attempt {attempt} is not that of the fleet now: {attempt_title(record)} is {record.stage}"
     if not record.is_running:

@@ -10,7 +10,7 @@ from bg_switch_tools.fleet.fleet_plan import FleetPlan, machine_plan, missing_an
 from bg_switch_tools.fleet.person import Person, Refused, tell
 from bg_switch_tools.fleet.plan_change import plan_effect, plan_problems
 from bg_switch_tools.fleet.record import ABORTED, ATTEMPT, LEADER, PLAN, Record, Unreadable, View
-from bg_switch_tools.fleet.status_text import attempt_title
+from bg_switch_tools.fleet.status_text import NOT_BEGUN, attempt_title
 from bg_switch_tools.fleet.store import Compare
 from bg_switch_tools.fleet.undo_target import revision_to_undo_to
 from bg_switch_tools.switch.json_values import decoded
@@ -131,7 +131,7 @@ def _needed(view: View) -> tuple[FleetPlan, Record]:
     """The plan and the record of a fleet that has begun. `Refused` where there is none."""
     plan, record = view.plan, view.record
     if plan is None or record is None:
-        raise Refused("no plan was put" if plan is None else "no attempt has begun")
+        raise Refused("no plan was put" if plan is None else NOT_BEGUN)
     return plan, record
 
 

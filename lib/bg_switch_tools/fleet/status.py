@@ -9,8 +9,8 @@ from bg_switch_tools.fleet.store import Snapshot
 
 
 class MemberStatus(NamedTuple):
-    """A machine. `report` is None where it is away. `has_vote` says whether the attempt counts it, `awaited` the state that it has to
-    report before the fleet goes on; it is empty where nothing is awaited from it."""
+    """A machine. `report` is None where it is away. Without `has_vote` the attempt goes on without it. `awaited` is the state that it has
+    to report before the fleet goes on; it is empty where nothing is awaited from it."""
     host: str
     report: MachineReport | None
     has_vote: bool = True
@@ -30,14 +30,15 @@ class MemberStatus(NamedTuple):
 
 
 class FleetStatus(NamedTuple):
-    """How a fleet stands at a revision of the store. `plan_id` is the plan's `changed` revision (0: none was put). `leader` is the host
-    of the leader, and `wrote` whether it has written the record. `others` are the machines that report and are no members. `problem`
-    says what can't be read; what rests on it is left out."""
+    """How a fleet stands at a revision of the store. `plan_id` is the plan's `changed` revision (0: none was put). The plan waits where it
+    is not that of the attempt: a leader takes it up next. `leader` is the host of the leader, and `wrote` whether it has written the
+    record. `others` are the machines that report and are no members. `problem` says what can't be read; what rests on it is left out."""
     fleet: str
     revision: int
     record: Record | None
     plan_id: int
     plan: FleetPlan | None
+    plan_waits: bool
     leader: str
     wrote: bool
     order: PersonOrder | None
@@ -45,11 +46,6 @@ class FleetStatus(NamedTuple):
     others: tuple[MemberStatus, ...]
     awaited: tuple[str, ...]
     problem: str
-
-    @property
-    def plan_waits(self) -> bool:
-        """Whether the plan that stands is not that of the attempt: a leader takes it up next."""
-        return self.plan_id != 0 and (self.record is None or self.plan_id != self.record.id)
 
     def as_json(self) -> dict[str, object]:
         """The object of JSON that docs/FLEET.md describes. What is not known, or not there, is null."""
@@ -74,8 +70,9 @@ def _members(view: View, plan: FleetPlan | None, record: Record | None) -> tuple
         return tuple(MemberStatus(host, report, host not in record.missing, "" if report and report.state == FOLLOWS else FOLLOWS)
                      for host, report in reports.items())
     votes = votes_of(view, record)
-    awaited = {*votes.awaited, *(votes.missing if len(votes.missing) > plan.max_missing else ())}
-    return tuple(MemberStatus(host, report, host not in votes.missing, NEEDED[record.stage] if host in awaited else "")
+    too_many = [host for host in votes.missing if host not in record.missing] if len(votes.missing) > plan.max_missing else []
+    awaited = {*votes.awaited, *too_many}
+    return tuple(MemberStatus(host, report, host in awaited or host not in votes.missing, NEEDED[record.stage] if host in awaited else "")
                  for host, report in reports.items())
 
 
@@ -96,19 +93,20 @@ def _order(view: View) -> tuple[PersonOrder | None, str]:
 def status_of(fleet: str, snapshot: Snapshot) -> FleetStatus:
     """How the fleet of this name stands by a read."""
     view, problems = View(snapshot), list[str]()
-    record, plan, awaited = None, None, list[str]()
+    plan_id, plan_waits = view.changed(PLAN), False
+    record, plan = None, None
     try:
         record = view.record
+        plan_waits = plan_id != 0 and (record is None or plan_id != record.id)
     except Unreadable as reason:
         problems.append(str(reason))
     try:
         plan = view.plan
     except Unreadable as reason:
         problems.append(str(reason))
-    order, fault = _order(view)
     leader = view.key(LEADER)
-    if not problems:
-        awaited = ([] if leader else ["a leader"]) + awaited_of(snapshot)
+    awaited = [] if problems else [*([] if leader else ["a leader"]), *awaited_of(snapshot)]
     wrote = leader is not None and record is not None and leader.created == record.by
-    return FleetStatus(fleet, snapshot.revision, record, view.changed(PLAN), plan, leader.value if leader else "", wrote, order,
+    order, fault = _order(view)
+    return FleetStatus(fleet, snapshot.revision, record, plan_id, plan, plan_waits, leader.value if leader else "", wrote, order,
                        _members(view, plan, record), _others(view), tuple(awaited), "; ".join([*problems, *([fault] if fault else [])]))

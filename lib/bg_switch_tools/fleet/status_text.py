@@ -5,6 +5,8 @@ from bg_switch_tools.fleet.status import FleetStatus, MemberStatus
 
 TITLES = ("MEMBER", "STATE", "PHASE", "ACTIVE", "PREVIEW", "STABLE", "AWAITED", "REASON")
 REASON = TITLES.index("REASON")
+NOT_BEGUN = "no attempt has begun"
+UNKNOWN = "the attempt is not known"
 
 
 def plain(text: str) -> str:
@@ -28,7 +30,7 @@ def _since(record: Record) -> str:
 def _attempt(status: FleetStatus) -> list[str]:
     record = status.record
     if record is None:
-        return ["no attempt has begun"]
+        return [UNKNOWN if status.problem else NOT_BEGUN]
     by = f", by the leader {status.leader}" if status.wrote else ""
     back = f"goes back to {record.stable.name}" if record.is_running else f"stable {record.fleet_stable.name}"
     lines = [f"{attempt_title(record)}: {record.stage}{_since(record)}{by}; {back}"]
@@ -76,10 +78,10 @@ def draw(status: FleetStatus) -> list[str]:
 
 def in_one_line(status: FleetStatus) -> str:
     """The state in one line: the attempt, and what is awaited."""
-    record = status.record
-    attempt = f"{attempt_title(record)}: {record.stage}" if record else "no attempt has begun"
-    if record and record.reason:
-        attempt += f", {record.reason}"
+    record, problem = status.record, status.problem
+    attempt = f"{attempt_title(record)}: {record.stage}" if record else problem or NOT_BEGUN
+    if record:
+        attempt += "".join(f"{sign} {text}" for sign, text in ((",", record.reason), (";", problem)) if text)
     waits = f"; plan {status.plan_id} waits" if status.plan_waits else ""
     awaited = f"; awaited: {', '.join(status.awaited)}" if status.awaited else ""
     return plain(attempt + waits + awaited)
