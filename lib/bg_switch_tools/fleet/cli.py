@@ -1,10 +1,12 @@
 """bin/fleet: the agent of a machine, and the commands of a person for a whole fleet."""
 import argparse
+import importlib
 import json
 import os
 import pathlib
 import sys
 from collections.abc import Callable, Sequence
+from typing import Any
 
 from bg_switch_tools.controller.plan_author import login_name
 from bg_switch_tools.controller.plan_reader import WrongPlan
@@ -24,6 +26,7 @@ from bg_switch_tools.fleet.wait import wait_for
 from bg_switch_tools.fleet.watch import watch
 from bg_switch_tools.operator.conditions import WrongCondition
 
+AGENT = "bg_switch_tools.fleet.agent_process"
 StoreOf = Callable[[FleetFile], Store]
 
 
@@ -44,12 +47,13 @@ class FleetRun:
         return Person(login_name(), self.store_of(self.file), self.file.fleet, getattr(self.given, "yes", False))
 
     def agent(self) -> int:
-        from bg_switch_tools.fleet.agent_process import AgentArguments, run_agent  # here, since no other command needs its parts
         if self.file.machine is None:
             tell(f"{self.given.file} has no host and no control port, so it is not the fleet file of a machine")
             return WRONG_WORDS
+        process: Any = importlib.import_module(AGENT)  # here, since no other command needs its parts
         state = None if self.given.state is None else pathlib.Path(self.given.state)
-        return run_agent(self.file, AgentArguments(state=state, round_seconds=self.given.round))
+        status: int = process.run_agent(self.file, process.AgentArguments(state=state, round_seconds=self.given.round))
+        return status
 
     def status(self) -> int:
         person = self.person()
