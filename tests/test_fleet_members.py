@@ -41,7 +41,7 @@ class Added(Members):
     def test_while_an_attempt_runs(self) -> None:
         self.begin()
         self.report("working", "web-4")
-        self.assertEqual(self.fleet("members", "add", "web-4").told, "fleet: attempt 6 of web-v2 is deploying, and waits for web-4 too\n")
+        self.assertEqual(self.fleet("members", "add", "web-4").told, "fleet: attempt 6 of web-v2 is deploying, and counts web-4 too\n")
 
     def test_a_host_that_no_fleet_file_can_have(self) -> None:
         for host in ("Web-4", "web/4", "", "-4"):

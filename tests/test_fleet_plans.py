@@ -159,7 +159,7 @@ class Put(Plans):
 
     def test_at_a_terminal(self) -> None:
         self.begin()
-        question = "the attempt of web-v2 is aborted; web-v3 is deployed? [y/N] "
+        question = "the attempt of web-v2 is aborted; web-v3 is deployed. Put this plan? [y/N] "
         path = self.plan_file(V2, V3)
         self.assertEqual(self.fleet("plan", path, lines="n\n", at_terminal=True), ("", f"{question}fleet: nothing was changed\n", 1))
         self.assertEqual(self.names(), ["web-v1", "web-v2"])

@@ -33,7 +33,7 @@ class Outlooks(WithFleet):
         self.check_never("web-v2=successful", "attempt 6 of web-v2 is over: aborted, web-2: analysis post: failed")
         self.begin("successful")
         self.check_never("web-v2=aborted", "attempt 6 of web-v2 is over: successful")
-        self.check_never("web-v3=successful", "the plan deploys another revision: attempt 6 of web-v2 is successful")
+        self.check_never("web-v3=successful", "plan 6 deploys web-v2")
         self.begin("promoting")
         self.check_never("web-v2=ready", "attempt 6 of web-v2 is past it: promoting")
 
@@ -54,6 +54,17 @@ class Outlooks(WithFleet):
         self.put_record("successful", id=6)
         self.assertEqual(self.outlook("web-v2=successful"), MAY_COME)
         self.check_never("web-v1=successful", f"plan {plan_id} deploys web-v2")
+
+    def test_one_that_was_successful_before_another_plan_was_put(self) -> None:
+        self.begin("successful")
+        self.put_plan(V2, V3)
+        self.assertEqual(self.outlook("web-v2=successful"), HOLDS)
+        for stage in ("deploying", "promoting", "aborted"):
+            self.put_record(stage, V3, V2)
+            self.assertEqual(self.outlook("web-v2=successful"), HOLDS)
+            self.assertNotEqual(self.outlook("web-v2=aborted").never, "")
+        self.put_record("successful", V3, V2)
+        self.check_never("web-v2=successful", "plan 11 deploys web-v3")
 
     def test_an_attempt_that_another_plan_ends(self) -> None:
         self.begin()

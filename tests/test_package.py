@@ -15,7 +15,7 @@ UNITS = ("bg-switch", "bg-controller", "bg-dashboard")
 SOURCE = TOP / "crates" / "bg_command_line" / "src" / "command_line.rt"
 # The commands, with what each calls itself in its usage.
 PACKAGED_COMMANDS = {"bgctl": "bgctl", "bg-operator": "bin/operator", "bg-controller": "bin/controller", "bg-analysis": "bin/analysis",
-            "bg-dashboard": "bin/dashboard"}
+            "bg-dashboard": "bin/dashboard", "bg-fleet": "fleet"}
 KINDS_OF_CHANGE = ("Added", "Changed", "Deprecated", "Removed", "Fixed", "Security")
 # Descriptors for each worker, connections at each client port, operators at the control port, and what the switch has beside.
 FOR_A_WORKER, FOR_A_PORT, FOR_OPERATORS, OWN = 3, 1024, 1024, 64

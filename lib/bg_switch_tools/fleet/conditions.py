@@ -5,7 +5,7 @@ from collections.abc import Sequence
 from typing import Protocol
 
 from bg_switch_tools.fleet.leader import votes_of
-from bg_switch_tools.fleet.record import DEPLOYING, FOLLOWS, PLAN, PROMOTING, READY, STAGES, Record, Unreadable, View
+from bg_switch_tools.fleet.record import DEPLOYING, FOLLOWS, PLAN, PROMOTING, READY, STAGES, SUCCESSFUL, Record, Unreadable, View
 from bg_switch_tools.fleet.status_text import attempt_title
 from bg_switch_tools.fleet.store import Snapshot
 from bg_switch_tools.operator.conditions import HOLDS, MAY_COME, Outlook, WrongCondition
@@ -37,16 +37,23 @@ def _are_ready(view: View, record: Record) -> bool:
 
 @dataclasses.dataclass(frozen=True)
 class StageIs:
-    """The attempt of the plan that stands is that of the revision of this name, and is in this stage."""
+    """The attempt of the plan that stands is that of the revision of this name, and is in this stage. A revision that is the stable one
+    of the fleet was successful, also where the plan deploys another one by now."""
     name: str
     stage: str
 
     def outlook(self, view: View) -> Outlook:
-        plan, record = view.plan, view.record
-        if plan is None or record is None or record.id != view.changed(PLAN):
-            return self._outlook_of_plan(view)
-        if record.revision.name != self.name:
-            return Outlook(False, f"the plan deploys another revision: {attempt_title(record)} is {record.stage}")
+        plan, record, plan_id = view.plan, view.record, view.changed(PLAN)
+        if plan and plan.last.name != self.name:
+            # another plan can have been put between two reads
+            was = self.stage == SUCCESSFUL and record is not None and record.fleet_stable.name == self.name
+            return HOLDS if was else Outlook(False, f"plan {plan_id} deploys {plan.last.name}")
+        if plan is None or record is None:
+            return _not_begun(view)
+        return self._outlook(view, record) if record.id == plan_id else MAY_COME
+
+    def _outlook(self, view: View, record: Record) -> Outlook:
+        """The outlook by the attempt of the revision."""
         if self.stage == record.stage or self.stage == READY and _are_ready(view, record):
             return HOLDS
         if not record.is_running:
@@ -55,13 +62,6 @@ class StageIs:
         if self.stage in STEPS and STEPS.index(self.stage) < STEPS.index(record.stage):
             return Outlook(False, f"{attempt_title(record)} is past it: {record.stage}")
         return MAY_COME
-
-    def _outlook_of_plan(self, view: View) -> Outlook:
-        """The outlook until a leader has taken the plan up that stands."""
-        plan = view.plan
-        if plan and plan.last.name != self.name:
-            return Outlook(False, f"plan {view.changed(PLAN)} deploys {plan.last.name}")
-        return _not_begun(view) if view.record is None else MAY_COME
 
 
 @dataclasses.dataclass(frozen=True)

@@ -40,13 +40,13 @@ def add(person: Person, hosts: Sequence[str]) -> list[str]:
 
 
 def _tell_added(view: View, new: Sequence[str]) -> None:
-    """Tells what new members hold up."""
+    """Tells which new members are away, and which attempt counts them."""
     record = view.record
     for host in new:
         if view.machine(host) is None:
             tell(f"{host} is away: no agent reports as {host} yet")
     if new and record and record.is_running:
-        tell(f"{attempt_title(record)} is {record.stage}, and waits for {', '.join(new)} too")
+        tell(f"{attempt_title(record)} is {record.stage}, and counts {', '.join(new)} too")
 
 
 def _removal_fault(view: View, hosts: Sequence[str]) -> str:

@@ -98,7 +98,7 @@ class Putting(NamedTuple):
 
     def put(self, text: str, effect: str) -> str:
         """Asks, puts, and says which plan it is and what comes of it. `Refused` where a compared key has changed."""
-        self.person.agree(f"{effect}?")
+        self.person.agree(f"{effect}. Put this plan?")
         compares = [Compare(name, "changed", self.view.changed(name)) for name in self.compared]
         plan_id = self.person.store.write(compares, {PLAN: text})
         if plan_id is None:
