@@ -1,15 +1,17 @@
 """bin/fleet as a whole: its words, its exit statuses, what docs/FLEET.md says of both, and a session over a real etcd."""
 import json
+import pathlib
 import re
 import sys
 import types
 import unittest
-from typing import NamedTuple
+from typing import Any, NamedTuple
 from unittest import mock
 
 from bg_switch_tools.fleet import cli
 from bg_switch_tools.fleet.argument_parser import FLEET_COMMANDS, parser
 from bg_switch_tools.fleet.exit_statuses import TABLE
+from bg_switch_tools.fleet.fleet_file import FleetFile
 from bg_switch_tools.fleet.record import ABORT, ATTEMPT, LEADER, MACHINES, ORDER, PLAN, PROMOTE, MachineReport, Record, View
 from bg_switch_tools.fleet.store import StoreFault
 from support.processes import Run, run_to_end
@@ -58,7 +60,7 @@ class Words(WithFleet):
                             (("undo", "--to", "W"), "argument --to: 'W' is not a name: a name is 1 to 63 lower-case letters, digits and "
                                                     "hyphens, with no hyphen at its ends"),
                             (("status", "--jso"), "unrecognized arguments: --jso"),
-                            (("agent", "--round", "3"), "argument --round: a number of seconds from 0.05 to 2 is expected, and not '3'")):
+                            (("agent", "--round", "3"), "argument --round: a number of seconds from 0.05 to 0.9 is expected, and not '3'")):
             run = self.fleet(*words)
             self.assertEqual((run.printed, run.told.splitlines()[-1].partition("error: ")[2], run.status), ("", told, 2))
 
@@ -108,35 +110,30 @@ class Faults(WithFleet):
 
 class Given(NamedTuple):
     """What an agent is given."""
-    state: object
-    round_seconds: float
+    state: pathlib.Path | None = None
+    round_seconds: float = 0.3
+    as_json: bool = False
 
 
 class Agent(WithFleet):
-    """The command hands the file and its options to the process of the agent, and its exit status on."""
+    """The command hands the fleet file and its options to the process of the agent, and gives its exit status."""
 
-    def run_with(self, *words: str) -> tuple[Run, list[object]]:
-        given: list[object] = []
+    def run_with(self, *words: str) -> tuple[Run, list[tuple[str, Given]]]:
+        given: list[tuple[str, Given]] = []
 
-        def run_agent(file: object, arguments: object) -> int:
-            given.extend((file, arguments))
-            return 70
-        module = types.SimpleNamespace(run_agent=run_agent, AgentArguments=Given)
-        with mock.patch.dict(sys.modules, {cli.AGENT: module}):  # type: ignore[dict-item]
+        def run_agent(file: FleetFile, arguments: Given) -> int:
+            given.append((file.host, arguments))
+            return 5
+        module: Any = types.SimpleNamespace(run_agent=run_agent, AgentArguments=Given)
+        with mock.patch.dict(sys.modules, {cli.AGENT: module}):
             return self.fleet("agent", *words), given
 
-    def test_of_a_machine(self) -> None:
+    def test_what_it_is_given(self) -> None:
         told = {"fleet": "web", "etcd": ["127.0.0.1:2379"], "host": "web-1", "control": 8082}
         self.file = self.write_file("fleet.json", json.dumps(told))
-        run, given = self.run_with("--state", "/var/lib/bg", "--round", "0.5")
-        self.assertEqual((run, given[0].host, given[1]), (Run("", "", 70), "web-1", Given(mock.ANY, 0.5)))  # type: ignore[attr-defined]
-        self.assertEqual(str(given[1].state), "/var/lib/bg")  # type: ignore[attr-defined]
-        self.assertEqual(self.run_with()[1][1], Given(None, 0.2))
-
-    def test_of_a_person(self) -> None:
-        run, given = self.run_with()
-        self.assertEqual((run, given), (Run("", f"fleet: {self.file} has no host and no control port, so it is not the fleet file of a "
-                                                "machine\n", 2), []))
+        self.assertEqual(self.run_with("--state", "/var/lib/bg", "--round", "0.5", "--json"),
+                         (Run("", "", 5), [("web-1", Given(pathlib.Path("/var/lib/bg"), 0.5, True))]))
+        self.assertEqual(self.run_with(), (Run("", "", 5), [("web-1", Given())]))
 
 
 def check_whole_session(case: unittest.TestCase, fleet: "Person", agents: "Agents") -> None:

@@ -11,7 +11,7 @@ from bg_switch_tools.switch.json_values import NAME
 from bg_switch_tools.switch.lines import REFUSALS
 
 DESCRIPTION = "Rolls one plan out over the machines of a fleet, which agree by etcd."
-LEAST_ROUND, LONGEST_ROUND, ROUND = 0.05, 2.0, 0.2  # seconds
+LEAST_ROUND, LONGEST_ROUND = 0.05, 0.9  # seconds: no line goes forward by a read that is older than a second
 
 
 class FleetCommand(NamedTuple):
@@ -75,8 +75,10 @@ def _json(to: argparse.ArgumentParser) -> None:
 
 
 def _agent(to: argparse.ArgumentParser) -> None:
-    to.add_argument("--state", metavar="PATH", help="where the agent keeps what outlives a crash")
-    to.add_argument("--round", type=round_seconds, default=ROUND, metavar="SECONDS", help=f"the seconds between two rounds ({ROUND:g})")
+    to.add_argument("--state", metavar="PATH", help="the folder in which the agent keeps what outlives a crash, or the path before the "
+                    "endings of its files (the folder of the unit's state, or else that of the fleet file)")
+    to.add_argument("--round", type=round_seconds, metavar="SECONDS", help="the seconds between two reads where no key changes (0.3)")
+    to.add_argument("--json", action="store_true", help="writes each line of the log as an object of JSON")
 
 
 def _check(to: argparse.ArgumentParser) -> None:

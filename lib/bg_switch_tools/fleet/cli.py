@@ -47,12 +47,10 @@ class FleetRun:
         return Person(login_name(), self.store_of(self.file), self.file.fleet, getattr(self.given, "yes", False))
 
     def agent(self) -> int:
-        if self.file.machine is None:
-            tell(f"{self.given.file} has no host and no control port, so it is not the fleet file of a machine")
-            return WRONG_WORDS
         process: Any = importlib.import_module(AGENT)  # here, since no other command needs its parts
+        options: dict[str, object] = {} if self.given.round is None else {"round_seconds": self.given.round}
         state = None if self.given.state is None else pathlib.Path(self.given.state)
-        status: int = process.run_agent(self.file, process.AgentArguments(state=state, round_seconds=self.given.round))
+        status: int = process.run_agent(self.file, process.AgentArguments(state, as_json=self.given.json, **options))
         return status
 
     def status(self) -> int:
