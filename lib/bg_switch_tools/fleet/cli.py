@@ -35,6 +35,18 @@ def etcd_of(file: FleetFile) -> Store:
     return EtcdStore(file.etcd, file.fleet)
 
 
+class Changes:
+    """Tells a text where it is another one than the one before."""
+
+    def __init__(self) -> None:
+        self.before = ""
+
+    def tell(self, text: str) -> None:
+        if text != self.before:
+            tell(text)
+        self.before = text
+
+
 class FleetRun:
     """A run of one command."""
 
@@ -105,17 +117,14 @@ class FleetRun:
 
     def wait(self) -> int:
         """Waits. Each change meanwhile, and a store that gives no answer, is told on standard error."""
-        person, told = self.person(), [""]
-
-        def tell_once(text: str) -> None:
-            if text != told[-1]:
-                told.append(text)
-                tell(text)
+        person, changes = self.person(), Changes()
 
         def see(snapshot: Snapshot) -> None:
-            tell_once(in_one_line(status_of(person.fleet, snapshot)))
-        result = wait_for(person.store, FleetConditions(self.given.conditions), self.given.timeout, see,
-                          lambda fault: tell_once(str(fault)))
+            changes.tell(in_one_line(status_of(person.fleet, snapshot)))
+
+        def lose(fault: StoreFault) -> None:
+            changes.tell(str(fault))
+        result = wait_for(person.store, FleetConditions(self.given.conditions), self.given.timeout, see, lose)
         status = status_of(person.fleet, result.snapshot) if result.snapshot else None
         if self.given.json:
             print(json.dumps({"status": result.status, "reason": result.reason or None, "fleet": status.as_json() if status else None}))
