@@ -56,7 +56,7 @@ class Words(WithFleet):
         for words, told in ((("jump",), "argument COMMAND: invalid choice: 'jump' (choose from 'agent', 'status', 'watch', 'check', 'plan', "
                                        "'promote', 'abort', 'retry', 'undo', 'members', 'wait')"),
                             ((), "the following arguments are required: COMMAND"), (("plan",), "the following arguments are required: PLAN"),
-                            (("promote", "--attempt", "x"), "argument --attempt: a whole number is expected, and not 'x'"),
+                            (("promote", "--attempt", "x"), "argument --attempt: the id of an attempt is expected, as `status` shows it, and not 'x'"),
                             (("undo", "--to", "W"), "argument --to: 'W' is not a name: a name is 1 to 63 lower-case letters, digits and "
                                                     "hyphens, with no hyphen at its ends"),
                             (("status", "--jso"), "unrecognized arguments: --jso"),

@@ -63,6 +63,13 @@ class Put(Orders):
         self.assertEqual(self.fleet("abort", "--attempt", "7").status, 0)
         self.check_put(ABORT)
 
+    def test_an_attempt_of_an_etcd_that_is_used_a_lot(self) -> None:
+        self.keys.revision = 1 << 62
+        self.plan_id = self.put_plan(V1, V2)
+        self.begin()
+        self.assertEqual(self.fleet("abort", "--attempt", str(self.plan_id)).status, 0)
+        self.check_put(ABORT)
+
     def test_without_a_leader_it_stands(self) -> None:
         self.begin()
         self.delete(LEADER)

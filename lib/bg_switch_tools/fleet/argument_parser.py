@@ -6,10 +6,11 @@ from typing import NamedTuple
 from bg_switch_tools import VERSION
 from bg_switch_tools.fleet.conditions import CONDITION_SYNTAX
 from bg_switch_tools.fleet.exit_statuses import listed
-from bg_switch_tools.switch.arguments import count_of, seconds_of
+from bg_switch_tools.switch.arguments import seconds_of
 from bg_switch_tools.switch.json_values import NAME
 from bg_switch_tools.switch.lines import REFUSALS
 
+LONGEST_ID = 19  # digits of a revision of etcd
 DESCRIPTION = "Rolls one plan out over the machines of a fleet, which agree by etcd."
 LEAST_ROUND, LONGEST_ROUND = 0.05, 0.9  # seconds: no line goes forward by a read that is older than a second
 
@@ -28,8 +29,8 @@ FLEET_COMMANDS = (
     FleetCommand("watch", "draws the status, and again at each change, until ctrl-C"),
     FleetCommand("check", "judges a plan alone, without etcd"),
     FleetCommand("plan", "puts a plan, whose last revision is then deployed",
-                 "The plan is compared with the one that stands: a revision keeps its ports and its number of replicas. A plan that says "
-                 "the same as the one that stands changes nothing."),
+                 "The plan is compared with the one that stands: a revision keeps its ports and its number of replicas. A plan that "
+                 "says the same as the one that stands changes nothing."),
     FleetCommand("promote", "orders the promotion of an attempt whose members are all ready",
                  "It ends the pause of a plan with fleet.by_hand, and skips the rest of fleet.seconds."),
     FleetCommand("abort", "orders the abort of an attempt that runs: all machines go back", "It may take the place of a promote that no "
@@ -57,6 +58,12 @@ def revision_name(text: str) -> str:
     if not NAME.fullmatch(text):
         raise argparse.ArgumentTypeError(f"{text!r} is not a name: {REFUSALS['BadName']}")
     return text
+
+
+def attempt_id(text: str) -> int:
+    if not text.isascii() or not text.isdigit() or len(text) > LONGEST_ID:
+        raise argparse.ArgumentTypeError(f"the id of an attempt is expected, as `status` shows it, and not {text!r}")
+    return int(text)
 
 
 def round_seconds(text: str) -> float:
@@ -91,7 +98,7 @@ def _plan(to: argparse.ArgumentParser) -> None:
 
 
 def _order(to: argparse.ArgumentParser) -> None:
-    to.add_argument("--attempt", type=count_of, metavar="ID", help="the attempt that was seen: another one is refused")
+    to.add_argument("--attempt", type=attempt_id, metavar="ID", help="the attempt that was seen: another one is refused")
     _yes(to)
 
 
