@@ -176,10 +176,10 @@ def check_whole_session(case: unittest.TestCase, fleet: "Person", agents: "Agent
 
 
 class Person:
-    """Runs bin/fleet with a fleet file of its own."""
+    """Runs bin/fleet in this process, with a fleet file of its own. Its plans are in the folder of the cluster."""
 
-    def __init__(self, cluster: Cluster, *words: str, **members: object) -> None:
-        self.cluster, self.words = cluster, words
+    def __init__(self, cluster: Cluster, **members: object) -> None:
+        self.cluster = cluster
         told = {"fleet": FLEET, "etcd": [str(endpoint) for endpoint in cluster.endpoints], "timeout_seconds": 5, **members}
         self.file = cluster.folder / f"fleet-{id(self)}.json"
         self.file.write_text(json.dumps(told), encoding="ascii")
@@ -188,7 +188,9 @@ class Person:
         (self.cluster.folder / name).write_text(plan_text(*revisions, **members), encoding="ascii")  # type: ignore[arg-type]
 
     def run(self, *words: str) -> Run:
-        return run_to_end(["env", f"--chdir={self.cluster.folder}", str(TOOLS / "fleet"), str(self.file), *words], "", WAIT)
+        folder = f"{self.cluster.folder}/"
+        run = run_in_process(cli.main, str(self.file), *(folder + word if word.endswith(".json") else word for word in words))
+        return run._replace(printed=run.printed.replace(folder, ""))
 
 
 class Agents:
@@ -231,11 +233,12 @@ class ByRole(WithCluster):
         calls: list[tuple[str, dict[str, object]]] = [
             ("user/add", {"name": "root", "password": "secret"}), ("user/grant", {"user": "root", "role": "root"}),
             ("user/add", {"name": "person", "password": "hidden"}), ("user/add", {"name": "guest", "password": "hidden"}),
-            ("role/add", {"name": "people"}), *(("role/grant", {"name": "people", "perm": below(*perm)}) for perm in (
-                ("", "READ"), ("plan", "WRITE"), ("order", "WRITE"), ("members/", "WRITE"))),
-            ("user/grant", {"user": "person", "role": "people"}), ("auth/enable", {})]
+            ("role/add", {"name": "people"}), ("user/grant", {"user": "person", "role": "people"})]
+        for perm in (("", "READ"), ("plan", "WRITE"), ("order", "WRITE"), ("members/", "WRITE")):
+            calls.append(("role/grant", {"name": "people", "perm": below(*perm)}))
+        calls.append(("enable", {}))
         for path, message in calls:
-            answer = asked(endpoint, f"/v3/auth/{path.removeprefix('auth/')}", message)
+            answer = asked(endpoint, f"/v3/auth/{path}", message)
             self.assertNotIn("error", answer, path)
         for name in ("secret", "hidden", "wrong"):
             (self.cluster.folder / name).write_text(name, encoding="ascii")
@@ -290,7 +293,7 @@ class Away(unittest.TestCase):
         cluster.folder.mkdir(exist_ok=True)
         person = Person(cluster)  # type: ignore[arg-type]
         self.addCleanup(person.file.unlink)
-        self.assertEqual(person.run("status"), (
+        self.assertEqual(run_to_end([str(TOOLS / "fleet"), str(person.file), "status"], "", WAIT), (
             "", f"fleet: no endpoint of etcd gives an answer: {HOST}:{cluster.endpoints[0].port}: Connection refused\n", 4))
 
 

@@ -6,6 +6,7 @@ from unittest import mock
 from bg_switch_tools.fleet.conditions import FleetConditions
 from bg_switch_tools.fleet.record import ATTEMPT, MACHINES, MEMBERS, PLAN
 from bg_switch_tools.operator.conditions import HOLDS, MAY_COME, Outlook
+from support.processes import Run
 from tests.fleet_people import HOSTS, V1, V2, V3, WithFleet
 
 NEVER = "cannot hold unless another plan is put"
@@ -19,14 +20,15 @@ class Outlooks(WithFleet):
         self.assertEqual(self.outlook(text), Outlook(False, f"{text} {NEVER}: {why}"))
 
     def test_by_stage(self) -> None:
-        for stage, holding, coming in (("deploying", {"deploying"}, {"ready", "promoting", "successful", "aborted"}),
-                                       ("promoting", {"promoting"}, {"successful", "aborted"}),
-                                       ("successful", {"successful"}, set()), ("aborted", {"aborted"}, set())):
+        rows: tuple[tuple[str, tuple[str, ...]], ...] = (
+            ("deploying", ("ready", "promoting", "successful", "aborted")), ("promoting", ("successful", "aborted")),
+            ("successful", ()), ("aborted", ()))
+        for stage, coming in rows:
             self.begin(stage, "working")
             for awaited in ("deploying", "ready", "promoting", "successful", "aborted"):
                 with self.subTest(stage=stage, awaited=awaited):
                     outlook = self.outlook(f"web-v2={awaited}")
-                    self.assertEqual((outlook.holds, not outlook.holds and not outlook.never), (awaited in holding, awaited in coming))
+                    self.assertEqual((outlook.holds, not outlook.holds and not outlook.never), (awaited == stage, awaited in coming))
 
     def test_why_it_can_not_come(self) -> None:
         self.put_record("aborted", reason="web-2: analysis post: failed")
@@ -127,10 +129,14 @@ class Waits(WithFleet):
         pause.start()
         self.addCleanup(pause.stop)
 
+    def wait(self, *words: str) -> Run:
+        """A run that waits for some seconds at most, so that one that should end early is seen not to."""
+        return self.fleet("wait", *words, *(() if "--timeout" in words else ("--timeout", "5")))
+
     def test_until_it_is_successful(self) -> None:
         self.begin()
         self.store.during_waits = [lambda: self.begin("promoting", "testing"), lambda: self.begin("successful", "follows")]
-        self.assertEqual(self.fleet("wait", "web-v2=successful"), (
+        self.assertEqual(self.wait("web-v2=successful"), (
             "attempt 6 of web-v2: successful\n",
             "fleet: attempt 6 of web-v2: deploying; awaited: web-1: working, web-2: working, web-3: working\n"
             "fleet: attempt 6 of web-v2: promoting; awaited: web-1: testing, web-2: testing, web-3: testing\n"
@@ -139,40 +145,40 @@ class Waits(WithFleet):
     def test_until_it_was_aborted(self) -> None:
         self.begin()
         self.store.during_waits = [lambda: self.put_record("aborted", reason="ordered by bob")]
-        run = self.fleet("wait", "web-v2=successful")
+        run = self.wait("web-v2=successful")
         self.assertEqual((run.printed, run.status), ("", 1))
         self.assertEqual(run.told.splitlines()[-1], f"fleet: web-v2=successful {NEVER}: attempt 6 of web-v2 is over: aborted, ordered by bob")
 
     def test_until_the_time_is_over(self) -> None:
         self.begin()
-        run = self.fleet("wait", "web-v2=successful", "--timeout", "0.1")
+        run = self.wait("web-v2=successful", "--timeout", "0.1")
         self.assertEqual((run.printed, run.status), ("", 4))
         self.assertEqual(run.told.splitlines()[-1], "fleet: web-v2=successful does not hold after 0.1 seconds")
 
     def test_without_time_it_looks_once(self) -> None:
         self.begin("successful")
-        self.assertEqual(self.fleet("wait", "web-v2=successful", "--timeout", "0").status, 0)
-        self.assertEqual(self.fleet("wait", "web-v2=aborted", "--timeout", "0").status, 1)
+        self.assertEqual(self.wait("web-v2=successful", "--timeout", "0").status, 0)
+        self.assertEqual(self.wait("web-v2=aborted", "--timeout", "0").status, 1)
         self.begin()
-        self.assertEqual(self.fleet("wait", "web-v2=aborted", "--timeout", "0").status, 4)
+        self.assertEqual(self.wait("web-v2=aborted", "--timeout", "0").status, 4)
 
     def test_the_plan_was_put_just_before(self) -> None:
         """The attempt that was aborted before is not the one that is awaited."""
         self.begin("aborted", "follows")
         self.assertEqual(self.fleet("retry").status, 0)
         self.store.during_waits = [lambda: self.put_record("successful")]
-        self.assertEqual(self.fleet("wait", "web-v2=successful").status, 0)
+        self.assertEqual(self.wait("web-v2=successful").status, 0)
 
     def test_a_store_that_comes_back(self) -> None:
         self.begin("successful", "follows")
         self.store.is_cut = True
         with mock.patch("bg_switch_tools.fleet.wait.time.sleep", side_effect=lambda _: setattr(self.store, "is_cut", False)):
-            run = self.fleet("wait", "settled")
+            run = self.wait("settled")
         self.assertEqual(run, ("attempt 6 of web-v2: successful\n", "fleet: it is away\nfleet: attempt 6 of web-v2: successful\n", 0))
 
     def test_a_store_that_stays_away(self) -> None:
         self.store.is_cut = True
-        self.assertEqual(self.fleet("wait", "settled", "--timeout", "0.1"), (
+        self.assertEqual(self.wait("settled", "--timeout", "0.1"), (
             "", "fleet: it is away\nfleet: settled does not hold after 0.1 seconds: it is away\n", 4))
 
     def test_a_watch_that_is_lost_ends_nothing(self) -> None:
@@ -183,17 +189,17 @@ class Waits(WithFleet):
             self.store.is_cut = True
         self.store.during_waits = [cut]
         with mock.patch("bg_switch_tools.fleet.wait.time.sleep", side_effect=lambda _: setattr(self.store, "is_cut", False)):
-            self.assertEqual(self.fleet("wait", "settled").status, 0)
+            self.assertEqual(self.wait("settled").status, 0)
 
     def test_json(self) -> None:
         self.begin("aborted", "follows")
         for text, status in (("web-v2=aborted", 0), ("web-v2=successful", 1)):
-            run = self.fleet("wait", text, "--json")
+            run = self.wait(text, "--json")
             told = json.loads(run.printed)
             self.assertEqual((run.status, told["status"], told["fleet"]["attempt"]["stage"]), (status, status, "aborted"))
             self.assertEqual(told["reason"], None if status == 0 else f"{text} {NEVER}: attempt 6 of web-v2 is over: aborted")
         self.store.is_cut = True
-        self.assertEqual(json.loads(self.fleet("wait", "settled", "--json", "--timeout", "0").printed), {
+        self.assertEqual(json.loads(self.wait("settled", "--json", "--timeout", "0").printed), {
             "status": 4, "reason": "settled does not hold after 0 seconds: it is away", "fleet": None})
 
     def test_words_that_are_wrong(self) -> None:
@@ -202,10 +208,10 @@ class Waits(WithFleet):
                           ("Web=aborted", "Web=aborted: the name of a revision is needed before the =, such as web-v2"),
                           ("web-v2=succesful", "web-v2=succesful: a stage is needed after the =, one of deploying, ready, promoting, "
                                                "successful, aborted; the nearest is successful")):
-            run = self.fleet("wait", text)
+            run = self.wait(text)
             self.assertEqual((run.told.splitlines()[-1], run.status), (f"fleet: error: {why}", 2))
         self.assertEqual(self.fleet("wait").status, 2)
-        self.assertEqual(self.fleet("wait", "settled", "--timeout", "-1").status, 2)
+        self.assertEqual(self.wait("settled", "--timeout", "-1").status, 2)
 
 
 if __name__ == "__main__":

@@ -14,7 +14,7 @@ from bg_switch_tools.fleet import person_members, person_orders, person_plans
 from bg_switch_tools.fleet.argument_parser import FLEET_COMMAND_NAMES, parser
 from bg_switch_tools.fleet.conditions import FleetConditions
 from bg_switch_tools.fleet.etcd import EtcdStore
-from bg_switch_tools.fleet.exit_statuses import DONE, INTERRUPTED, NO_ANSWER, REFUSED, WRONG_WORDS
+from bg_switch_tools.fleet.exit_statuses import DONE, NO_ANSWER, REFUSED, WRONG_WORDS
 from bg_switch_tools.fleet.fleet_file import FleetFile, WrongFleetFile, read_whole_fleet_file
 from bg_switch_tools.fleet.person import Person, Refused, tell
 from bg_switch_tools.fleet.person_plans import CannotRead
@@ -24,6 +24,7 @@ from bg_switch_tools.fleet.status_text import draw, in_one_line
 from bg_switch_tools.fleet.store import Snapshot, Store, StoreFault
 from bg_switch_tools.fleet.wait import wait_for
 from bg_switch_tools.fleet.watch import watch
+from bg_switch_tools.operator.cli import INTERRUPTED
 from bg_switch_tools.operator.conditions import WrongCondition
 
 AGENT = "bg_switch_tools.fleet.agent_process"
