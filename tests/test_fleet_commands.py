@@ -148,22 +148,19 @@ def check_whole_session(case: unittest.TestCase, fleet: "Person", agents: "Agent
     check("plan plan.json", "plan N: the fleet begins: its stable revision is the one that is live, and web-v1 is deployed unless it is that "
           "one\n", 0, no_leader)
     agents.put("successful", V1, V1)
-    check("wait web-v1=successful settled --timeout 20", f"attempt {agents.plan_id} of web-v1: successful\n", 0,
-          f"fleet: attempt {agents.plan_id} of web-v1: successful\n")
+    check("wait web-v1=successful settled --timeout 20", f"attempt {agents.plan_id} of web-v1: successful\n")
     fleet.write_plan("plan.json", V1, V2, fleet={"by_hand": True})
     check("check plan.json", "plan.json is a plan of a fleet: it deploys web-v2\n")
     check("plan plan.json", "plan N: web-v2 is deployed\n")
     agents.put("deploying", V2, V1, "ready")
-    check("wait web-v2=ready", f"attempt {agents.plan_id} of web-v2: deploying; awaited: a person's promote\n", 0,
-          f"fleet: attempt {agents.plan_id} of web-v2: deploying; awaited: a person's promote\n")
+    check("wait web-v2=ready", f"attempt {agents.plan_id} of web-v2: deploying; waits for a person's promote\n")
     attempt = f"attempt {agents.plan_id} of web-v2"
     check(f"promote --attempt {agents.plan_id}", f"promote is ordered for {attempt}\n")
     case.assertEqual(json.loads(fleet.run("status", "--json").printed)["order"]["order"], PROMOTE)
     check("promote", "", 1, agents.told_by(f"the order promote for {attempt}, by NAME, stands already; no leader has answered it"))
     check("abort", f"abort is ordered for {attempt}\n")
     agents.put("aborted", V2, V1)
-    check("wait web-v2=successful", "", 1, f"fleet: {attempt}: aborted\nfleet: web-v2=successful cannot hold unless another plan is put: "
-          f"{attempt} is over: aborted\n")
+    check("wait web-v2=successful", "", 1, f"fleet: web-v2=successful cannot hold unless another plan is put: {attempt} is over: aborted\n")
     check("retry", "plan N: the attempt of web-v2, which was aborted, begins again\n")
     agents.put("successful", V2, V1)
     check("undo", "plan N: web-v1 is deployed again: the plan before names it too\n", 0,

@@ -13,7 +13,7 @@ NOT_BEGUN = """\
 fleet web: led by web-1
 no attempt has begun
 plan 6 waits for a leader: its last revision is web-v2
-awaited: web-1: a report; web-2: a report; web-3: a report
+waits for web-1: a report; web-2: a report; web-3: a report
    MEMBER  STATE  PHASE  ACTIVE  PREVIEW  STABLE  AWAITED  REASON
 ├─ web-1   away
 ├─ web-2   away
@@ -23,7 +23,7 @@ RUNNING = """\
 fleet web: led by web-1
 attempt 6 of web-v2: deploying since 2026-09-21T14:13:20+00:00, by the leader web-1; goes back to web-v1
 order: abort attempt 6, by bob; no leader has answered it
-awaited: web-2: working, deploy web-v2 9201 9202: refused PortsDiffer; web-3: is away
+waits for web-2: working, deploy web-v2 9201 9202: refused PortsDiffer; web-3: is away
    MEMBER  STATE               PHASE    ACTIVE  PREVIEW  STABLE  AWAITED  REASON
 ├─ web-1   ready               paused   web-v1  web-v2   web-v1
 ├─ web-2   working             scaling  web-v1  web-v2   web-v1  ready    deploy web-v2 9201 9202: refused PortsDiffer
@@ -34,7 +34,7 @@ ABORTED = """\
 fleet web: led by web-1
 attempt 6 of web-v2: aborted since 2026-09-21T14:13:20+00:00, by the leader web-1; stable web-v1
 reason: web-2: analysis post: failed
-awaited: web-2: working
+waits for web-2: working
    MEMBER  STATE    PHASE    ACTIVE  PREVIEW  STABLE  AWAITED  REASON
 ├─ web-1   follows  aborted  web-v1  web-v1   web-v1
 ├─ web-2   working  aborted  web-v1  web-v1   web-v1  follows
@@ -88,7 +88,7 @@ class Texts(Status):
         self.delete(LEADER)
         self.assertEqual(self.lines()[:4], [
             "fleet web: no leader", "attempt 6 of web-v2: successful since 2026-09-21T14:13:20+00:00; stable web-v2",
-            "plan 11 waits for a leader: its last revision is web-v3", "awaited: a leader"])
+            "plan 11 waits for a leader: its last revision is web-v3", "waits for a leader"])
 
     def test_another_leader_than_the_one_that_wrote(self) -> None:
         self.put_record("successful", time=0)
@@ -116,7 +116,7 @@ class Texts(Status):
     def test_a_fleet_without_a_member_and_without_a_plan(self) -> None:
         for name in (*(MEMBERS + host for host in HOSTS), PLAN):
             self.delete(name)
-        self.assertEqual(self.lines(), ["fleet web: led by web-1", "no attempt has begun", "no plan was put", "awaited: a plan",
+        self.assertEqual(self.lines(), ["fleet web: led by web-1", "no attempt has begun", "no plan was put", "waits for a plan",
                                         "the fleet has no member"])
 
     def test_what_can_not_be_read_is_said(self) -> None:
@@ -198,12 +198,12 @@ class OneLine(Status):
         return in_one_line(status_of("web", self.others.read()))
 
     def test_each_kind(self) -> None:
-        self.assertEqual(self.line(), "no attempt has begun; plan 6 waits; awaited: web-1: a report, web-2: a report, web-3: a report")
+        self.assertEqual(self.line(), "no attempt has begun; plan 6 waits; waits for web-1: a report, web-2: a report, web-3: a report")
         self.put_running()
         self.report("ready")
-        self.assertEqual(self.line(), "attempt 6 of web-v2: deploying; awaited: 0 seconds in which all are ready")
+        self.assertEqual(self.line(), "attempt 6 of web-v2: deploying; waits for 0 seconds in which all are ready")
         self.put_aborted()
-        self.assertEqual(self.line(), "attempt 6 of web-v2: aborted, web-2: analysis post: failed; awaited: web-2: working")
+        self.assertEqual(self.line(), "attempt 6 of web-v2: aborted, web-2: analysis post: failed; waits for web-2: working")
         self.put(ATTEMPT, "{}")
         self.assertEqual(self.line(), "the record of the attempt can't be read: its version is None, and this program knows version 1")
 

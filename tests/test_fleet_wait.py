@@ -135,12 +135,11 @@ class Waits(WithFleet):
 
     def test_until_it_is_successful(self) -> None:
         self.begin()
-        self.store.during_waits = [lambda: self.begin("promoting", "testing"), lambda: self.begin("successful", "follows")]
+        self.store.during_waits = [lambda: None, lambda: self.begin("promoting", "testing"), lambda: self.begin("successful", "follows")]
         self.assertEqual(self.wait("web-v2=successful"), (
             "attempt 6 of web-v2: successful\n",
-            "fleet: attempt 6 of web-v2: deploying; awaited: web-1: working, web-2: working, web-3: working\n"
-            "fleet: attempt 6 of web-v2: promoting; awaited: web-1: testing, web-2: testing, web-3: testing\n"
-            "fleet: attempt 6 of web-v2: successful\n", 0))
+            "fleet: attempt 6 of web-v2: deploying; waits for web-1: working, web-2: working, web-3: working\n"
+            "fleet: attempt 6 of web-v2: promoting; waits for web-1: testing, web-2: testing, web-3: testing\n", 0))
 
     def test_until_it_was_aborted(self) -> None:
         self.begin()
@@ -174,7 +173,7 @@ class Waits(WithFleet):
         self.store.is_cut = True
         with mock.patch("bg_switch_tools.fleet.wait.time.sleep", side_effect=lambda _: setattr(self.store, "is_cut", False)):
             run = self.wait("settled")
-        self.assertEqual(run, ("attempt 6 of web-v2: successful\n", "fleet: it is away\nfleet: attempt 6 of web-v2: successful\n", 0))
+        self.assertEqual(run, ("attempt 6 of web-v2: successful\n", "fleet: it is away\n", 0))
 
     def test_a_store_that_stays_away(self) -> None:
         self.store.is_cut = True

@@ -72,7 +72,7 @@ def draw(status: FleetStatus) -> list[str]:
     """The lines of a status: the attempt, what stands beside it, what is awaited, and a tree of the members."""
     head = [f"fleet {status.fleet}: {f'led by {status.leader}' if status.leader else 'no leader'}", *_attempt(status), *_plan(status),
             *_order(status), *([f"problem: {status.problem}"] if status.problem else []),
-            *([f"awaited: {'; '.join(status.awaited)}"] if status.awaited else [])]
+            *([f"waits for {'; '.join(status.awaited)}"] if status.awaited else [])]
     return [*map(plain, head), *_table(status)]
 
 
@@ -83,5 +83,5 @@ def in_one_line(status: FleetStatus) -> str:
     if record:
         attempt += "".join(f"{sign} {text}" for sign, text in ((",", record.reason), (";", problem)) if text)
     waits = f"; plan {status.plan_id} waits" if status.plan_waits else ""
-    awaited = f"; awaited: {', '.join(status.awaited)}" if status.awaited else ""
+    awaited = f"; waits for {', '.join(status.awaited)}" if status.awaited else ""
     return plain(attempt + waits + awaited)

@@ -32,8 +32,8 @@ def wait_for_change(store: Store, after: int, seconds: float) -> None:
 
 
 def wait_for(store: Store, conditions: FleetConditions, timeout: float, see: See, lose: Lose) -> WaitResult:
-    """Waits for conditions, for `timeout` seconds and the end of a call at most. `see` is given each read, and `lose` each fault of the
-    store, which does not end the wait."""
+    """Waits for conditions, for `timeout` seconds and the end of a call at most. `see` is given each read that does not end the wait,
+    and `lose` each fault of the store, which does not end it either."""
     deadline = time.monotonic() + timeout
     snapshot, fault = None, ""
     while True:
@@ -43,10 +43,10 @@ def wait_for(store: Store, conditions: FleetConditions, timeout: float, see: See
             fault = str(lost)
             lose(lost)
         else:
-            see(snapshot)
             outlook = conditions.outlook(snapshot)
             if outlook.holds or outlook.never:
                 return WaitResult(DONE if outlook.holds else REFUSED, outlook.never, snapshot)
+            see(snapshot)
         left = deadline - time.monotonic()
         if left <= 0:
             break
