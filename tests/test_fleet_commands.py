@@ -18,6 +18,7 @@ from support.processes import Run, run_to_end
 from tests.fleet_people import HOSTS, V1, V2, V3, WithFleet, plan_text
 from tests.real_etcd import HOST, Cluster, WithCluster, asked, in_base64, port_that_refuses
 from tests.store_checks import FLEET, PREFIX, store_at
+from tests.test_fleet_status import RUNNING
 from tests.tool_runs import TOOLS, TOP, WAIT, run_in_process
 
 PAGE = (TOP / "docs" / "FLEET.md").read_text(encoding="utf-8")
@@ -35,6 +36,9 @@ class Page(WithFleet):
         table = section("Commands").split("| Command | Meaning |\n", 1)[1].split("\n\n", 1)[0]
         names = re.findall(r"^\| `([a-z]+)", table, re.M)
         self.assertEqual(list(dict.fromkeys(names)), [command.name for command in FLEET_COMMANDS])
+
+    def test_the_status_of_an_attempt_that_runs(self) -> None:
+        self.assertIn(f"\n```\n{RUNNING}```\n", section("Commands"))
 
     def test_each_exit_status(self) -> None:
         rows = re.findall(r"^\| (\d+) \| (.*) \|$", section("Exit statuses"), re.M)

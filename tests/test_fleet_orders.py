@@ -102,6 +102,14 @@ class Refused(Orders):
             self.begin("successful")
             self.check_refused("attempt 7 of web-v2 is successful already; `undo` takes the revision before it again", order)
 
+    def test_after_an_attempt_while_a_plan_waits(self) -> None:
+        for stage, how in (("successful", "is successful"), ("aborted", "was aborted")):
+            self.put_plan(V1, V2)
+            self.put_record(stage)
+            record, plan_id = self.view.record, self.put_plan(V2, V3)
+            self.check_refused(f"attempt {record.id if record else 0} of web-v2 {how} already, and plan {plan_id} waits for a leader; `undo` takes "
+                               "the plan back", "abort")
+
     def test_an_attempt_that_has_moved_on(self) -> None:
         self.put_plan(V2, V3)
         self.put_record("deploying", V3, V2)

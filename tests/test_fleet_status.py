@@ -20,8 +20,8 @@ waits for web-1: a report; web-2: a report; web-3: a report
 └─ web-3   away
 """
 RUNNING = """\
-fleet web: led by web-1
-attempt 6 of web-v2: deploying since 2026-09-21T14:13:20+00:00, by the leader web-1; goes back to web-v1
+fleet web: led by web-1, stable web-v1
+attempt 6 of web-v2: deploying since 2026-09-21T14:13:20+00:00, by the leader web-1
 order: abort attempt 6, by bob; no leader has answered it
 waits for web-2: working, deploy web-v2 9201 9202: refused PortsDiffer; web-3: is away
    MEMBER  STATE               PHASE    ACTIVE  PREVIEW  STABLE  AWAITED  REASON
@@ -31,8 +31,8 @@ waits for web-2: working, deploy web-v2 9201 9202: refused PortsDiffer; web-3: i
 └─ web-9   follows, no member  paused   web-v1  web-v2   web-v1
 """
 ABORTED = """\
-fleet web: led by web-1
-attempt 6 of web-v2: aborted since 2026-09-21T14:13:20+00:00, by the leader web-1; stable web-v1
+fleet web: led by web-1, stable web-v1
+attempt 6 of web-v2: aborted since 2026-09-21T14:13:20+00:00, by the leader web-1
 reason: web-2: analysis post: failed
 waits for web-2: working
    MEMBER  STATE    PHASE    ACTIVE  PREVIEW  STABLE  AWAITED  REASON
@@ -74,7 +74,7 @@ class Texts(Status):
         self.report("follows", phase="steady", active="web-v2", stable="web-v2")
         run = self.fleet("status")
         self.assertEqual(run.printed.splitlines()[:3], [
-            "fleet web: led by web-1", "attempt 6 of web-v2: successful since 2026-09-21T14:13:20+00:00, by the leader web-1; stable web-v2",
+            "fleet web: led by web-1, stable web-v2", "attempt 6 of web-v2: successful since 2026-09-21T14:13:20+00:00, by the leader web-1",
             "   MEMBER  STATE    PHASE   ACTIVE  PREVIEW  STABLE  AWAITED  REASON"])
         self.assertEqual((run.told, run.status), ("", 0))
 
@@ -87,14 +87,14 @@ class Texts(Status):
         self.put_plan(V2, V3)
         self.delete(LEADER)
         self.assertEqual(self.lines()[:4], [
-            "fleet web: no leader", "attempt 6 of web-v2: successful since 2026-09-21T14:13:20+00:00; stable web-v2",
+            "fleet web: no leader, stable web-v2", "attempt 6 of web-v2: successful since 2026-09-21T14:13:20+00:00",
             "plan 11 waits for a leader: its last revision is web-v3", "waits for a leader"])
 
     def test_another_leader_than_the_one_that_wrote(self) -> None:
         self.put_record("successful", time=0)
         self.delete(LEADER)
         self.put(LEADER, "web-2")
-        self.assertEqual(self.lines()[:2], ["fleet web: led by web-2", "attempt 6 of web-v2: successful; stable web-v2"])
+        self.assertEqual(self.lines()[:2], ["fleet web: led by web-2, stable web-v2", "attempt 6 of web-v2: successful"])
 
     def test_a_member_that_the_attempt_goes_on_without(self) -> None:
         self.put_plan(V2, V3, fleet={"max_missing": 1})
@@ -143,7 +143,7 @@ class Texts(Status):
 
     def test_a_time_that_no_clock_has(self) -> None:
         self.put_record("aborted", time=(1 << 63) - 1)
-        self.assertEqual(self.lines()[1], "attempt 6 of web-v2: aborted, by the leader web-1; stable web-v1")
+        self.assertEqual(self.lines()[1], "attempt 6 of web-v2: aborted, by the leader web-1")
 
 
 class Json(Status):
@@ -201,7 +201,7 @@ class OneLine(Status):
         self.assertEqual(self.line(), "no attempt has begun; plan 6 waits; waits for web-1: a report, web-2: a report, web-3: a report")
         self.put_running()
         self.report("ready")
-        self.assertEqual(self.line(), "attempt 6 of web-v2: deploying; waits for 0 seconds in which all are ready")
+        self.assertEqual(self.line(), "attempt 6 of web-v2: deploying; waits for the leader")
         self.put_aborted()
         self.assertEqual(self.line(), "attempt 6 of web-v2: aborted, web-2: analysis post: failed; waits for web-2: working")
         self.put(ATTEMPT, "{}")

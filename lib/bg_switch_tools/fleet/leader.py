@@ -212,7 +212,8 @@ def awaited_of(snapshot: Snapshot) -> list[str]:
     if not votes.members:
         found.append("members")
     if not found and record.stage == DEPLOYING:
-        found = ["a person's promote"] if plan.by_hand else [f"{plan.seconds:g} seconds in which all are ready"]
+        found = ["a person's promote" if plan.by_hand else
+                 f"{plan.seconds:g} seconds in which all are ready" if plan.seconds else "the leader"]
     return found
 
 

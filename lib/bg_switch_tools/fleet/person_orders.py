@@ -8,11 +8,13 @@ from bg_switch_tools.fleet.store import Compare
 MOVED_ON = "the attempt, its plan or its order has changed since it was read; nothing was changed, and `status` shows how it stands"
 
 
-def _over(record: Record) -> str:
+def _over(view: View, record: Record) -> str:
     """Why an attempt that is over takes no order."""
-    if record.stage == ABORTED:
-        return f"{attempt_title(record)} was aborted already; `retry` begins it again"
-    return f"{attempt_title(record)} is {record.stage} already; `undo` takes the revision before it again"
+    how = "was aborted" if record.stage == ABORTED else f"is {record.stage}"
+    if view.changed(PLAN) != record.id:
+        return f"{attempt_title(record)} {how} already, and plan {view.changed(PLAN)} waits for a leader; `undo` takes the plan back"
+    hint = "`retry` begins it again" if record.stage == ABORTED else "`undo` takes the revision before it again"
+    return f"{attempt_title(record)} {how} already; {hint}"
 
 
 def _unready(view: View, record: Record) -> str:
@@ -38,7 +40,7 @@ def order_fault(view: View, order: str, attempt: int | None) -> str:
     if attempt is not None and attempt != record.id:
         return f"attempt {attempt} is not that of the fleet now: {attempt_title(record)} is {record.stage}"
     if not record.is_running:
-        return _over(record)
+        return _over(view, record)
     # an abort may take the place of a promote, since nothing else could hold that back
     if standing and standing.attempt == record.id and (standing.order, order) != (PROMOTE, ABORT):
         return f"the order {standing.order} for {attempt_title(record)}, by {plain(standing.by)}, stands already; no leader has answered it"

@@ -32,8 +32,7 @@ def _attempt(status: FleetStatus) -> list[str]:
     if record is None:
         return [UNKNOWN if status.problem else NOT_BEGUN]
     by = f", by the leader {status.leader}" if status.wrote else ""
-    back = f"goes back to {record.stable.name}" if record.is_running else f"stable {record.fleet_stable.name}"
-    lines = [f"{attempt_title(record)}: {record.stage}{_since(record)}{by}; {back}"]
+    lines = [f"{attempt_title(record)}: {record.stage}{_since(record)}{by}"]
     return lines + ([f"reason: {record.reason}"] if record.reason else [])
 
 
@@ -70,8 +69,10 @@ def _table(status: FleetStatus) -> list[str]:
 
 def draw(status: FleetStatus) -> list[str]:
     """The lines of a status: the attempt, what stands beside it, what is awaited, and a tree of the members."""
-    head = [f"fleet {status.fleet}: {f'led by {status.leader}' if status.leader else 'no leader'}", *_attempt(status), *_plan(status),
-            *_order(status), *([f"problem: {status.problem}"] if status.problem else []),
+    leader = f"led by {status.leader}" if status.leader else "no leader"
+    stable = f", stable {status.record.fleet_stable.name}" if status.record else ""
+    head = [f"fleet {status.fleet}: {leader}{stable}", *_attempt(status), *_plan(status), *_order(status),
+            *([f"problem: {status.problem}"] if status.problem else []),
             *([f"waits for {'; '.join(status.awaited)}"] if status.awaited else [])]
     return [*map(plain, head), *_table(status)]
 
