@@ -274,7 +274,7 @@ def commands() -> None:
     version, _ = told(["dpkg-query", "--show", "--showformat=${Version}", "bg-switch"])
     check("the version", told(["bg_switch", "--version"]), (f"bg_switch {version}", 0))
     names = [path.name for path in pathlib.Path("/usr/bin").glob("bg*") if path.name not in ("bg_switch", "bg")]
-    check("the commands", set(names) >= {"bgctl", "bg-operator", "bg-controller", "bg-analysis", "bg-dashboard"}, True)
+    check("the commands", set(names) >= {"bgctl", "bg-operator", "bg-controller", "bg-analysis", "bg-dashboard", "bg-fleet"}, True)
     for name in names:
         printed, status = told([name, "--help"])
         check(f"{name} --help", (status, "usage" in printed.lower()), (0, True))

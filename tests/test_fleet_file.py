@@ -77,7 +77,8 @@ class Good(unittest.TestCase):
 
 
     def test_the_file_of_the_page(self) -> None:
-        page = (TOP / "docs" / "FLEET.md").read_text(encoding="utf-8")
+        whole = (TOP / "docs" / "FLEET.md").read_text(encoding="utf-8")
+        page = whole.split("\n## The fleet file\n", 1)[1].split("\n## ", 1)[0]
         [text] = re.findall(r"```json\n(\{.*?)\n```", page, re.S)
         told = read_fleet_file(text.encode(), FOLDER)
         self.assertEqual((told.fleet, told.host, told.etcd.timeout), ("web", "web-3", 2.0))
