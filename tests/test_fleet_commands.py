@@ -10,8 +10,10 @@ from unittest import mock
 
 from bg_switch_tools.fleet import cli
 from bg_switch_tools.fleet.argument_parser import FLEET_COMMANDS, parser
+from bg_switch_tools.fleet.candidate import Candidate
 from bg_switch_tools.fleet.exit_statuses import TABLE
 from bg_switch_tools.fleet.fleet_file import FleetFile
+from bg_switch_tools.fleet.person_members import MOST_MEMBERS
 from bg_switch_tools.fleet.record import ABORT, ATTEMPT, LEADER, MACHINES, ORDER, PLAN, PROMOTE, MachineReport, Record, View
 from bg_switch_tools.fleet.store import StoreFault
 from support.processes import Run, run_to_end
@@ -218,6 +220,29 @@ class Agents:
 class OverEtcd(WithCluster):
     def test_a_whole_session(self) -> None:
         check_whole_session(self, Person(self.cluster), Agents(self.cluster))
+
+
+class WithAllMembers(WithCluster):
+    def test_as_many_as_a_fleet_may_have(self) -> None:
+        """The transactions of a person and of a leader are then the largest that they can be."""
+        person, store = Person(self.cluster), store_at(*self.cluster.endpoints)
+        hosts = [f"host-{number}" for number in range(MOST_MEMBERS)]
+        self.assertEqual(person.run("members", "add", *hosts).status, 0)
+        person.write_plan("plan.json", V1, V2)
+        self.assertEqual(person.run("plan", "plan.json").status, 0)
+        store.write([], {MACHINES + host: MachineReport("m", 0, "working", stable="web-v1").text() for host in hosts})
+        leader = Candidate("host-0", store, lambda *_: None)
+        self.assertTrue(leader.do_round())  # it leads
+        for name in ("web-v1", "web-v2"):
+            self.assertTrue(leader.do_round())
+            record = View(store.read()).record
+            self.assertEqual(record and record.revision.name, name)
+        plan_id = View(store.read()).changed(PLAN)
+        store.write([], {MACHINES + host: MachineReport("m", plan_id, "ready", stable="web-v1").text() for host in hosts})
+        self.assertEqual(person.run("promote").status, 0)
+        self.assertTrue(leader.do_round())
+        self.assertEqual(json.loads(person.run("status", "--json").printed)["attempt"]["stage"], "promoting")
+        self.assertEqual(person.run("members", "remove", *hosts[1:]).status, 0)
 
 
 class ByRole(WithCluster):
