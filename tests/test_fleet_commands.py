@@ -276,7 +276,10 @@ class ByRole(WithCluster):
                                  ("person", "wrong", "etcd refuses this: etcdserver: authentication failed, invalid user ID or password"),
                                  ("person", "none", f"the password of etcd's user can't be read from {self.cluster.folder}/none: No such "
                                                     "file or directory")):
-            self.assertEqual(Person(self.cluster, user=user, password_file=file).run("status"), ("", f"fleet: {told}\n", 4))
+            person = Person(self.cluster, user=user, password_file=file)
+            for words in (("status",), ("wait", "settled", "--timeout", "0"), ("members", "add", "web-1")):
+                self.assertIn(f"fleet: {told}\n", person.run(*words).told)
+                self.assertEqual(person.run(*words)[::2], ("", 4))
         self.assertEqual(Person(self.cluster).run("status"), ("", "fleet: etcd asks for a user and a password, and none are set\n", 4))
 
 

@@ -5,6 +5,7 @@ from unittest import mock
 
 from bg_switch_tools.fleet.conditions import FleetConditions
 from bg_switch_tools.fleet.record import ATTEMPT, MACHINES, MEMBERS, PLAN
+from bg_switch_tools.fleet.store import StoreRefusal
 from bg_switch_tools.operator.conditions import HOLDS, MAY_COME, Outlook
 from support.processes import Run
 from tests.fleet_people import HOSTS, V1, V2, V3, WithFleet
@@ -174,6 +175,10 @@ class Waits(WithFleet):
         with mock.patch("bg_switch_tools.fleet.wait.time.sleep", side_effect=lambda _: setattr(self.store, "is_cut", False)):
             run = self.wait("settled")
         self.assertEqual(run, ("attempt 6 of web-v2: successful\n", "fleet: it is away\n", 0))
+
+    def test_a_store_that_refuses_the_reads(self) -> None:
+        with mock.patch.object(self.store, "read", side_effect=StoreRefusal("etcd denies this to the user guest")):
+            self.assertEqual(self.wait("settled"), ("", "fleet: etcd denies this to the user guest\n", 4))
 
     def test_a_store_that_stays_away(self) -> None:
         self.store.is_cut = True

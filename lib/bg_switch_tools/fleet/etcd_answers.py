@@ -1,7 +1,7 @@
 """Answers of etcd's JSON gateway: their values, and what those mean that are no success."""
 import http
 
-from bg_switch_tools.fleet.store import StoreFault
+from bg_switch_tools.fleet.store import StoreRefusal
 from bg_switch_tools.fleet.timed_post import NoAnswer
 from bg_switch_tools.switch.json_values import JsonObject, decoded
 
@@ -18,7 +18,7 @@ NEEDS_TOKEN = (NO_TOKEN, "invalid auth token", "revision of auth store is old", 
 LONGEST_TOLD = 200  # characters of a text of etcd that are repeated
 
 
-class Refusal(StoreFault):
+class Refusal(StoreRefusal):
     """The cluster refuses a call, so that it has changed nothing. `code` is that of gRPC, `told` the text of etcd."""
 
     def __init__(self, text: str, code: int, told: str) -> None:

@@ -13,6 +13,10 @@ class StoreFault(Exception):
     A `write`, `grant` or `revoke` that ends so may have been carried out, since its answer can be lost: the caller reads again."""
 
 
+class StoreRefusal(StoreFault):
+    """The store refuses a call, and has changed nothing. It would refuse the call again until somebody changes the store, or who asks."""
+
+
 class Key(NamedTuple):
     """A key below the prefix, as a read gives it. `created` and `changed` are revisions of the store: those of the write that
     created the key, and of the write that changed it last."""

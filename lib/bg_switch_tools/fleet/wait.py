@@ -5,7 +5,7 @@ from typing import NamedTuple
 
 from bg_switch_tools.fleet.conditions import FleetConditions
 from bg_switch_tools.fleet.exit_statuses import DONE, NO_ANSWER, REFUSED
-from bg_switch_tools.fleet.store import Snapshot, Store, StoreFault
+from bg_switch_tools.fleet.store import Snapshot, Store, StoreFault, StoreRefusal
 
 PAUSE = 0.2  # seconds between two reads at least
 LONGEST_WATCH = 2.0  # seconds for which a change is awaited before the next read, since an event can be lost
@@ -14,8 +14,8 @@ Lose = Callable[[StoreFault], None]
 
 
 class WaitResult(NamedTuple):
-    """How a wait has ended: `DONE`, `REFUSED` where the conditions can't hold any more, `NO_ANSWER` where the time is over; the reason
-    of the latter two; the latest read."""
+    """How a wait has ended: `DONE`, `REFUSED` where the conditions can't hold any more, `NO_ANSWER` where the time is over or the store
+    refuses the reads; the reason of the latter two; the latest read."""
     status: int
     reason: str
     snapshot: Snapshot | None
@@ -33,12 +33,14 @@ def wait_for_change(store: Store, after: int, seconds: float) -> None:
 
 def wait_for(store: Store, conditions: FleetConditions, timeout: float, see: See, lose: Lose) -> WaitResult:
     """Waits for conditions, for `timeout` seconds and the end of a call at most. `see` is given each read that does not end the wait,
-    and `lose` each fault of the store, which does not end it either."""
+    and `lose` each fault of the store that is no refusal, which does not end it either."""
     deadline = time.monotonic() + timeout
     snapshot, fault = None, ""
     while True:
         try:
             snapshot, fault = store.read(), ""
+        except StoreRefusal as refusal:
+            return WaitResult(NO_ANSWER, str(refusal), snapshot)
         except StoreFault as lost:
             fault = str(lost)
             lose(lost)
