@@ -2,13 +2,12 @@
 import json
 import pathlib
 import re
-import sys
 import types
 import unittest
-from typing import Any, NamedTuple
 from unittest import mock
 
-from bg_switch_tools.fleet import cli
+from bg_switch_tools.fleet import agent_process, cli
+from bg_switch_tools.fleet.agent_process import AgentArguments
 from bg_switch_tools.fleet.argument_parser import FLEET_COMMANDS, parser
 from bg_switch_tools.fleet.candidate import Candidate
 from bg_switch_tools.fleet.exit_statuses import TABLE
@@ -114,32 +113,24 @@ class Faults(WithFleet):
             self.assertEqual(self.fleet("status"), ("\n", "", 130))
 
 
-class Given(NamedTuple):
-    """What an agent is given."""
-    state: pathlib.Path | None = None
-    round_seconds: float = 0.3
-    as_json: bool = False
-
-
 class Agent(WithFleet):
     """The command hands the fleet file and its options to the process of the agent, and gives its exit status."""
 
-    def run_with(self, *words: str) -> tuple[Run, list[tuple[str, Given]]]:
-        given: list[tuple[str, Given]] = []
+    def run_with(self, *words: str) -> tuple[Run, list[tuple[str, AgentArguments]]]:
+        given: list[tuple[str, AgentArguments]] = []
 
-        def run_agent(file: FleetFile, arguments: Given) -> int:
+        def run_agent(file: FleetFile, arguments: AgentArguments) -> int:
             given.append((file.host, arguments))
             return 5
-        module: Any = types.SimpleNamespace(run_agent=run_agent, AgentArguments=Given)
-        with mock.patch.dict(sys.modules, {cli.AGENT: module}):
+        with mock.patch.object(agent_process, "run_agent", run_agent):
             return self.fleet("agent", *words), given
 
     def test_what_it_is_given(self) -> None:
         told = {"fleet": "web", "etcd": ["127.0.0.1:2379"], "host": "web-1", "control": 8082}
         self.file = self.write_file("fleet.json", json.dumps(told))
         self.assertEqual(self.run_with("--state", "/var/lib/bg", "--round", "0.5", "--json"),
-                         (Run("", "", 5), [("web-1", Given(pathlib.Path("/var/lib/bg"), 0.5, True))]))
-        self.assertEqual(self.run_with(), (Run("", "", 5), [("web-1", Given())]))
+                         (Run("", "", 5), [("web-1", AgentArguments(pathlib.Path("/var/lib/bg"), 0.5, True))]))
+        self.assertEqual(self.run_with(), (Run("", "", 5), [("web-1", AgentArguments())]))
 
 
 def check_whole_session(case: unittest.TestCase, fleet: "Person", agents: "Agents") -> None:

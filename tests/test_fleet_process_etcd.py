@@ -11,7 +11,7 @@ import unittest
 from collections.abc import Sequence
 from unittest import mock
 
-from bg_switch_tools.fleet import agent_process
+from bg_switch_tools.fleet import exit_statuses
 from bg_switch_tools.fleet.etcd import EtcdStore
 from bg_switch_tools.fleet.etcd_gateway import EtcdSettings
 from bg_switch_tools.fleet.record import MachineReport, PersonOrder, View, read_machine_report
@@ -178,7 +178,7 @@ class Refusals(AgentCase):
         run = self.started(path)
         run.process.wait(WAIT)
         ended = run.wait()
-        self.assertEqual(ended.status, agent_process.UNFIT)
+        self.assertEqual(ended.status, exit_statuses.REFUSED)
         self.assertIn("autoPromotionEnabled is not false: the switch would promote by itself, before the fleet does", ended.told)
         self.assertEqual((self.switch.lines, list(self.store.read().keys)), ([], ["members/a"]))
 
@@ -187,7 +187,7 @@ class Refusals(AgentCase):
         second = self.started()
         second.process.wait(WAIT)
         ended = second.wait()
-        self.assertEqual((ended.status, ended.printed), (agent_process.UNFIT, ""))
+        self.assertEqual((ended.status, ended.printed), (exit_statuses.REFUSED, ""))
         self.assertIn(f"another agent of a runs here: process {first.process.pid} has the lock", ended.told)
 
     def test_a_second_agent_of_the_host(self) -> None:
@@ -195,7 +195,7 @@ class Refusals(AgentCase):
         second = self.started(self.fleet_file("other"), with_lease(1))
         second.process.wait(WAIT)
         ended = second.wait()
-        self.assertEqual(ended.status, agent_process.TAKEN)
+        self.assertEqual(ended.status, exit_statuses.TAKEN)
         self.assertRegex(ended.told, "^fleet: another machine reports as a: machines/a is of the machine ")
         self.assertIsNone(first.process.poll())
         self.assertEqual(self.own_lines(), ["open"])

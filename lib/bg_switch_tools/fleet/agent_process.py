@@ -19,6 +19,7 @@ from bg_switch_tools.fleet.agent_rounds import ANSWER, CONNECT, AgentRounds
 from bg_switch_tools.fleet.agent_status import AgentStatus, AgentStatusFile
 from bg_switch_tools.fleet.candidate import Candidate
 from bg_switch_tools.fleet.etcd import EtcdStore
+from bg_switch_tools.fleet.exit_statuses import DONE, FAULT, REFUSED, TAKEN
 from bg_switch_tools.fleet.fleet_file import FleetFile, missing_files
 from bg_switch_tools.fleet.fleet_plan import MachineSettings
 from bg_switch_tools.fleet.handover import Handover
@@ -28,7 +29,6 @@ from bg_switch_tools.fleet.store import Store, StoreFault
 from bg_switch_tools.fleet.store_threads import Leading, StoreTurns, Watch
 from bg_switch_tools.fleet.time_limit import TimeLimit
 
-ENDED, UNFIT, TAKEN, FAULT = 0, 1, 5, 70  # exit statuses
 TURN = 0.3  # seconds
 LOOK = 0.05  # seconds between two looks at whether a signal has come
 LONGEST_END = 1.2  # seconds for the round to end after a signal
@@ -186,20 +186,20 @@ def start_faults(file: FleetFile) -> list[str]:
 
 
 def run_agent(file: FleetFile, arguments: AgentArguments) -> int:
-    """Runs the agent of a machine until SIGTERM or ctrl-C. Gives the exit status: `ENDED`; `UNFIT` where the fleet file is none of a
+    """Runs the agent of a machine until SIGTERM or ctrl-C. Gives the exit status: `DONE`; `REFUSED` where the fleet file is none of a
     machine, where the Rollout lets its switch promote by itself, and where an agent runs here already; `TAKEN` where another machine
     reports as its host; `FAULT` after a fault of its own."""
     faults = start_faults(file)
     for fault in faults:
         tell(fault)
     if faults or file.machine is None:
-        return UNFIT
+        return REFUSED
     path = path_of(file, arguments.state)
     try:
         lock = StateLock(path, f"another agent of {file.host} runs here")
     except IsLocked as reason:
         tell(str(reason))
-        return UNFIT
+        return REFUSED
     except OSError as error:
         tell(f"the lock file beside {path} cannot be made, so a second agent is not noticed: {error.strerror}")
         return _run_locked(file, file.machine, arguments)
@@ -230,4 +230,4 @@ def _run_locked(file: FleetFile, settings: MachineSettings, arguments: AgentArgu
     if process.refusal:
         tell(process.refusal)
         return TAKEN
-    return ENDED
+    return DONE

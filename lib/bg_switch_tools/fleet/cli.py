@@ -1,12 +1,11 @@
 """bin/fleet: the agent of a machine, and the commands of a person for a whole fleet."""
 import argparse
-import importlib
+import dataclasses
 import json
 import os
 import pathlib
 import sys
 from collections.abc import Callable, Sequence
-from typing import Any
 
 from bg_switch_tools.controller.plan_author import login_name
 from bg_switch_tools.controller.plan_reader import WrongPlan
@@ -27,7 +26,6 @@ from bg_switch_tools.fleet.watch import watch
 from bg_switch_tools.operator.cli import INTERRUPTED
 from bg_switch_tools.operator.conditions import WrongCondition
 
-AGENT = "bg_switch_tools.fleet.agent_process"
 StoreOf = Callable[[FleetFile], Store]
 
 
@@ -60,11 +58,11 @@ class FleetRun:
         return Person(login_name(), self.store_of(self.file), self.file.fleet, getattr(self.given, "yes", False))
 
     def agent(self) -> int:
-        process: Any = importlib.import_module(AGENT)  # here, since no other command needs its parts
-        options: dict[str, object] = {} if self.given.round is None else {"round_seconds": self.given.round}
-        state = None if self.given.state is None else pathlib.Path(self.given.state)
-        status: int = process.run_agent(self.file, process.AgentArguments(state, as_json=self.given.json, **options))
-        return status
+        from bg_switch_tools.fleet.agent_process import AgentArguments, run_agent  # here, since no other command needs its parts
+        arguments = AgentArguments(None if self.given.state is None else pathlib.Path(self.given.state), as_json=self.given.json)
+        if self.given.round is not None:
+            arguments = dataclasses.replace(arguments, round_seconds=self.given.round)
+        return run_agent(self.file, arguments)
 
     def status(self) -> int:
         person = self.person()
