@@ -24,7 +24,7 @@ BELOW: Mapping[str, tuple[str, ...]] = {
     "analysis": ("switch",),
     "operator": ("switch", "controller"),
     "fleet": ("switch", "controller", "analysis", "operator"),
-    "dashboard": ("switch",),
+    "dashboard": ("switch", "fleet"),
     "bgctl": ("switch", "controller", "analysis", "operator", "dashboard"),
 }
 

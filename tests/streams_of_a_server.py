@@ -12,15 +12,17 @@ from unittest import mock
 
 from aiohttp import ClientSession, web
 
-from bg_switch_tools.dashboard import server
+from bg_switch_tools.dashboard import switch_pages
 from bg_switch_tools.dashboard.board import Board
+from bg_switch_tools.dashboard.server import application
+from bg_switch_tools.dashboard.switch_pages import SwitchPages
 from tests.fake_switch import FakeSwitch
 
 GREATEST_WAIT = 10.0  # seconds
 PAUSED = ("open web-v1 1 2", "available 1 2", "deploy web-v2 3 4", "available 2 2")
 
 
-async def read_nothing(looked_at: server.Server, port: int) -> socket.socket:
+async def read_nothing(looked_at: SwitchPages, port: int) -> socket.socket:
     """A stream whose client reads nothing is ended, once it is too far behind. Gives the client's end."""
     while looked_at.listeners:  # the page of before has gone, which its next update shows
         looked_at.take(None, None, False)
@@ -36,7 +38,7 @@ async def read_nothing(looked_at: server.Server, port: int) -> socket.socket:
     return client
 
 
-async def send_command(looked_at: server.Server, port: int) -> str:
+async def send_command(looked_at: SwitchPages, port: int) -> str:
     """A page is opened after an order: it finds it in its state, or in the update that follows."""
     address = f"http://localhost:{port}"
     async with ClientSession() as session:
@@ -56,14 +58,14 @@ async def send_command(looked_at: server.Server, port: int) -> str:
 
 async def look_on(control: int) -> str:
     """The first looks end by a fault, of which none ends the looks that follow."""
-    looked_at, faults = server.Server(Board(control, "", False)), [ValueError("planted"), ValueError("planted"), KeyError("planted")]
+    looked_at, faults = SwitchPages(Board(control, "", False)), [ValueError("planted"), ValueError("planted"), KeyError("planted")]
 
     def look() -> tuple[None, None]:
         if faults:
             raise faults.pop()
         return None, None
     traces = io.StringIO()
-    with mock.patch.object(looked_at, "look", look), mock.patch.object(server, "PAUSE", 0.01), contextlib.redirect_stderr(traces):
+    with mock.patch.object(looked_at, "look", look), mock.patch.object(switch_pages, "PAUSE", 0.01), contextlib.redirect_stderr(traces):
         task = asyncio.create_task(looked_at.look_always())
         while not any("looks at the switch again" in each["text"] for each in looked_at.board.happened):
             await asyncio.sleep(0.01)
@@ -76,9 +78,9 @@ async def main(port: int) -> None:
     switch = FakeSwitch("pause")
     for line in PAUSED:
         switch.book.answer(line)
-    looked_at = server.Server(Board(switch.port, "", False))
+    looked_at = SwitchPages(Board(switch.port, "", False))
     with mock.patch.object(looked_at, "look_always", lambda: asyncio.sleep(GREATEST_WAIT)):
-        runner = web.AppRunner(looked_at.application(), access_log=None)
+        runner = web.AppRunner(application(looked_at, None), access_log=None)
         await runner.setup()
     await web.TCPSite(runner, "127.0.0.1", port).start()
     print(await asyncio.wait_for(send_command(looked_at, port), GREATEST_WAIT))

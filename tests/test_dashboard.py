@@ -1,34 +1,25 @@
 """bin/dashboard before a fake switch, over HTTP: the page, its JSON and events, metrics, and orders that are refused."""
-import contextlib
-import http.client
 import json
 import os
 import pathlib
 import re
 import shutil
-import signal
 import socket
 import subprocess
 import sys
-import tempfile
 import time
 import unittest
 import zipapp
-from collections.abc import Iterator, Sequence
-from typing import NamedTuple
+from collections.abc import Sequence
 
 from bg_switch_tools import VERSION
 from bg_switch_tools.switch.access_log import LogEntry
+from tests.dashboard_runs import HAS_LIBRARIES, MISSING, PYTHON, Answer, WithDashboard
 from tests.fake_port import free_port
 from tests.fake_switch import FakeSwitch
 from tests.synthetic_log import ANSWERED, GrowingLog, Part, entries, refused
 from tests.tool_runs import TOOLS, TOP, WAIT, comes
 
-PYTHON = "/usr/bin/python3"
-LIBRARIES = "import aiohttp, prometheus_client"
-MISSING = "python3-aiohttp and python3-prometheus-client are not installed: apt-get install them to run this test"
-HAS_LIBRARIES = (shutil.which(PYTHON) is not None
-                 and subprocess.run([PYTHON, "-c", LIBRARIES], capture_output=True, check=False).returncode == 0)
 PAGE = TOP / "lib" / "bg_switch_tools" / "dashboard" / "page"
 # Metrics by their names, each with the one that it had before; counters without `_total`.
 OLD_NAMES = {
@@ -41,55 +32,22 @@ NO_COMMANDS = dict.fromkeys(("promote", "promote full", "abort", "retry"), False
 HOSTILE = '/"><script>alert(1)</script><img src=x onerror=alert(2)>'
 
 
-class Answer(NamedTuple):
-    """What a request was answered."""
-    status: int
-    headers: dict[str, str]
-    body: str
-
-    def told(self) -> dict[str, object]:
-        value = json.loads(self.body)
-        assert isinstance(value, dict)
-        return value
-
-
-class Dashboard(unittest.TestCase):
+class Dashboard(WithDashboard):
     """A fake switch that is paused at web-v2, a log, and a dashboard."""
     options: Sequence[str] = ()
 
     def setUp(self) -> None:
-        if not HAS_LIBRARIES:
-            self.skipTest(MISSING)
-        folder = tempfile.TemporaryDirectory()
-        self.addCleanup(folder.cleanup)
-        self.folder = pathlib.Path(folder.name)
+        super().setUp()
         self.switch = FakeSwitch("pause", "post")
         self.addCleanup(self.switch.kill)
         self.by_hand("open web-v1 1 2", "available 1 2", "deploy web-v2 3 4", "available 2 2")
         self.log = GrowingLog(self.folder / "access.log")
         self.log.add(self.now([Part(1, 7)]))
-        self.port = free_port()
         self.start([str(TOOLS / "dashboard")])
 
     def start(self, program: Sequence[str]) -> None:
         words = [*program, str(self.switch.port), "--listen", str(self.port), "--log", str(self.log.path), *self.options]
-        self.process = subprocess.Popen(words, stdout=subprocess.PIPE, stderr=subprocess.PIPE, text=True)
-        self.addCleanup(self.end)
-        self.assertTrue(comes(self.is_up))
-
-    def end(self) -> tuple[int, str]:
-        """Ends the dashboard. Gives its status and what it told on standard error."""
-        self.process.send_signal(signal.SIGTERM)
-        told = ""
-        with contextlib.suppress(ValueError):  # it was ended before
-            told = self.process.communicate(timeout=WAIT)[1]
-        return self.process.returncode, told
-
-    def is_up(self) -> bool:
-        try:
-            return "web-v1" in self.get("/api/state").body
-        except OSError:
-            return False
+        self.begin(words, "/api/state", "web-v1")
 
     def by_hand(self, *lines: str) -> None:
         for line in lines:
@@ -99,15 +57,6 @@ class Dashboard(unittest.TestCase):
     def now(parts: Sequence[Part]) -> list[LogEntry]:
         """Entries that end at this time."""
         return list(entries(parts, time.time() - 1, 1.0))
-
-    def get(self, path: str, method: str = "GET", body: str | None = None, **headers: str) -> Answer:
-        connection = http.client.HTTPConnection("127.0.0.1", self.port, timeout=WAIT)
-        try:
-            connection.request(method, path, body, {name.replace("_", "-"): value for name, value in headers.items()})
-            answer = connection.getresponse()
-            return Answer(answer.status, dict(answer.getheaders()), answer.read().decode())
-        finally:
-            connection.close()
 
     def state(self) -> dict[str, object]:
         return self.get("/api/state").told()
@@ -124,24 +73,6 @@ class Dashboard(unittest.TestCase):
         kept = {name: value for name, value in headers.items() if value}
         return self.get("/api/order", "POST", json.dumps({"order": line, "revision": revision}), **kept)
 
-    @contextlib.contextmanager
-    def events(self) -> Iterator[Iterator[tuple[str, dict[str, object]]]]:
-        """The events of a stream, as they come."""
-        connection = http.client.HTTPConnection("127.0.0.1", self.port, timeout=WAIT)
-        try:
-            connection.request("GET", "/api/events")
-            answer = connection.getresponse()
-            self.assertEqual((answer.status, answer.getheader("Content-Type")), (200, "text/event-stream; charset=utf-8"))
-
-            def each() -> Iterator[tuple[str, dict[str, object]]]:
-                while (line := answer.readline().decode()):
-                    data = answer.readline().decode()
-                    self.assertEqual(answer.readline(), b"\n")
-                    yield line.removeprefix("event: ").strip(), json.loads(data.removeprefix("data: "))
-            yield each()
-        finally:
-            connection.close()
-
 
 class Pages(Dashboard):
     def test_the_page_and_its_files(self) -> None:
@@ -149,7 +80,7 @@ class Pages(Dashboard):
         self.assertEqual((page.status, "{{" in page.body, len(self.token()) >= 40), (200, False, True))
         named = re.findall(r'(?:src|href)="([^"]+)"', page.body)
         self.assertIn("dashboard.js", named)
-        for name in [*named, "charts.js", "parts.js"]:
+        for name in [*named, "charts.js", "parts.js", "frame.js"]:
             answer = self.get(f"/{name.removeprefix('/')}")
             self.assertEqual((answer.status, answer.headers["X-Content-Type-Options"]), (200, "nosniff"), name)
         for path in ("/nothing", "/../server.py", "/index.html", "/page/index.html", "/%2e%2e/server.py"):

@@ -145,6 +145,8 @@ def _shutdown(to: argparse.ArgumentParser) -> None:
 
 
 def _dashboard(to: argparse.ArgumentParser) -> None:
+    to.add_argument("--fleet", default="", metavar="FLEET.json", help="the fleet file of a fleet, which has a page too")
+    to.add_argument("--agent-state", default="", metavar="PATH", help="where the agent of this machine keeps its files")
     to.add_argument("--listen", type=listened_port, required=True, metavar="PORT", help="the port of the page")
     to.add_argument("--log", default="", metavar="FILE", help="the access log of the switch, BG_SWITCH_ACCESS_LOG")
     to.add_argument("--read-only", action="store_true", help="the page has no buttons, and no line can be sent through it")

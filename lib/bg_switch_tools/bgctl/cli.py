@@ -104,7 +104,9 @@ class CommandRun:
 
     def dashboard(self) -> int:
         words = [str(self.target.port()), "--listen", str(self.given.listen), "--log", self.given.log]
-        return dashboard_cli.main([*words, *(["--read-only"] if self.given.read_only else [])])
+        fleet = ["--fleet", self.given.fleet] if self.given.fleet else []
+        fleet += ["--agent-state", self.given.agent_state] if self.given.agent_state else []
+        return dashboard_cli.main([*words, *fleet, *(["--read-only"] if self.given.read_only else [])])
 
     def run(self) -> int:
         """Carries the command out. Gives the exit status."""

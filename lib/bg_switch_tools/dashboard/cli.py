@@ -1,19 +1,23 @@
-"""bin/dashboard: shows a running switch as a web page, and gives its metrics."""
+"""bin/dashboard: shows a running switch, a fleet or both as web pages, and gives their metrics."""
 import argparse
 import os
 import sys
 from collections.abc import Sequence
 
 from bg_switch_tools.dashboard.board import Board
+from bg_switch_tools.dashboard.fleet_agent import local_agent
+from bg_switch_tools.fleet.fleet_file import FleetFile, WrongFleetFile, read_whole_fleet_file
 from bg_switch_tools.switch.arguments import numbered_port, port_of
 
-USAGE = "bin/dashboard PORT --listen PORT [--log FILE] [--read-only]"
-ABOUT = """Shows the switch at a control port as a web page at http://127.0.0.1:LISTEN/, its metrics at /metrics, and its state as
-JSON at /api/state and /api/events. It listens on 127.0.0.1 alone."""
+USAGE = "bin/dashboard [PORT] [--fleet FLEET.json] [--agent-state PATH] --listen PORT [--log FILE] [--read-only]"
+ABOUT = """Shows the switch at a control port as a web page at http://127.0.0.1:LISTEN/, a fleet at http://127.0.0.1:LISTEN/fleet, their
+metrics at /metrics, and their state as JSON at /api/state and /api/events, /api/fleet and /api/fleet/events. PORT, --fleet or
+both say what is shown. It listens on 127.0.0.1 alone."""
 END = """
 It needs aiohttp and prometheus_client: apt-get install python3-aiohttp python3-prometheus-client. docs/DASHBOARD.md has the rest.
 
-Exit status: 0 after SIGTERM or ctrl-C; 1 if the port cannot be used or a library is missing; 2 if the words are wrong.
+Exit status: 0 after SIGTERM or ctrl-C; 1 if the port cannot be used, the fleet file is wrong, or a library is missing; 2 if the
+words are wrong.
 """
 PACKAGES = {"aiohttp": "python3-aiohttp", "prometheus_client": "python3-prometheus-client"}
 
@@ -25,15 +29,35 @@ def listened_port(text: str) -> int:
 def parser() -> argparse.ArgumentParser:
     made = argparse.ArgumentParser(prog="dashboard", usage=USAGE, description=ABOUT, epilog=END,
                                    formatter_class=argparse.RawDescriptionHelpFormatter)
-    made.add_argument("port", type=port_of, metavar="PORT", help="the control port of the switch")
+    made.add_argument("port", type=port_of, nargs="?", metavar="PORT", help="the control port of the switch")
+    made.add_argument("--fleet", default="", metavar="FLEET.json", help="the fleet file of the fleet, which needs no machine")
+    made.add_argument("--agent-state", default="", metavar="PATH",
+                      help="where the agent of this machine keeps its files, if that is not the folder of the fleet file")
     made.add_argument("--listen", type=listened_port, required=True, metavar="PORT", help="the port of the page")
     made.add_argument("--log", default="", metavar="FILE", help="the access log of the switch, BG_SWITCH_ACCESS_LOG")
     made.add_argument("--read-only", action="store_true", help="the page has no buttons, and no line can be sent through it")
     return made
 
 
+def judge(made: argparse.ArgumentParser, given: argparse.Namespace) -> None:
+    """Ends with status 2 where the words say nothing that can be shown."""
+    if given.port is None and not given.fleet:
+        made.error("name what is shown: the control port of a switch, a fleet file with --fleet, or both")
+    if given.port is None and given.log:
+        made.error("--log is the access log of a switch: name its control port too")
+    if given.agent_state and (given.port is None or not given.fleet):
+        made.error("--agent-state is of the agent of a switch: name its control port and the fleet file too")
+
+
+def fleet_file(path: str) -> FleetFile | None:
+    """The fleet file of a path; None where none is named. `WrongFleetFile` where it is none."""
+    return read_whole_fleet_file(path) if path else None
+
+
 def main(words: Sequence[str]) -> int:
-    given = parser().parse_args(words)
+    made = parser()
+    given = made.parse_args(words)
+    judge(made, given)
     try:
         # here, so that the other tools need no more than python's standard library
         from bg_switch_tools.dashboard import server
@@ -45,7 +69,14 @@ def main(words: Sequence[str]) -> int:
               "/usr/bin/python3", file=sys.stderr)
         return 1
     try:
-        server.run(Board(given.port, given.log, given.read_only), given.listen)
+        board = None if given.port is None else Board(given.port, given.log, given.read_only)
+        file = fleet_file(given.fleet)
+        agent = local_agent(file, given.agent_state) if file and board else None
+        server.run(board, file, agent, given.listen)
+    except WrongFleetFile as wrong:
+        for problem in wrong.problems:
+            print(f"dashboard: {given.fleet}: {problem}", file=sys.stderr)
+        return 1
     except OSError as error:
         print(f"dashboard: port {given.listen} cannot be used: {os.strerror(error.errno or 0)}", file=sys.stderr)
         return 1

@@ -1,15 +1,14 @@
 """The metrics of a board, as `prometheus_client` writes them. docs/DASHBOARD.md lists them."""
-from collections.abc import Iterable, Iterator, Mapping, Sequence
+from collections.abc import Iterator, Mapping
 
-import prometheus_client
-from prometheus_client.core import CounterMetricFamily, GaugeMetricFamily, HistogramMetricFamily, Metric
+from prometheus_client.core import HistogramMetricFamily, Metric
 
 from bg_switch_tools.dashboard.alarms import without_endpoint
 from bg_switch_tools.dashboard.board import Board
+from bg_switch_tools.dashboard.metric_families import by_label, counter, gauge, gauges
 from bg_switch_tools.dashboard.totals import Labels, Totals
 from bg_switch_tools.switch.reports import PHASES, SERVICES, Report
 
-CONTENT_TYPE = prometheus_client.CONTENT_TYPE_LATEST
 # The phases of Argo Rollouts.
 ARGO_PHASES = {"steady": "Healthy", "aborted": "Degraded", "paused": "Paused"}
 LABELS = list(Labels._fields)
@@ -24,30 +23,6 @@ OLD_NAMES = {
     "bg_switch_http_requests": "nginx_http_requests",
     "bg_switch_http_request_duration_seconds": "nginx_ingress_controller_request_duration_seconds",
     "bg_switch_http_response_duration_seconds": "nginx_ingress_controller_response_duration_seconds"}
-Values = Iterable[tuple[Sequence[str], float]]
-
-
-def _gauge(name: str, text: str, value: float) -> Metric:
-    return GaugeMetricFamily(name, text, value)
-
-
-def _gauges(name: str, text: str, labels: Sequence[str], values: Values) -> Metric:
-    made = GaugeMetricFamily(name, text, labels=list(labels))
-    for each, number in values:
-        made.add_metric(each, number)
-    return made
-
-
-def _by(name: str, text: str, label: str, values: Mapping[str, float]) -> Metric:
-    """A gauge with one label."""
-    return _gauges(name, text, [label], [([value], number) for value, number in values.items()])
-
-
-def _counter(name: str, text: str, labels: Sequence[str], values: Values) -> Metric:
-    made = CounterMetricFamily(name, text, labels=list(labels))
-    for each, number in values:
-        made.add_metric(each, number)
-    return made
 
 
 def _histogram(name: str, text: str, totals: Totals, of_upstream: bool) -> Metric:
@@ -63,7 +38,7 @@ def _of_revisions(report: Report) -> Iterator[Metric]:
     revisions = report.revisions.values()
 
     def each(name: str, text: str, values: Mapping[str, float]) -> Metric:
-        return _by(name, text, "revision", values)
+        return by_label(name, text, "revision", values)
     yield each("bg_switch_replicas_desired", "Desired endpoints of the revision.", {one.name: one.desired for one in revisions})
     yield each("bg_switch_replicas_available", "Endpoints of the revision that can take requests.",
                {one.name: one.available for one in revisions})
@@ -78,44 +53,44 @@ def _of_revisions(report: Report) -> Iterator[Metric]:
 
 
 def _of_report(report: Report) -> Iterator[Metric]:
-    yield _gauges("bg_switch_rollout_info", "The strategy and the phase, in the words of Argo Rollouts.", ["strategy", "phase"],
-                  [(["blueGreen", ARGO_PHASES.get(report.phase, "Progressing")], 1)])
-    yield _by("bg_switch_phase", "The phase: 1 for the one that the switch is in.", "phase",
-              {phase: phase == report.phase for phase in PHASES})
-    yield _gauges("bg_switch_selected", "The revision that is selected, 1 for each.", ["service", "revision"],
-                  [([service, report.service(service).name], 1) for service in SERVICES])
-    yield _by("bg_switch_service_without_endpoint", "Whether no endpoint is up of the revision that the service selects.", "service",
-              without_endpoint(report))
-    yield _gauge("bg_switch_moment_seconds", "The moment of the switch, in seconds from its start.", report.moment)
+    yield gauges("bg_switch_rollout_info", "The strategy and the phase, in the words of Argo Rollouts.", ["strategy", "phase"],
+                 [(["blueGreen", ARGO_PHASES.get(report.phase, "Progressing")], 1)])
+    yield by_label("bg_switch_phase", "The phase: 1 for the one that the switch is in.", "phase",
+                   {phase: phase == report.phase for phase in PHASES})
+    yield gauges("bg_switch_selected", "The revision that is selected, 1 for each.", ["service", "revision"],
+                 [([service, report.service(service).name], 1) for service in SERVICES])
+    yield by_label("bg_switch_service_without_endpoint", "Whether no endpoint is up of the revision that the service selects.", "service",
+                   without_endpoint(report))
+    yield gauge("bg_switch_moment_seconds", "The moment of the switch, in seconds from its start.", report.moment)
     yield from _of_revisions(report)
 
 
 def _of_requests(totals: Totals) -> Iterator[Metric]:
-    yield _counter("bg_switch_http_requests", "Requests that ended.", LABELS,
-                   [(labels, counted.requests) for labels, counted in totals.items()])
-    yield _counter("bg_switch_response_bytes", "Bytes of responses.", LABELS,
-                   [(labels, counted.bytes) for labels, counted in totals.items()])
-    yield _counter("bg_switch_redispatched_requests", "Requests of which another endpoint was dialled than that of their slot.",
-                   LABELS, [(labels, counted.redispatched) for labels, counted in totals.items()])
-    yield _counter("bg_switch_connect_retries", "Connects to endpoints after the first one of each request.", LABELS,
-                   [(labels, counted.retries) for labels, counted in totals.items()])
+    yield counter("bg_switch_http_requests", "Requests that ended.", LABELS,
+                  [(labels, counted.requests) for labels, counted in totals.items()])
+    yield counter("bg_switch_response_bytes", "Bytes of responses.", LABELS,
+                  [(labels, counted.bytes) for labels, counted in totals.items()])
+    yield counter("bg_switch_redispatched_requests", "Requests of which another endpoint was dialled than that of their slot.",
+                  LABELS, [(labels, counted.redispatched) for labels, counted in totals.items()])
+    yield counter("bg_switch_connect_retries", "Connects to endpoints after the first one of each request.", LABELS,
+                  [(labels, counted.retries) for labels, counted in totals.items()])
     yield _histogram("bg_switch_http_request_duration_seconds", "From the connection of a client to its end.", totals, False)
     yield _histogram("bg_switch_http_response_duration_seconds", "From the dial of an endpoint to its response.", totals, True)
 
 
 def _of_board(board: Board) -> Iterator[Metric]:
     totals = board.totals
-    yield _gauge("bg_switch_up", "Whether the switch answers at its control port.", not board.fault)
+    yield gauge("bg_switch_up", "Whether the switch answers at its control port.", not board.fault)
     if board.report and not board.fault:
         yield from _of_report(board.report)
-    yield _counter("bg_switch_rollout_events", "Changes, by the reason of the event of Argo Rollouts.", ["reason"],
-                   [([reason], count) for reason, count in totals.events.items()])
+    yield counter("bg_switch_rollout_events", "Changes, by the reason of the event of Argo Rollouts.", ["reason"],
+                  [([reason], count) for reason, count in totals.events.items()])
     yield from _of_requests(totals)
-    yield _counter("bg_switch_log_lines_lost", "Lines that the switch could not write into its log.", [], [([], totals.lost)])
-    yield _counter("bg_switch_log_lines_unreadable", "Lines of the log that the dashboard could not read.", [],
-                   [([], totals.unreadable)])
-    yield _counter("bg_switch_dashboard_faults", "Looks of the dashboard that ended by a fault of its own.", [],
-                   [([], board.own_faults)])
+    yield counter("bg_switch_log_lines_lost", "Lines that the switch could not write into its log.", [], [([], totals.lost)])
+    yield counter("bg_switch_log_lines_unreadable", "Lines of the log that the dashboard could not read.", [],
+                  [([], totals.unreadable)])
+    yield counter("bg_switch_dashboard_faults", "Looks of the dashboard that ended by a fault of its own.", [],
+                  [([], board.own_faults)])
 
 
 def _renamed(metric: Metric, name: str) -> Metric:
@@ -137,15 +112,3 @@ class Collector:
             yield metric
             if metric.name in OLD_NAMES:
                 yield _renamed(metric, OLD_NAMES[metric.name])
-
-
-def registry_of(board: Board) -> prometheus_client.CollectorRegistry:
-    """A registry with the metrics of this board alone."""
-    made = prometheus_client.CollectorRegistry(auto_describe=False)
-    made.register(Collector(board))  # type: ignore[arg-type]
-    return made
-
-
-def written(registry: prometheus_client.CollectorRegistry) -> bytes:
-    """The metrics in Prometheus's text format."""
-    return prometheus_client.generate_latest(registry)

@@ -2,10 +2,9 @@
 
 import {byId, chip, clock, element, keepColours, milliseconds, percent, rate, setText, span, titleOf} from "./parts.js";
 import {DurationsChart, RequestsChart} from "./charts.js";
+import {listen, prepareScheme, showLink} from "./frame.js";
 
 const TOKEN = document.querySelector("meta[name=token]").content;
-const SILENT = 8000;  // milliseconds without an event after which the dashboard counts as silent
-const AGAIN = 2000;  // milliseconds until it is tried again
 const SETTLES = 0.7;  // seconds until the last line of a slot has come
 const MINUTES = [1, 3, 10];
 const TOLD = 20000;  // milliseconds for which the reply to an order is shown
@@ -30,8 +29,6 @@ const PHASES = {
 let state = null;
 let slots = new Map();
 let minutes = 10;
-let lastEvent = Date.now();
-let source = null;  // of the events
 let telling = 0;  // the timer of the reply that is shown
 let asked = null;  // the order of the question that is open
 
@@ -59,24 +56,12 @@ function takeUpdate(told) {
   show(told.happened.length > 0, told.failed.length > 0);
 }
 
-function listen() {
-  source = new EventSource("api/events");
-  const taken = (take) => (event) => {
-    lastEvent = Date.now();
-    const told = JSON.parse(event.data);
+// Takes an event.
+function taken(take) {
+  return (told) => {
     Object.setPrototypeOf(told.recent, null);  // a revision may have the name `constructor`
     take(told);
   };
-  source.addEventListener("state", taken(takeState));
-  source.addEventListener("update", taken(takeUpdate));
-  source.addEventListener("error", () => {
-    showLink(true);
-    if (source.readyState === EventSource.CLOSED) setTimeout(listen, AGAIN);
-  });
-}
-
-function watchSilence() {
-  if (source.readyState !== EventSource.OPEN || Date.now() - lastEvent > SILENT) showLink(true);
 }
 
 // What is shown
@@ -86,7 +71,7 @@ function show(hasHappened, hasFailed) {
   const inSlots = [...slots.values()].flatMap((slot) => slot.cells.map((cell) => cell.revision));
   const inReport = state.report ? state.report.revisions.map((revision) => revision.name) : [];
   keepColours(new Set([...inReport, ...inSlots, ...state.failed.map((each) => each.revision)]));
-  showLink();
+  showAnswers();
   showAttempt();
   showServices();
   showRevisions();
@@ -110,15 +95,10 @@ function silence(isSilent) {
   return `The switch gives no answer since ${clock(since)}: ${fault}. ${state.report ? "What is shown is from before." : ""}`;
 }
 
-function showLink(isSilent = false) {
-  const link = byId("link"), box = byId("alarm"), silent = silence(isSilent), kind = silent ? "lost" : "live";
-  const text = silent || alarm();
-  link.dataset.state = kind;
-  setText("link", kind === "live" ? (state && state.read_only ? "live, read only" : "live") : "no answer");
-  byId("main").classList.toggle("stale", kind !== "live");
-  setText("alarm", text);
-  box.hidden = text === "";
-  if (kind !== "live") showOrders(false);
+function showAnswers(isSilent = false) {
+  const silent = silence(isSilent);
+  showLink(silent, alarm(), state && state.read_only ? "live, read only" : "live");
+  if (silent) showOrders(false);
 }
 
 function newest() {
@@ -316,19 +296,7 @@ function prepareQuestion() {
   });
 }
 
-// The scheme and the time that is shown
-
-function prepareScheme() {
-  const button = byId("scheme"), root = document.documentElement, preferred = matchMedia("(prefers-color-scheme: dark)");
-  const isDark = () => (root.dataset.scheme ? root.dataset.scheme === "dark" : preferred.matches);
-  const name = () => { button.textContent = isDark() ? "light scheme" : "dark scheme"; };
-  button.addEventListener("click", () => {
-    root.dataset.scheme = isDark() ? "light" : "dark";
-    name();
-  });
-  preferred.addEventListener("change", name);
-  name();
-}
+// The time that is shown
 
 function prepareMinutes() {
   const told = Number(new URLSearchParams(location.hash.slice(1)).get("minutes"));
@@ -347,5 +315,4 @@ function prepareMinutes() {
 prepareQuestion();
 prepareScheme();
 prepareMinutes();
-listen();
-setInterval(watchSilence, 1000);
+listen("api/events", {state: taken(takeState), update: taken(takeUpdate)}, () => showAnswers(true));

@@ -38,6 +38,12 @@ export function clock(seconds) {
   return new Date(seconds * 1000).toLocaleTimeString([], form);
 }
 
+// A time, with its day where that is not today.
+export function dated(seconds) {
+  const at = new Date(seconds * 1000), isToday = at.toDateString() === new Date().toDateString();
+  return isToday ? clock(seconds) : `${at.toLocaleDateString([], {dateStyle: "medium"})} ${clock(seconds)}`;
+}
+
 export function shortClock(seconds) {
   return clock(seconds).slice(0, 5);
 }

@@ -1,0 +1,32 @@
+"""Metrics of one name, as `prometheus_client` takes them."""
+from collections.abc import Iterable, Mapping, Sequence
+
+from prometheus_client.core import CounterMetricFamily, GaugeMetricFamily, Metric
+
+Values = Iterable[tuple[Sequence[str], float]]  # by the values of the labels
+
+
+def gauge(name: str, text: str, value: float) -> Metric:
+    """A gauge without labels."""
+    return GaugeMetricFamily(name, text, value)
+
+
+def gauges(name: str, text: str, labels: Sequence[str], values: Values) -> Metric:
+    """A gauge with labels."""
+    made = GaugeMetricFamily(name, text, labels=list(labels))
+    for each, number in values:
+        made.add_metric(each, number)
+    return made
+
+
+def by_label(name: str, text: str, label: str, values: Mapping[str, float]) -> Metric:
+    """A gauge with one label."""
+    return gauges(name, text, [label], [([value], number) for value, number in values.items()])
+
+
+def counter(name: str, text: str, labels: Sequence[str], values: Values) -> Metric:
+    """A counter."""
+    made = CounterMetricFamily(name, text, labels=list(labels))
+    for each, number in values:
+        made.add_metric(each, number)
+    return made

@@ -1,0 +1,128 @@
+"""The page of a switch: one look at it and at its log after the other, and the commands of the page's buttons."""
+import asyncio
+import contextlib
+import secrets
+import traceback
+from collections.abc import AsyncIterator
+
+from aiohttp import web
+
+from bg_switch_tools.dashboard import guard
+from bg_switch_tools.dashboard.board import Board
+from bg_switch_tools.dashboard.page_commands import NewestHasChanged, WrongPageCommand, read_page_command, send_page_command
+from bg_switch_tools.dashboard.streams import Listeners
+from bg_switch_tools.dashboard.web_pages import FLEET, SWITCH, html_answer, page, refusal
+from bg_switch_tools.switch.access_log import Batch, Follower
+from bg_switch_tools.switch.connection import Unreachable, ask
+from bg_switch_tools.switch.lines import meaning_of, was_carried_out
+from bg_switch_tools.switch.reports import NoReport, Report, read_report
+
+PAUSE = 0.5  # seconds between two reports
+SOON = 0.01  # seconds, while more of the log is there than was read
+ANSWER = 1.5  # seconds for the switch to answer
+BACKLOG = 1 << 25  # bytes of the log that are read when the dashboard begins
+LONGEST_FAULT = 300  # characters of an exception that are told
+
+
+class SwitchPages:
+    """Looks at the switch and at its log again and again, and answers requests by what was seen."""
+
+    def __init__(self, board: Board, has_fleet: bool = False) -> None:
+        self.board = board
+        self.follower = Follower(board.log_path, BACKLOG) if board.log_path else None
+        self.token = secrets.token_urlsafe(32)
+        self.page = page("index.html", "" if board.is_read_only else self.token, FLEET if has_fleet else None)
+        self.listeners = Listeners()
+        self.soon = asyncio.Event()
+
+    def add_to(self, application: web.Application) -> None:
+        router = application.router
+        router.add_get(SWITCH.address, self.show_page)
+        router.add_get("/api/state", self.show_state)
+        router.add_get("/api/events", self.show_events, allow_head=False)
+        router.add_post("/api/order", self.command)
+        application.cleanup_ctx.append(self.looking)
+
+    async def looking(self, _: web.Application) -> AsyncIterator[None]:
+        """Looks for as long as the server runs."""
+        task = asyncio.create_task(self.look_always())
+        yield
+        task.cancel()
+        with contextlib.suppress(asyncio.CancelledError):
+            await task
+
+    async def look_always(self) -> None:
+        """Looks again and again, whatever happens."""
+        while True:
+            try:
+                is_counted = not (self.follower and self.follower.is_behind)
+                self.take(*await asyncio.to_thread(self.look), is_counted)
+            except Exception as error:  # none is expected; without the looks that follow, the page would show what is long past
+                self.take_fault(error)
+            with contextlib.suppress(TimeoutError):
+                await asyncio.wait_for(self.soon.wait(), SOON if self.follower and self.follower.has_more else PAUSE)
+            self.soon.clear()
+
+    def look(self) -> tuple[Batch | None, Report | None | str]:
+        """What has come into the log, and the report or why there is none. The log is read first: each revision that it names
+        is in the report."""
+        batch = self.follower.read() if self.follower else None
+        try:
+            return batch, read_report(ask(self.board.control, b"report", ANSWER))
+        except (Unreachable, NoReport) as reason:
+            return batch, str(reason)
+
+    def take_fault(self, error: Exception) -> None:
+        """Takes in what has ended a look: the page says it, and standard error, once for each series of the same."""
+        if self.board.take_fault(f"{type(error).__name__}: {error}"[:LONGEST_FAULT]):
+            traceback.print_exception(error)
+        with contextlib.suppress(Exception):
+            self.tell()
+
+    def take(self, batch: Batch | None, seen: Report | None | str, is_counted: bool) -> None:
+        """Takes in what was seen, and tells it to all who listen."""
+        if isinstance(seen, str):
+            self.board.take_silence(seen)
+        else:
+            self.board.take_report(seen)
+        if batch and self.follower:
+            self.board.take_batch(batch, self.follower.fault, is_counted)
+        self.board.take_fault("")
+        self.tell()
+
+    def tell(self) -> None:
+        """Tells what is new to all who listen."""
+        self.listeners.tell(self.board.update())
+
+    async def show_page(self, _: web.Request) -> web.Response:
+        return html_answer(self.page)
+
+    async def show_state(self, _: web.Request) -> web.Response:
+        return web.json_response(self.board.state())
+
+    async def show_events(self, request: web.Request) -> web.StreamResponse:
+        return await self.listeners.serve(request, self.board.state)
+
+    async def command(self, request: web.Request) -> web.Response:
+        """Sends a command of the page."""
+        if self.board.is_read_only:
+            return refusal(403, "the dashboard was started with --read-only")
+        if not request.headers.getall("Origin", []):
+            return refusal(403, "the request does not say from which site it comes")
+        if not guard.is_token(request.headers.get("X-Token", ""), self.token):
+            return refusal(403, "the request does not have the token of this dashboard: load the page again")
+        try:
+            command = read_page_command(await request.read())
+        except WrongPageCommand as wrong:
+            return refusal(400, str(wrong))
+        try:
+            reply = await asyncio.to_thread(send_page_command, self.board.control, command)
+        except NewestHasChanged as moved:
+            return refusal(409, str(moved))
+        except (Unreachable, NoReport) as reason:
+            return refusal(503, str(reason))
+        self.board.note_line(command.line, reply)
+        self.tell()  # at once: a page that is opened later finds the command in its state, and not in an update as well
+        self.soon.set()
+        return web.json_response({"line": command.line, "reply": reply, "carried_out": was_carried_out(reply),
+                                  "meaning": meaning_of(reply)})
