@@ -4,7 +4,6 @@ import contextlib
 import http.client
 import http.server
 import json
-import os
 import pathlib
 import re
 import subprocess
@@ -15,11 +14,12 @@ import time
 from collections.abc import Iterator
 from typing import NamedTuple
 
-from support import TOP, checks
+from support import TOP, checks, looks
 from support.browser import Browser, NoBrowser, browsing
 from support.checks import check, comes
 from support.dashboards import failing, missing, showing
 from support.endpoints import Endpoint
+from support.looks import NARROW, PICTURES, check_no_element, check_not_cut, check_shown, picture
 from support.operators import Operator
 from support.ports import HOST, free_port, free_ports
 from support.switch import Switch
@@ -27,6 +27,7 @@ from support.traffic import Traffic, ask, prepared_log
 
 # isort: split; `support` tells where the tests' package is
 sys.path.insert(0, str(TOP))
+from support.fleet_page import fleet  # noqa: E402
 from tests.fake_port import FakePort  # noqa: E402
 from tests.synthetic_log import ANSWERED, GrowingLog  # noqa: E402
 
@@ -36,12 +37,10 @@ CLIENTS, PAUSE, BAD_EACH = 3, 0.02, 10
 HOSTILE = "/fail?%3Cx%3E=<script>window.taken=1</script><img/src=x/onerror=window.taken=1>"
 HOSTILE_NAME = "<img/src=x/onerror=window.taken=1><script>window.taken=1</script>"
 REBOUND = "rebound.example"
-WIDE, NARROW = 1280, 390
 DEMONSTRATION = TOP / "examples" / "live" / "bad_revision.py"
 LONGEST_DEMONSTRATION = 100
 MANY, SWITCHES = 15, 8  # revisions of a page that is full, and switches of the active service among them
 OUTLIER = 20_000.0  # milliseconds of one request, of which the others take 4
-PICTURES = pathlib.Path(os.environ.get("BG_DASHBOARD_PICTURES") or tempfile.mkdtemp(prefix="bg_dashboard_"))
 
 
 class ShownSwitch(NamedTuple):
@@ -93,11 +92,6 @@ def shown_switch(*words: str) -> Iterator[ShownSwitch]:
             switch.kill()
 
 
-def picture(browser: Browser, name: str, width: int = WIDE) -> None:
-    browser.fit(width)
-    browser.screenshot(PICTURES / f"{name}.png")
-
-
 def current_step(browser: Browser) -> str:
     return str(browser.run("const step = document.querySelector('#steps [aria-current]'); return step ? step.dataset.step : ''"))
 
@@ -105,12 +99,6 @@ def current_step(browser: Browser) -> str:
 def await_step(browser: Browser, name: str) -> None:
     comes(lambda: current_step(browser) == name)
     check("the step that the page shows", current_step(browser), name)
-
-
-def check_shown(name: str, browser: Browser, selector: str, *words: str) -> None:
-    """A check that the page comes to show these words in time."""
-    is_shown = browser.shows(selector, *words)
-    check(name, words if is_shown else browser.text(selector), words)
 
 
 def bars(browser: Browser, selector: str) -> str:
@@ -124,15 +112,8 @@ def fill(browser: Browser, kind: str) -> object:
     return browser.run("return getComputedStyle(document.querySelector('#requests .bar.r1' + arguments[0])).fill", kind)
 
 
-def check_no_element(browser: Browser) -> None:
-    """A check that no text became an element, and none ran as a script."""
-    script = "return [document.querySelectorAll('main script, main img, dialog script, dialog img').length, window.taken ?? null]"
-    check("and it is no element", browser.run(script), [0, None])
-
-
 def open_page(browser: Browser, address: str) -> None:
-    browser.size(WIDE, 900)
-    browser.open(f"{address}#minutes=1")
+    looks.open_page(browser, f"{address}#minutes=1")
 
 
 def looks_at_a_deploy(browser: Browser, played: ShownSwitch) -> None:
@@ -223,7 +204,7 @@ def in_other_windows(browser: Browser) -> None:
     check("a dark scheme", comes(lambda: browser.run(colour) != light), True)
     picture(browser, "6-dark")
     picture(browser, "7-narrow", NARROW)
-    check("nothing is cut on a narrow window", browser.is_true("return document.documentElement.scrollWidth <= innerWidth"), True)
+    check_not_cut(browser)
     browser.scheme("light")
 
 
@@ -393,7 +374,7 @@ def in_a_browser() -> None:
         return
     try:
         with browsing(free_port(), (f"--host-resolver-rules=MAP {REBOUND} {HOST}",)) as browser:
-            for part in (rollout, tricks, hostile_names, outage, crowded):
+            for part in (rollout, tricks, hostile_names, outage, crowded, fleet):
                 part(browser)
             print(f"pictures of the page are in {PICTURES}")
     except NoBrowser as reason:

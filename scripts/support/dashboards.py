@@ -25,15 +25,20 @@ def missing() -> str:
 
 
 @contextlib.contextmanager
-def showing(control: int, listen: int, *words: str) -> Iterator[str]:
-    """A dashboard, which is ended whatever happens. Gives the address of its page."""
-    process = subprocess.Popen([DASHBOARD, str(control), "--listen", str(listen), *words], stdout=subprocess.DEVNULL)
+def running(listen: int, *words: str) -> Iterator[str]:
+    """A dashboard of what these words name, which is ended whatever happens. Gives the address of its page."""
+    process = subprocess.Popen([DASHBOARD, *words, "--listen", str(listen)], stdout=subprocess.DEVNULL)
     try:
         if not comes(lambda: is_open(listen)):
             raise TimeoutError("the dashboard does not listen")
         yield f"http://{HOST}:{listen}/"
     finally:
         processes.end(process, WAIT)
+
+
+def showing(control: int, listen: int, *words: str) -> contextlib.AbstractContextManager[str]:
+    """A dashboard of a switch."""
+    return running(listen, str(control), *words)
 
 
 def failing(name: bytes, each: int, pause: float = 0.0) -> Answer:
