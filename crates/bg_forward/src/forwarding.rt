@@ -13,13 +13,12 @@ ghost use Rattle.bg_forward.specs.declared.serving.End.TheVariants as end;
 use crate::buffered::Buffered;
 use crate::gate::Gate;
 use crate::reason::Reason;
-use crate::serving::End;
-use crate::streams::{ClientStream, Dialled};
+use crate::serving::{End, Worker};
+use crate::streams::{ClientStream, Dial, Dialled};
 use bg_book::GoOn;
 use bg_http::{MOST_TURNS, Request, Response, write_refusal, write_request, write_response};
 use bg_http_read::ResponseParser;
 use bg_ledger::{Names, Seat};
-use std::alloc::Global;
 use std::io;
 use std::io::{ErrorKind, Read, Write};
 
@@ -36,12 +35,11 @@ pub(crate) struct ForwardOutcome {
 
 /// Forwards a request over the connection that a dial gave, and answers its client with the response or a
 /// refusal. If the dial gave no connection, the answer is 502.
-pub(crate) fn forward_and_answer<N: Names, G: Gate<N>, S: ClientStream, U: Read + Write + Drop>(
-    alloc: Global,
-    gate: &G,
+pub(crate) fn forward_and_answer<N: Names, G: Gate<N>, S: ClientStream, D: Dial>(
+    worker: &Worker<G, D>,
     seat: &mut Seat<N>,
     request: &Request,
-    dialled: Dialled<U>,
+    dialled: Dialled<D::Stream>,
     client: &mut Buffered<S>,
 ) -> ForwardOutcome
     requires within { 0 < seat.old.number }
@@ -52,7 +50,7 @@ pub(crate) fn forward_and_answer<N: Names, G: Gate<N>, S: ClientStream, U: Read 
     ensures wrote { WroteLast (S.contents (stream_of client.old))
         (S.contents (stream_of client.new)) (Ok request.now) result.end }
 {
-    match forward(alloc, gate, seat, request, dialled, &mut client.stream) {
+    match forward(worker, seat, request, dialled, &mut client.stream) {
         Ok(response) => ForwardOutcome {
             end: answer(request, &response, client),
             reason: None,
@@ -67,12 +65,11 @@ pub(crate) fn forward_and_answer<N: Names, G: Gate<N>, S: ClientStream, U: Read 
 /// Forwards a request over the connection that a dial gave, and reads the response. An error is the reason
 /// why the client is refused: with 503 if the request is given up or an allocation fails while the response
 /// is read, and with 502 otherwise (RFC 9110 sections 15.6.3 and 15.6.4). Writes nothing to the client.
-fn forward<N: Names, G: Gate<N>, S: ClientStream, U: Read + Write + Drop>(
-    alloc: Global,
-    gate: &G,
+fn forward<N: Names, G: Gate<N>, S: ClientStream, D: Dial>(
+    worker: &Worker<G, D>,
     seat: &mut Seat<N>,
     request: &Request,
-    dialled: Dialled<U>,
+    dialled: Dialled<D::Stream>,
     client: &mut S,
 ) -> Result<Response, Reason>
     requires { 0 < seat.old.number }
@@ -85,14 +82,14 @@ fn forward<N: Names, G: Gate<N>, S: ClientStream, U: Read + Write + Drop>(
         Ok(stream) => stream,
         Err(error) => return Err(Reason::of_dial(&error)),
     };
-    if gate.may_go_on(seat) == GoOn::Cut {
+    if worker.gate.may_go_on(seat) == GoOn::Cut {
         return Err(Reason::GivenUp);
     }
-    let mut upstream = Buffered::new(alloc, stream);
+    let mut upstream = Buffered::new(worker.alloc, stream);
     if let Err(error) = send_request(request, route.port, &mut upstream) {
         return Err(Reason::of_stream(&error));
     }
-    receive(alloc, gate, seat, request, client, &mut upstream.stream)
+    receive(worker, seat, request, client, &mut upstream.stream)
 }
 
 /// Writes a request and flushes it.
@@ -124,9 +121,8 @@ fn is_given_up<N: Names, G: Gate<N>, S: ClientStream>(
 
 /// Reads the response to a request, and asks before each read whether the request is given up. An
 /// interrupted read is repeated. The errors are those of `forward`.
-fn receive<N: Names, G: Gate<N>, S: ClientStream, R: Read>(
-    alloc: Global,
-    gate: &G,
+fn receive<N: Names, G: Gate<N>, S: ClientStream, D: Dial, R: Read>(
+    worker: &Worker<G, D>,
     seat: &mut Seat<N>,
     request: &Request,
     client: &mut S,
@@ -139,10 +135,10 @@ fn receive<N: Names, G: Gate<N>, S: ClientStream, R: Read>(
     ensures seat { seat.new ≡ seat.old }
     ensures client { Keeps (S.contents client.old) (S.contents client.new) }
 {
-    let mut parser = ResponseParser::new(alloc, request);
+    let mut parser = ResponseParser::new(worker.alloc, request);
     let mut piece = [0; PIECE];
     for _ in 0..MOST_TURNS {
-        if is_given_up(gate, seat, client) {
+        if is_given_up(worker.gate, seat, client) {
             return Err(Reason::GivenUp);
         }
         match reader.read(&mut piece) {

@@ -6,12 +6,10 @@ ghost use Rattle.bg_forward.specs.Seats.{calls_made, seat_after};
 
 use crate::buffered::Buffered;
 use crate::gate::Gate;
-use crate::serving::{Served, serve_one};
+use crate::serving::{Served, Worker, serve_one};
 use crate::streams::Dial;
 use bg_http::{Bytes, MemoryStream};
 use bg_ledger::{Names, Seat};
-use bg_revisions::Service;
-use std::alloc::Global;
 
 /// The outcome of a connection that is in memory.
 #[derive(Drop, Debug)]
@@ -27,12 +25,9 @@ pub struct InMemoryResult {
 /// it. The client's bytes and the bytes written to it are known, so the contract is that of
 /// `serve_one` with nothing unspecified.
 pub fn serve_in_memory<N: Names, G: Gate<N>, D: Dial>(
-    alloc: Global,
-    gate: &G,
+    worker: &Worker<G, D>,
     seat: &mut Seat<N>,
-    service: Service,
     input: &[u8],
-    dial: &D,
 ) -> InMemoryResult
     requires { seat.old.number ≡ 0 }
     ensures out { seat.new.number ≡ 0 }
@@ -40,13 +35,14 @@ pub fn serve_in_memory<N: Names, G: Gate<N>, D: Dial>(
     ensures calls { seat.new.calls ≡ seat.old.calls + calls_made result.served.entered }
     ensures seat { seat.new ≡ seat_after seat.old result.served.entered }
     ensures number { IfSome result.served.entered (λ t. 0 < t.number) }
-    ensures gives { IfSome result.served.entered (λ t. G.gives gate.now service seat.old t) }
-    ensures route { IsRouted (D.routes dial.now) result.served.entered result.served.route }
+    ensures gives { IfSome result.served.entered
+        (λ t. G.gives worker.now.gate.now worker.now.service seat.old t) }
+    ensures route { IsRouted (D.routes worker.now.dial.now) result.served.entered result.served.route }
     ensures client { Connection (Some input.now) (Some []) (Some result.written)
         result.served.entered result.served.end }
 {
-    let mut client = Buffered::new(alloc, MemoryStream::new(alloc, input));
-    let served = serve_one(alloc, gate, seat, service, &mut client, dial);
+    let mut client = Buffered::new(worker.alloc, MemoryStream::new(worker.alloc, input));
+    let served = serve_one(worker, seat, &mut client);
     let written = Bytes::from_vec(client.into_inner().written);
     InMemoryResult { served, written }
 }

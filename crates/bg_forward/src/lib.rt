@@ -20,6 +20,6 @@ pub use desk_gate::DeskGate;
 pub use gate::Gate;
 pub use in_memory::{InMemoryResult, serve_in_memory};
 pub use reason::Reason;
-pub use serving::{End, Served, serve_one};
+pub use serving::{End, Served, Worker, serve_one};
 pub use streams::{Accept, ClientStream, Dial, Dialled, Route};
-pub use workers::run_workers;
+pub use workers::{WorkerContext, run_workers};

@@ -48,6 +48,18 @@ pub struct Served {
     pub reason: Option<Reason>,
 }
 
+/// A worker: what it serves the requests of clients with.
+#[derive(Drop)]
+pub struct Worker<'a, G, D> {
+    pub alloc: Global,
+    /// Where its requests enter and leave.
+    pub gate: &'a G,
+    /// Opens its connections to endpoints.
+    pub dial: &'a D,
+    /// The service that its clients ask for.
+    pub service: Service,
+}
+
 /// Serves one client on a seat that is out: reads its whole request, enters, dials for the ticket's
 /// port, forwards the request, reads the response, writes it, and leaves. The seat is out at the
 /// end, also after a failure.
@@ -66,12 +78,9 @@ pub struct Served {
 /// The writes to the client and to the endpoint go through a buffer, which is flushed before the
 /// next step. A failed flush counts as a failed write.
 pub fn serve_one<N: Names, G: Gate<N>, S: ClientStream, D: Dial>(
-    alloc: Global,
-    gate: &G,
+    worker: &Worker<G, D>,
     seat: &mut Seat<N>,
-    service: Service,
     client: &mut Buffered<S>,
-    dial: &D,
 ) -> Served
     requires out { seat.old.number ≡ 0 }
     requires empty { held client.old ≡ [] }
@@ -80,15 +89,16 @@ pub fn serve_one<N: Names, G: Gate<N>, S: ClientStream, D: Dial>(
     ensures calls { seat.new.calls ≡ seat.old.calls + calls_made result.entered }
     ensures seat { seat.new ≡ seat_after seat.old result.entered }
     ensures number { IfSome result.entered (λ t. 0 < t.number) }
-    ensures gives { IfSome result.entered (λ t. G.gives gate.now service seat.old t) }
-    ensures route { IsRouted (D.routes dial.now) result.entered result.route }
+    ensures gives { IfSome result.entered
+        (λ t. G.gives worker.now.gate.now worker.now.service seat.old t) }
+    ensures route { IsRouted (D.routes worker.now.dial.now) result.entered result.route }
     ensures why { TellsWhy result.end result.reason }
     ensures client { Connection (S.remaining (stream_of client.old))
         (S.contents (stream_of client.old)) (S.contents (stream_of client.new))
         result.entered result.end }
 {
-    match read_request(alloc, &mut client.stream) {
-        Ok(request) => serve_request(alloc, gate, seat, service, &request, client, dial),
+    match read_request(worker.alloc, &mut client.stream) {
+        Ok(request) => serve_request(worker, seat, &request, client),
         Err(fault) => {
             let outcome = refuse_fault(fault, client);
             Served {
@@ -103,26 +113,24 @@ pub fn serve_one<N: Names, G: Gate<N>, S: ClientStream, D: Dial>(
 
 /// Enters a request at the gate, answers it, and leaves.
 fn serve_request<N: Names, G: Gate<N>, S: ClientStream, D: Dial>(
-    alloc: Global,
-    gate: &G,
+    worker: &Worker<G, D>,
     seat: &mut Seat<N>,
-    service: Service,
     request: &Request,
     client: &mut Buffered<S>,
-    dial: &D,
 ) -> Served
     requires out { seat.old.number ≡ 0 }
     requires empty { held client.old ≡ [] }
     ensures seat { seat.new ≡ seat_after seat.old result.entered }
     ensures number { IfSome result.entered (λ t. 0 < t.number) }
-    ensures gives { IfSome result.entered (λ t. G.gives gate.now service seat.old t) }
-    ensures route { IsRouted (D.routes dial.now) result.entered result.route }
+    ensures gives { IfSome result.entered
+        (λ t. G.gives worker.now.gate.now worker.now.service seat.old t) }
+    ensures route { IsRouted (D.routes worker.now.dial.now) result.entered result.route }
     ensures may_end { MayEnd (Ok request.now) result.entered result.end }
     ensures why { TellsWhy result.end result.reason }
     ensures wrote { WroteLast (S.contents (stream_of client.old))
         (S.contents (stream_of client.new)) (Ok request.now) result.end }
 {
-    let ticket = match gate.enter(seat, service) {
+    let ticket = match worker.gate.enter(seat, worker.service) {
         Ok(ticket) => ticket,
         Err(fault) => {
             return Served {
@@ -133,10 +141,10 @@ fn serve_request<N: Names, G: Gate<N>, S: ClientStream, D: Dial>(
             };
         }
     };
-    let dialled = dial.dial(ticket.port);
+    let dialled = worker.dial.dial(ticket.port);
     let route = dialled.route;
-    let outcome = forward_and_answer(alloc, gate, seat, request, dialled, client);
-    gate.leave(seat);
+    let outcome = forward_and_answer(worker, seat, request, dialled, client);
+    worker.gate.leave(seat);
     Served {
         entered: Some(ticket),
         route: Some(route),

@@ -4,13 +4,25 @@ ghost use Rattle.bg_forward.specs.Seats.{AllOut, AllWorked, Worked};
 
 use crate::buffered::Buffered;
 use crate::gate::Gate;
-use crate::serving::serve_one;
+use crate::serving::{Worker, serve_one};
 use crate::streams::{Accept, Dial};
 use bg_ledger::{Names, Seat};
 use bg_revisions::Service;
 use std::alloc::Global;
 use std::thread;
 use std::thread::Threads;
+
+/// What workers share.
+#[derive(Drop)]
+pub struct WorkerContext<'a, G, A, D> {
+    pub alloc: Global,
+    /// Where their requests enter and leave.
+    pub gate: &'a G,
+    /// Gives them the connections of clients.
+    pub accept: &'a A,
+    /// Opens their connections to endpoints.
+    pub dial: &'a D,
+}
 
 /// Serves up to `count` connections on each seat, one thread for each seat; `services` has the
 /// service of each. A failed accept counts as one of the connections. The worker of a seat ends
@@ -27,12 +39,9 @@ pub fn run_workers<
     D: Dial + Sync,
 >(
     rt: &R,
-    alloc: Global,
-    gate: &G,
+    context: &WorkerContext<G, A, D>,
     seats: &mut [Seat<N>],
     services: &[Service],
-    accept: &A,
-    dial: &D,
     count: u64,
 )
 where
@@ -53,31 +62,34 @@ where
         &|place, seat: &mut Seat<N>|
             requires { (seat.old.number ≡ 0) × (place < length services.now) }
             ensures { Worked count seat.old seat.new }
-        { work(alloc, gate, seat, services[place], accept, dial, count) },
+        { work(context, seat, services[place], count) },
     );
 }
 
 /// Serves up to `count` connections on one seat.
 fn work<N: Names, G: Gate<N>, A: Accept, D: Dial>(
-    alloc: Global,
-    gate: &G,
+    context: &WorkerContext<G, A, D>,
     seat: &mut Seat<N>,
     service: Service,
-    accept: &A,
-    dial: &D,
     count: u64,
 )
     requires { seat.old.number ≡ 0 }
     ensures { Worked count seat.old seat.new }
 {
+    let worker = Worker {
+        alloc: context.alloc,
+        gate: context.gate,
+        dial: context.dial,
+        service,
+    };
     for _ in 0..count {
-        let stream = match accept.accept(service) {
+        let stream = match context.accept.accept(service) {
             Ok(Some(stream)) => stream,
             Ok(None) => break,
             Err(_) => continue,
         };
-        let mut client = Buffered::new(alloc, stream);
-        let served = serve_one(alloc, gate, seat, service, &mut client, dial);
-        accept.close(client.into_inner(), &served);
+        let mut client = Buffered::new(context.alloc, stream);
+        let served = serve_one(&worker, seat, &mut client);
+        context.accept.close(client.into_inner(), &served);
     }
 }

@@ -9,7 +9,7 @@ use crate::operators::{Operator, answer_operators};
 use bg_book::Desk;
 use bg_command_line::MessageTimeout;
 use bg_endpoints::{Endpoints, ResponseTimeout};
-use bg_forward::{DeskGate, run_workers};
+use bg_forward::{DeskGate, WorkerContext, run_workers};
 use bg_ledger::{Names, Seat};
 use bg_revisions::Service;
 use std::alloc::{AllocError, Global};
@@ -116,16 +116,13 @@ where
     let clients = Clients { context };
     let timeout = response_timeout(context.timeout);
     let endpoints = Endpoints::new(context.rt, context.ports.own, timeout, context.directory);
-    run_workers(
-        context.rt,
-        context.alloc,
-        &desk_gate,
-        seats,
-        services,
-        &clients,
-        &endpoints,
-        count,
-    );
+    let workers = WorkerContext {
+        alloc: context.alloc,
+        gate: &desk_gate,
+        accept: &clients,
+        dial: &endpoints,
+    };
+    run_workers(context.rt, &workers, seats, services, count);
     if let Some(log) = context.log {
         log.end();
     }

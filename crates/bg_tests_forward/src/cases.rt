@@ -4,7 +4,8 @@
 use crate::connections::{SOUND, Setting};
 use crate::fakes::{Interruptions, Pace, STEADY};
 use crate::messages::{
-    CHUNKS_ON, EXPECTS, EXPECTS_ANSWERED, EXPECTS_ON, EXPECTS_REFUSED, GET_ON, expect, refusal,
+    CHUNKS_ON, EXPECTS, EXPECTS_ANSWERED, EXPECTS_ON, EXPECTS_REFUSED, Expected, GET_ON, expect,
+    refusal,
 };
 use bg_forward::End;
 use bg_revisions::Service;
@@ -428,14 +429,12 @@ fn written(case: &Case) -> &'static str {
 fn check<R: Abort + Wait>(rt: &R, alloc: Global, cases: &[Case]) -> Result<(), Fail> {
     for case in cases {
         let name = case.setting.name;
-        let outcome = expect(
-            rt,
-            alloc,
-            &case.setting,
-            case.end,
-            written(case),
-            case.calls,
-        )?;
+        let expected = Expected {
+            end: case.end,
+            written: written(case),
+            calls: case.calls,
+        };
+        let outcome = expect(rt, alloc, &case.setting, expected)?;
         let writes = case.writes.unwrap_or(outcome.client.writes);
         assert_eq!(rt; outcome.dialled, case.dialled, "{name}");
         assert_eq!(rt; outcome.forwarded, case.forwarded, "{name}");

@@ -10,7 +10,7 @@ use crate::messages::{CHUNKS, GET, GET_ON};
 use crate::samples::strategy;
 use bg_audit::audit;
 use bg_book::{Desk, Limits, laws as book_laws};
-use bg_forward::{Buffered, DeskGate, Dial, End, Gate, Served, serve_one};
+use bg_forward::{Buffered, DeskGate, Dial, End, Gate, Served, Worker, serve_one};
 use bg_history::History;
 use bg_ledger::{Blanks, Names, Seat};
 use bg_revisions::Service;
@@ -118,14 +118,23 @@ pub struct Outcome {
     pub dropped: u64,
 }
 
-/// Serves a client at the first of the seats.
-fn serve_first<N: Names, G: Gate<N>, D: Dial>(
+/// A connection, and what serves it.
+#[derive(Drop)]
+struct Trial<'a, R, D> {
+    rt: &'a R,
     alloc: Global,
+    setting: &'a Setting<'a>,
+    dial: &'a D,
+    /// The number of times that the gate of the desk was asked whether the request goes on.
+    questions: &'a AtomicU64,
+}
+
+/// Serves a client at the first of the seats.
+fn serve_first<N: Names, R, G: Gate<N>, D: Dial>(
+    trial: &Trial<R, D>,
     gate: &G,
     seats: &mut [Seat<N>],
-    setting: &Setting,
     client: &mut Buffered<FakeStream>,
-    dial: &D,
 ) -> Option<Served>
     requires { held client.old ≡ [] }
     ensures { indices seats.new ≡ indices seats.old }
@@ -138,41 +147,36 @@ fn serve_first<N: Names, G: Gate<N>, D: Dial>(
     if seat.is_in() {
         return None;
     }
-    Some(serve_one(alloc, gate, seat, setting.service, client, dial))
+    let worker = Worker {
+        alloc: trial.alloc,
+        gate,
+        dial: trial.dial,
+        service: trial.setting.service,
+    };
+    Some(serve_one(&worker, seat, client))
 }
 
 /// Serves the client through the gate of a desk, which counts its questions, or at a gate that is
 /// shut.
 fn serve_at<N: Names, R: Wait, D: Dial>(
-    rt: &R,
-    alloc: Global,
+    trial: &Trial<R, D>,
     desk: &Desk<N>,
     seats: &mut [Seat<N>],
-    setting: &Setting,
     client: &mut Buffered<FakeStream>,
-    dial: &D,
-    questions: &AtomicU64,
 ) -> Option<Served>
     requires { held client.old ≡ [] }
     ensures { indices seats.new ≡ indices seats.old }
 {
-    let desk_gate = DeskGate::new(rt, desk);
-    if setting.shut {
-        return serve_first(
-            alloc,
-            &Shut { behind: &desk_gate },
-            seats,
-            setting,
-            client,
-            dial,
-        );
+    let desk_gate = DeskGate::new(trial.rt, desk);
+    if trial.setting.shut {
+        return serve_first(trial, &Shut { behind: &desk_gate }, seats, client);
     }
     let gate = Asked {
         behind: &desk_gate,
-        cut_at: setting.cut_at,
-        questions,
+        cut_at: trial.setting.cut_at,
+        questions: trial.questions,
     };
-    serve_first(alloc, &gate, seats, setting, client, dial)
+    serve_first(trial, &gate, seats, client)
 }
 
 /// The number of calls of the first seat, and whether it is out.
@@ -198,13 +202,9 @@ struct Closed {
 
 /// Serves a client at the only seat of a book, and closes the book.
 fn serve_over<N: Names, R: Wait, D: Dial>(
-    rt: &R,
-    alloc: Global,
+    trial: &Trial<R, D>,
     strategy: &Strategy,
-    setting: &Setting,
     client: &mut Buffered<FakeStream>,
-    dial: &D,
-    questions: &AtomicU64,
     blanks: Blanks,
 ) -> Result<Closed, Fail>
     requires blanks { AreAllFor N.Names blanks }
@@ -212,14 +212,11 @@ fn serve_over<N: Names, R: Wait, D: Dial>(
     requires empty { held client.old ≡ [] }
 {
     book_laws::lent();
-    let (desk, mut seats) = open::<N>(alloc, strategy, 1, Limits::usual(), blanks)?;
-    let told = tell_available(rt, &desk, setting.available);
-    let lent_seats = seats.as_mut_slice();
-    let served = serve_at(
-        rt, alloc, &desk, lent_seats, setting, client, dial, questions,
-    );
+    let (desk, mut seats) = open::<N>(trial.alloc, strategy, 1, Limits::usual(), blanks)?;
+    let told = tell_available(trial.rt, &desk, trial.setting.available);
+    let served = serve_at(trial, &desk, seats.as_mut_slice(), client);
     let (calls, is_out) = state_of_first(&seats);
-    let open = open_requests(rt, &desk);
+    let open = open_requests(trial.rt, &desk);
     let history = close(desk, seats);
     let _outcomes = told?;
     Ok(Closed {
@@ -243,16 +240,15 @@ pub fn serve<R: Wait>(
     let questions = AtomicU64::new(0);
     let endpoint = setting.endpoint(alloc, &seen);
     let mut client = Buffered::new(alloc, setting.stream(alloc));
-    let closed = serve_over::<Brand, R, Endpoint>(
+    let trial = Trial {
         rt,
         alloc,
-        &strategy,
         setting,
-        &mut client,
-        &endpoint,
-        &questions,
-        Blanks::new(),
-    )?;
+        dial: &endpoint,
+        questions: &questions,
+    };
+    let closed =
+        serve_over::<Brand, R, Endpoint>(&trial, &strategy, &mut client, Blanks::new())?;
     let Some(served) = closed.served else {
         return Ok(None);
     };

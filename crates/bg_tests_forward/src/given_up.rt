@@ -2,7 +2,7 @@
 
 use crate::connections::{SOUND, Setting};
 use crate::fakes::{Interruptions, Pace, STEADY};
-use crate::messages::{CHUNKS_ON, expect, refusal};
+use crate::messages::{CHUNKS_ON, Expected, expect, refusal};
 use bg_forward::End;
 use std::alloc::Global;
 use std::process::Abort;
@@ -24,7 +24,8 @@ pub fn paces() -> [Pace; 3] {
 
 /// The number of questions if the gate gives nothing up.
 fn questions<R: Abort + Wait>(rt: &R, alloc: Global, sound: &Setting) -> Result<u64, Fail> {
-    let whole = expect(rt, alloc, sound, End::Answered(200), CHUNKS_ON, 2)?;
+    let answered = Expected::entered(End::Answered(200), CHUNKS_ON);
+    let whole = expect(rt, alloc, sound, answered)?;
     Ok(whole.questions)
 }
 
@@ -36,7 +37,8 @@ fn cut_at_question<R: Abort + Wait>(
     cut_at: u64,
 ) -> Result<(), Fail> {
     let setting = Setting { cut_at, ..*sound };
-    let outcome = expect(rt, alloc, &setting, End::Refused(503), refusal(503), 2)?;
+    let refused = Expected::entered(End::Refused(503), refusal(503));
+    let outcome = expect(rt, alloc, &setting, refused)?;
     assert_eq!(rt; outcome.questions, cut_at);
     assert_eq!(rt; outcome.dialled, 1);
     // the first question comes before the request is written, and each further one before a read

@@ -3,7 +3,7 @@
 use crate::connections::{Outcome, SOUND, Setting};
 use crate::fakes::{Interruptions, Pace, STEADY};
 use crate::given_up::paces;
-use crate::messages::{CHUNKS_ON, expect, refusal};
+use crate::messages::{CHUNKS_ON, Expected, expect, refusal};
 use bg_forward::End;
 use std::alloc::Global;
 use std::process::Abort;
@@ -45,7 +45,8 @@ fn goes<R: Abort + Wait>(rt: &R, alloc: Global, endpoint: Pace, question: u64) -
         endpoint,
         ..SOUND
     };
-    let refused = expect(rt, alloc, &setting, End::Refused(503), refusal(503), 2)?;
+    let unavailable = Expected::entered(End::Refused(503), refusal(503));
+    let refused = expect(rt, alloc, &setting, unavailable)?;
     let_go(rt, &refused, question);
     let reset = Pace {
         failing_write: Some(0),
@@ -55,7 +56,8 @@ fn goes<R: Abort + Wait>(rt: &R, alloc: Global, endpoint: Pace, question: u64) -
         client: reset,
         ..setting
     };
-    let failed = expect(rt, alloc, &setting, End::WriteFailed, "", 2)?;
+    let unwritten = Expected::entered(End::WriteFailed, "");
+    let failed = expect(rt, alloc, &setting, unwritten)?;
     let_go(rt, &failed, question);
     Ok(())
 }
@@ -72,7 +74,8 @@ fn lets_a_silent_endpoint_go(rt: HostRuntime) -> Result<(), Fail> {
 /// these questions does not.
 fn stays_or_goes<R: Abort + Wait>(rt: &R, alloc: Global, endpoint: Pace) -> Result<(), Fail> {
     let setting = Setting { endpoint, ..SOUND };
-    let stays = expect(rt, alloc, &setting, End::Answered(200), CHUNKS_ON, 2)?;
+    let answered = Expected::entered(End::Answered(200), CHUNKS_ON);
+    let stays = expect(rt, alloc, &setting, answered)?;
     let reads = stays.endpoint.reads;
     assert!(rt; reads >= 1);
     assert_eq!(rt; stays.client_questions, reads);
@@ -85,7 +88,7 @@ fn stays_or_goes<R: Abort + Wait>(rt: &R, alloc: Global, endpoint: Pace) -> Resu
         client: gone_at(reads.saturating_add(1)),
         ..setting
     };
-    let _answered = expect(rt, alloc, &setting, End::Answered(200), CHUNKS_ON, 2)?;
+    let _goes_later = expect(rt, alloc, &setting, answered)?;
     Ok(())
 }
 
@@ -112,8 +115,8 @@ fn does_not_ask_before_the_endpoint_has_its_request(rt: HostRuntime) -> Result<(
         ..sound
     };
     for setting in [not_dialled, not_written] {
-        let end = End::Refused(502);
-        let outcome = expect(&rt, rt.alloc(), &setting, end, refusal(502), 2)?;
+        let refused = Expected::entered(End::Refused(502), refusal(502));
+        let outcome = expect(&rt, rt.alloc(), &setting, refused)?;
         assert_eq!(rt; outcome.dialled, 1);
         assert_eq!(rt; outcome.client_questions, 0);
     }

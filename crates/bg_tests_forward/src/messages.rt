@@ -46,6 +46,27 @@ pub fn refusal(status: u16) -> &'static str {
     }
 }
 
+/// How a connection should end.
+#[derive(Clone, Copy, Drop)]
+pub struct Expected<'a> {
+    pub end: End,
+    /// The bytes that should be written to its client.
+    pub written: &'a str,
+    /// The number of calls that its seat should make: 2 if the request enters, else 0.
+    pub calls: u64,
+}
+
+impl<'a> Expected<'a> {
+    /// The end of a connection whose request enters.
+    pub fn entered(end: End, written: &'a str) -> Expected<'a> {
+        Expected {
+            end,
+            written,
+            calls: 2,
+        }
+    }
+}
+
 /// The outcome of a connection with this end, to whose client this answer was written, or a front of it. Its seat made
 /// two calls if it entered, and is out, no request is open, and the history is legal.
 pub fn ends<R: Abort + Wait>(
@@ -74,18 +95,15 @@ pub fn ends<R: Abort + Wait>(
     Ok(outcome)
 }
 
-/// The outcome of a connection with this end, to whose client the whole answer was written and whose seat made this
-/// many calls.
+/// The outcome of a connection that ends as expected, to whose client all of the expected bytes were written.
 pub fn expect<R: Abort + Wait>(
     rt: &R,
     alloc: Global,
     setting: &Setting,
-    end: End,
-    answer: &str,
-    calls: u64,
+    expected: Expected,
 ) -> Result<Outcome, Fail> {
-    let outcome = ends(rt, alloc, setting, end, answer)?;
-    assert_eq!(rt; outcome.written, answer.len(), "{}", setting.name);
-    assert_eq!(rt; outcome.calls, calls, "{}", setting.name);
+    let outcome = ends(rt, alloc, setting, expected.end, expected.written)?;
+    assert_eq!(rt; outcome.written, expected.written.len(), "{}", setting.name);
+    assert_eq!(rt; outcome.calls, expected.calls, "{}", setting.name);
     Ok(outcome)
 }

@@ -3,7 +3,8 @@
 use crate::connections::{SOUND, Setting};
 use crate::fakes::{CONTINUE, Pace, STEADY, Uses};
 use crate::messages::{
-    CHUNKS_ON, EXPECTS, EXPECTS_ANSWERED, EXPECTS_ON, EXPECTS_REFUSED, ends, expect, refusal,
+    CHUNKS_ON, EXPECTS, EXPECTS_ANSWERED, EXPECTS_ON, EXPECTS_REFUSED, Expected, ends, expect,
+    refusal,
 };
 use bg_forward::End;
 use std::alloc::Global;
@@ -151,8 +152,8 @@ fn read_of_the_endpoint<R: Abort + Wait>(
         endpoint,
         ..expected.setting
     };
-    let end = End::Refused(502);
-    let outcome = expect(rt, alloc, &setting, end, expected.refused, 2)?;
+    let refused = Expected::entered(End::Refused(502), expected.refused);
+    let outcome = expect(rt, alloc, &setting, refused)?;
     assert_eq!(rt; outcome.endpoint.reads, place.saturating_add(1));
     assert_eq!(rt; outcome.forwarded, 1);
     Ok(())
@@ -185,8 +186,8 @@ fn write_to_the_endpoint<R: Abort + Wait>(
         endpoint,
         ..expected.setting
     };
-    let end = End::Refused(502);
-    let outcome = expect(rt, alloc, &setting, end, expected.refused, 2)?;
+    let refused = Expected::entered(End::Refused(502), expected.refused);
+    let outcome = expect(rt, alloc, &setting, refused)?;
     assert_eq!(rt; outcome.endpoint.writes, place.saturating_add(1));
     assert_eq!(rt; outcome.endpoint.reads, 0);
     Ok(())

@@ -11,7 +11,7 @@ use crate::messages::{CHUNKS, GET};
 use crate::ports::{Counts, NextClient, Ports, RisingCounts};
 use crate::samples::strategy;
 use bg_book::{Desk, Limits, laws as book_laws};
-use bg_forward::{DeskGate, Dial, Dialled, run_workers};
+use bg_forward::{DeskGate, Dial, Dialled, WorkerContext, run_workers};
 use bg_ledger::{Blanks, Names, Seat};
 use bg_revisions::Service;
 use std::alloc::Global;
@@ -39,7 +39,6 @@ impl Dial for AnyPort {
 /// Serves at a seat for each service, each for up to this many connections.
 fn work_both<N: Names + Send + Sync, R: Threads + Wait + Sync>(
     rt: &R,
-    alloc: Global,
     desk: &Desk<N>,
     seats: &mut [Seat<N>],
     ports: &Ports,
@@ -52,10 +51,14 @@ fn work_both<N: Names + Send + Sync, R: Threads + Wait + Sync>(
     book_laws::same_order();
     let desk_gate = DeskGate::new(rt, desk);
     let services = [Service::Active, Service::Preview];
-    let endpoint = AnyPort { alloc };
-    run_workers(
-        rt, alloc, &desk_gate, seats, &services, ports, &endpoint, count,
-    );
+    let endpoint = AnyPort { alloc: ports.alloc };
+    let context = WorkerContext {
+        alloc: ports.alloc,
+        gate: &desk_gate,
+        accept: ports,
+        dial: &endpoint,
+    };
+    run_workers(rt, &context, seats, &services, count);
 }
 
 /// Serves at the seats of a book that has no preview service.
@@ -73,7 +76,7 @@ fn open_and_work_both<N: Names + Send + Sync, R: Threads + Wait + Sync>(
     let strategy = strategy(alloc)?;
     let (desk, mut seats) = open::<N>(alloc, &strategy, 2, Limits::usual(), blanks)?;
     let told = tell_available(rt, &desk, 2);
-    work_both(rt, alloc, &desk, seats.as_mut_slice(), ports, count);
+    work_both(rt, &desk, seats.as_mut_slice(), ports, count);
     let _history = close(desk, seats);
     let _outcomes = told?;
     Ok(())

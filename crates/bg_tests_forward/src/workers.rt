@@ -9,7 +9,9 @@ use crate::fakes::{FakeStream, STEADY};
 use crate::messages::{CHUNKS, CHUNKS_ON, GET};
 use crate::samples::strategy;
 use bg_book::{Control, Desk, EnterFault, GoOn, Left, Limits, Ticket, laws as book_laws};
-use bg_forward::{Accept, ClientStream, DeskGate, Dial, Dialled, Gate, Served, run_workers};
+use bg_forward::{
+    Accept, ClientStream, DeskGate, Dial, Dialled, Gate, Served, WorkerContext, run_workers,
+};
 use bg_http::Duplex;
 use bg_ledger::{Blanks, Names, Seat};
 use bg_revisions::Service;
@@ -213,7 +215,13 @@ fn work<N: Names + Send + Sync, R: Threads + Wait + Sync>(
         behind: &desk_gate,
         counts,
     };
-    run_workers(rt, alloc, &gate, seats, &services, &clients, &endpoint, 1);
+    let context = WorkerContext {
+        alloc,
+        gate: &gate,
+        accept: &clients,
+        dial: &endpoint,
+    };
+    run_workers(rt, &context, seats, &services, 1);
 }
 
 /// Runs workers without seats.
@@ -230,16 +238,13 @@ fn work_none<N: Names + Send + Sync, R: Threads + Wait + Sync>(
     let desk_gate = DeskGate::new(rt, desk);
     let clients = Clients { alloc, counts };
     let endpoint = WaitingEndpoint { alloc, counts };
-    run_workers(
-        rt,
+    let context = WorkerContext {
         alloc,
-        &desk_gate,
-        &mut seats[..0],
-        &[],
-        &clients,
-        &endpoint,
-        1,
-    );
+        gate: &desk_gate,
+        accept: &clients,
+        dial: &endpoint,
+    };
+    run_workers(rt, &context, &mut seats[..0], &[], 1);
 }
 
 /// Makes the ticks.

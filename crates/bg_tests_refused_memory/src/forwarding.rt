@@ -11,7 +11,7 @@ use crate::state::State;
 use crate::stop::Stop;
 use crate::strategies::base_strategy;
 use bg_book::{Book, Desk, EnterFault, GoOn, Left, Limits, Question, Ticket, laws as book_laws};
-use bg_forward::{DeskGate, Dial, Dialled, End, Gate, InMemoryResult, serve_in_memory};
+use bg_forward::{DeskGate, Dial, Dialled, End, Gate, InMemoryResult, Worker, serve_in_memory};
 use bg_ledger::{Blanks, Names, Seat};
 use bg_revisions::Service;
 use bg_rollout::{MOST_ENTRIES, PLACES_OF_A_REQUEST};
@@ -217,8 +217,14 @@ fn serve<N: Names, R: AllocGlobal + Print + Eprint + Wait>(
         rt,
         desk_gate: DeskGate::new(rt, desk),
     };
-    let input = REQUEST.as_bytes();
-    let outcome = serve_in_memory(rt.alloc(), &gate, seat, Service::Active, input, &Endpoint);
+    let endpoint = Endpoint;
+    let worker = Worker {
+        alloc: rt.alloc(),
+        gate: &gate,
+        dial: &endpoint,
+        service: Service::Active,
+    };
+    let outcome = serve_in_memory(&worker, seat, REQUEST.as_bytes());
     let made = if outcome.served.entered.is_some() {
         2
     } else {
