@@ -1,9 +1,9 @@
 //! A connection of an operator.
 
+use crate::context::ConnectionContext;
 use crate::line_buffer::{Front, Input, LONGEST_LINE, LineBuffer};
 use crate::priority::LinePriority;
-use crate::readiness::Readiness;
-use crate::reply::{PendingReply, Taken, has_room, write_what_fits};
+use crate::reply::{AfterReply, PendingReply, Reply, Taken, has_room, write_what_fits};
 use crate::turn::{Place, Silence, has_passed};
 use std::alloc::{AllocError, Global};
 use std::io;
@@ -18,15 +18,6 @@ pub enum Fate {
     Stays,
     /// It failed, its input has ended, or it was ended.
     Ends,
-}
-
-/// Whether a connection has further lines answered after a reply.
-#[derive(Clone, Copy, Debug, Drop, PartialEq, Eq)]
-pub enum AfterReply {
-    /// Its next line is awaited.
-    GoesOn,
-    /// It is closed as soon as the reply was taken.
-    Closes,
 }
 
 /// What a whole line is.
@@ -127,73 +118,63 @@ impl OperatorConnection {
             && has_passed(LONGEST_REPLY_SILENCE, self.moved, now)
     }
 
-    /// Handles that the socket is ready. A whole line that has arrived gets this number.
+    /// Handles that the socket is ready.
     pub fn attend<P: LinePriority>(
         &mut self,
-        key: usize,
         has_ended: bool,
-        number: u64,
-        now: u64,
-        readiness: &Readiness,
-        priority: &P,
+        context: &ConnectionContext<P>,
     ) -> Fate {
         match &self.stage {
-            OperatorStage::Awaits | OperatorStage::Skips => {
-                self.read_on(key, has_ended, number, now, readiness, priority)
-            }
+            OperatorStage::Awaits | OperatorStage::Skips => self.read_on(has_ended, context),
             OperatorStage::Waits { .. } | OperatorStage::Asked => Fate::Stays,
-            OperatorStage::Replies { .. } => self.write_on(key, number, now, readiness, priority),
+            OperatorStage::Replies { .. } => self.write_on(context),
         }
     }
 
     /// Reads what has arrived.
     fn read_on<P: LinePriority>(
         &mut self,
-        key: usize,
         has_ended: bool,
-        number: u64,
-        now: u64,
-        readiness: &Readiness,
-        priority: &P,
+        context: &ConnectionContext<P>,
     ) -> Fate {
         match self.input.read(&self.stream) {
             Input::Came { is_piece_full } => {
                 if !matches!(self.stage, OperatorStage::Skips) {
-                    self.moved = now;
+                    self.moved = context.port.now;
                 }
-                self.note_line(false, number, priority);
-                self.watch_on(is_piece_full || has_ended, key, readiness)
+                self.note_line(false, context);
+                self.watch_on(is_piece_full || has_ended, context)
             }
             Input::Nothing => Fate::Stays,
-            Input::End => self.end_input(number, priority),
+            Input::End => self.end_input(context),
             Input::Failure => Fate::Ends,
         }
     }
 
     /// Handles the end of the input: the bytes that no line break followed are the last line.
-    fn end_input<P: LinePriority>(&mut self, number: u64, priority: &P) -> Fate {
+    fn end_input<P: LinePriority>(&mut self, context: &ConnectionContext<P>) -> Fate {
         if matches!(self.stage, OperatorStage::Awaits) && self.input.is_empty() {
             return Fate::Ends;
         }
-        self.note_line(true, number, priority);
+        self.note_line(true, context);
         Fate::Stays
     }
 
-    /// Notes whether the next line is whole. A whole line gets this number.
-    fn note_line<P: LinePriority>(&mut self, has_ended: bool, number: u64, priority: &P) {
+    /// Notes whether the next line is whole.
+    fn note_line<P: LinePriority>(&mut self, has_ended: bool, context: &ConnectionContext<P>) {
         if matches!(self.stage, OperatorStage::Skips) {
-            self.skip(has_ended, number);
+            self.skip(has_ended, context.number);
             return;
         }
         match self.input.front(has_ended) {
             Front::Line(length) => {
-                let is_urgent = priority.is_urgent(self.input.first(length));
-                self.wait_with(WholeLine::First(length), is_urgent, number);
+                let is_urgent = context.port.priority.is_urgent(self.input.first(length));
+                self.wait_with(WholeLine::First(length), is_urgent, context.number);
             }
             Front::Part => {}
             Front::TooLong => {
                 self.stage = OperatorStage::Skips;
-                self.skip(has_ended, number);
+                self.skip(has_ended, context.number);
             }
         }
     }
@@ -213,10 +194,10 @@ impl OperatorConnection {
 
     /// Watches the input again, if more may have arrived and is to be read. What has arrived already is reported
     /// after what is ready elsewhere.
-    fn watch_on(&self, may_have_arrived: bool, key: usize, readiness: &Readiness) -> Fate {
+    fn watch_on<P>(&self, may_have_arrived: bool, context: &ConnectionContext<P>) -> Fate {
         match &self.stage {
             OperatorStage::Awaits | OperatorStage::Skips if may_have_arrived => {
-                fate_of(readiness.watch_input(&self.stream, key))
+                fate_of(context.port.readiness.watch_input(&self.stream, context.key))
             }
             _ => Fate::Stays,
         }
@@ -240,27 +221,22 @@ impl OperatorConnection {
         }
     }
 
-    /// Gives the reply to the line that was taken. What the socket does not take is kept. The next line gets this
-    /// number if it is whole already.
+    /// Gives the reply to the line that was taken. What the socket does not take is kept. The next line may be whole
+    /// already.
     pub fn reply<P: LinePriority>(
         &mut self,
         alloc: Global,
-        key: usize,
-        reply: &[u8],
-        after: AfterReply,
-        number: u64,
-        now: u64,
-        readiness: &Readiness,
-        priority: &P,
+        reply: Reply,
+        context: &ConnectionContext<P>,
     ) -> Fate {
-        self.moved = now;
-        match write_what_fits(&self.stream, reply) {
-            Taken::All => self.go_on(key, after, number, readiness, priority),
+        self.moved = context.port.now;
+        match write_what_fits(&self.stream, reply.bytes) {
+            Taken::All => self.go_on(reply.after, context),
             Taken::Part(count) => {
-                let rest = &reply[count.min(reply.len())..];
-                match self.keep(alloc, rest, after) {
+                let rest = &reply.bytes[count.min(reply.bytes.len())..];
+                match self.keep(alloc, rest, reply.after) {
                     Ok(()) if has_room(rest.len()) => {
-                        fate_of(readiness.watch_output(&self.stream, key))
+                        fate_of(context.port.readiness.watch_output(&self.stream, context.key))
                     }
                     _ => Fate::Ends,
                 }
@@ -276,26 +252,19 @@ impl OperatorConnection {
     }
 
     /// Writes more of the reply that was not taken whole.
-    fn write_on<P: LinePriority>(
-        &mut self,
-        key: usize,
-        number: u64,
-        now: u64,
-        readiness: &Readiness,
-        priority: &P,
-    ) -> Fate {
+    fn write_on<P: LinePriority>(&mut self, context: &ConnectionContext<P>) -> Fate {
         let OperatorStage::Replies { reply, after } = &mut self.stage else {
             return Fate::Stays;
         };
         let after = *after;
         match reply.write(&self.stream) {
             Taken::All => {
-                self.moved = now;
-                self.go_on(key, after, number, readiness, priority)
+                self.moved = context.port.now;
+                self.go_on(after, context)
             }
             Taken::Part(0) => Fate::Stays,
             Taken::Part(_) => {
-                self.moved = now;
+                self.moved = context.port.now;
                 Fate::Stays
             }
             Taken::Failed => Fate::Ends,
@@ -305,11 +274,8 @@ impl OperatorConnection {
     /// Goes on after a reply was taken whole.
     fn go_on<P: LinePriority>(
         &mut self,
-        key: usize,
         after: AfterReply,
-        number: u64,
-        readiness: &Readiness,
-        priority: &P,
+        context: &ConnectionContext<P>,
     ) -> Fate {
         if after == AfterReply::Closes {
             // its peer may have ended it already
@@ -317,8 +283,8 @@ impl OperatorConnection {
             return Fate::Ends;
         }
         self.stage = OperatorStage::Awaits;
-        self.note_line(false, number, priority);
-        self.watch_on(true, key, readiness)
+        self.note_line(false, context);
+        self.watch_on(true, context)
     }
 }
 

@@ -1,8 +1,10 @@
 //! The connections of operators.
 
-use crate::connection::{AfterReply, Fate, OperatorConnection};
+use crate::connection::{Fate, OperatorConnection};
+use crate::context::{ConnectionContext, PortContext};
 use crate::priority::LinePriority;
 use crate::readiness::Readiness;
+use crate::reply::Reply;
 use crate::turn::{MOST_CONNECTIONS, Place, Silence, has_passed, heeds_urgency, row_after};
 use slab::Slab;
 use std::alloc::{AllocError, Global};
@@ -80,15 +82,14 @@ impl Connections {
         &mut self,
         key: usize,
         has_ended: bool,
-        now: u64,
-        readiness: &Readiness,
-        priority: &P,
+        port: &PortContext<P>,
     ) {
         let Some(connection) = self.connections.get_mut(key) else {
             return;
         };
         let number = next(&mut self.next_number);
-        let fate = connection.attend(key, has_ended, number, now, readiness, priority);
+        let context = ConnectionContext { port, key, number };
+        let fate = connection.attend(has_ended, &context);
         self.end_if(fate, key);
     }
 
@@ -130,18 +131,15 @@ impl Connections {
     pub fn reply<P: LinePriority>(
         &mut self,
         key: usize,
-        reply: &[u8],
-        after: AfterReply,
-        now: u64,
-        readiness: &Readiness,
-        priority: &P,
+        reply: Reply,
+        port: &PortContext<P>,
     ) {
         let Some(connection) = self.connections.get_mut(key) else {
             return;
         };
         let number = next(&mut self.next_number);
-        let alloc = self.alloc;
-        let fate = connection.reply(alloc, key, reply, after, number, now, readiness, priority);
+        let context = ConnectionContext { port, key, number };
+        let fate = connection.reply(self.alloc, reply, &context);
         self.end_if(fate, key);
     }
 

@@ -12,6 +12,7 @@ mod acceptor;
 mod admission;
 mod connection;
 mod connections;
+mod context;
 mod events;
 mod line_buffer;
 mod port;
@@ -20,8 +21,8 @@ mod readiness;
 mod reply;
 mod turn;
 
-pub use connection::AfterReply;
 pub use connections::Asker;
 pub use events::ControlEvents;
 pub use port::ControlPort;
 pub use priority::LinePriority;
+pub use reply::{AfterReply, Reply};

@@ -2,11 +2,12 @@
 
 use crate::acceptor::{AcceptedOperator, Acceptor};
 use crate::admission::{Admission, Admitted};
-use crate::connection::AfterReply;
 use crate::connections::{Asker, Connections};
+use crate::context::PortContext;
 use crate::events::ControlEvents;
 use crate::priority::LinePriority;
 use crate::readiness::{MOST_READY, Readiness, Ready};
+use crate::reply::Reply;
 use crate::turn::{MOST_CONNECTIONS, most_connections};
 use bg_peers::Users;
 use libc::RLIMIT_NOFILE;
@@ -129,16 +130,14 @@ impl ControlPort {
         &self,
         rt: &R,
         asker: Asker,
-        reply: &[u8],
-        after: AfterReply,
+        reply: Reply,
         priority: &P,
     ) {
-        let now = self.now(rt);
-        let readiness = &self.readiness;
+        let context = self.context(rt, priority);
         self.state
             .lock(rt)
             .connections
-            .reply(asker.key, reply, after, now, readiness, priority);
+            .reply(asker.key, reply, &context);
     }
 
     /// Closes the connection of a line, without a reply.
@@ -152,6 +151,15 @@ impl ControlPort {
         let mut state = self.state.lock(rt);
         state.acceptor = None;
         state.connections.close();
+    }
+
+    /// What connections are handled with at this moment.
+    fn context<'a, R: Clock, P>(&'a self, rt: &R, priority: &'a P) -> PortContext<'a, P> {
+        PortContext {
+            now: self.now(rt),
+            readiness: &self.readiness,
+            priority,
+        }
     }
 
     /// The number of milliseconds since the start; 0 if the clock fails.
@@ -171,9 +179,9 @@ impl ControlPort {
     ) {
         let mut ready = [Ready::Listener; MOST_READY];
         let count = self.readiness.wait(self.millis_to_wait(rt), &mut ready);
-        let now = self.now(rt);
+        let context = self.context(rt, priority);
         let mut state = self.state.lock(rt);
-        let news = state.attend(&ready[..count], now, &self.readiness, priority);
+        let news = state.attend(&ready[..count], &context);
         drop(state);
         if let Some(reason) = &news.accepts.failure {
             events.accept_failed(reason);
@@ -206,28 +214,21 @@ impl ControlPort {
 
 impl State {
     /// Handles what is ready, accepts connections if that is due, and closes those that take no reply.
-    fn attend<P: LinePriority>(
-        &mut self,
-        ready: &[Ready],
-        now: u64,
-        readiness: &Readiness,
-        priority: &P,
-    ) -> News {
+    fn attend<P: LinePriority>(&mut self, ready: &[Ready], context: &PortContext<P>) -> News {
         for one in ready {
             match *one {
                 Ready::Listener => self.note_listener(),
                 Ready::Connection { key, has_ended } => {
-                    self.connections
-                        .attend(key, has_ended, now, readiness, priority);
+                    self.connections.attend(key, has_ended, context);
                 }
             }
         }
-        let second_passed = self.passes_second(now);
+        let second_passed = self.passes_second(context.now);
         if second_passed {
-            self.connections.end_given_up(now);
+            self.connections.end_given_up(context.now);
         }
         News {
-            accepts: self.accept_due(now, readiness),
+            accepts: self.accept_due(context.now, context.readiness),
             second_passed,
         }
     }

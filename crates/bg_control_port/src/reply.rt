@@ -1,4 +1,4 @@
-//! A reply that its connection has not taken yet.
+//! Replies, and the part of a reply that its connection has not taken yet.
 ghost use Rattle.std.specs.Prelude.{◌≡◌, nat_le, length};
 
 use std::alloc::{AllocError, Global};
@@ -9,6 +9,22 @@ use std::net::TcpStream;
 /// The maximum number of bytes of a reply. The longest one is a report of 64 revisions, of less than 300 bytes
 /// each.
 const MOST_BYTES: usize = 65_536;
+
+/// Whether a connection has further lines answered after a reply.
+#[derive(Clone, Copy, Debug, Drop, PartialEq, Eq)]
+pub enum AfterReply {
+    /// Its next line is awaited.
+    GoesOn,
+    /// It is closed as soon as the reply was taken.
+    Closes,
+}
+
+/// The reply to a line.
+#[derive(Clone, Copy, Drop)]
+pub struct Reply<'a> {
+    pub bytes: &'a [u8],
+    pub after: AfterReply,
+}
 
 /// Whether a reply of this many bytes is kept until its connection takes it.
 pub fn has_room(bytes: usize) -> bool

@@ -7,7 +7,7 @@ use crate::context::ServeContext;
 use crate::notices::Notices;
 use crate::revision_ports::{DownPorts, update_directory};
 use bg_book::{Control, Desk};
-use bg_control_port::{AfterReply, Asker, ControlPort, LinePriority};
+use bg_control_port::{AfterReply, Asker, ControlPort, LinePriority, Reply};
 use bg_history::AnalysisResult;
 use bg_ledger::Names;
 use bg_operator::{Command, LineFault, OperatorLines};
@@ -117,7 +117,11 @@ impl<'c, R: Clock + Wait> Operator<'c, R> {
             self.note_decision();
         }
         if let Some(asker) = self.asker.take() {
-            control.reply(self.rt, asker, &self.reply, after, &self.rollbacks);
+            let reply = Reply {
+                bytes: self.reply.as_slice(),
+                after,
+            };
+            control.reply(self.rt, asker, reply, &self.rollbacks);
         }
     }
 
