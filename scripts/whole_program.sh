@@ -171,9 +171,7 @@ expect 0 examples/direct.settings '' check < "$work/known"
 expect 1 /dev/null ReadFailed check < examples
 expect 1 /dev/null ReadFailed replay < examples
 expect_to /dev/full 1 /dev/null WriteFailed check < examples/direct.json
-# The hint was written before the output failed.
-expect_to /dev/full 1 /dev/null 'bg_switch: the strategy is no JSON: EOF while parsing at line 1 column 0
-WriteFailed' check < /dev/null
+expect_to /dev/full 1 /dev/null WriteFailed check < /dev/null
 expect_to /dev/full 1 /dev/null WriteFailed replay < examples/two_requests.txt
 
 echo "whole_program: $passed passed, $failed failed"

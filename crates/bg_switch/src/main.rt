@@ -63,29 +63,29 @@ fn main(rt: HostRuntime) -> ExitCode {
     }
 }
 
-/// Carries out `check`, and writes hints about the text of the strategy to standard error. Returns
-/// the exit status.
+/// Carries out `check`. After the output was written, writes hints about the text of the strategy to standard
+/// error. Returns the exit status.
 fn checked(rt: &HostRuntime) -> Result<u8, RunEnd> {
-    let (status, _stdout) = check_buffered(
-        rt.alloc(),
-        &mut rt.stdin(),
-        rt.stdout(),
-        &mut rt.stderr(),
-    )?;
+    let mut hints = Vec::new(rt.alloc());
+    let (status, _stdout) =
+        check_buffered(rt.alloc(), &mut rt.stdin(), rt.stdout(), &mut hints)?;
+    write_hints(rt, &hints);
     Ok(status)
 }
 
-/// Carries out `replay`, and writes hints about the text of the strategy to standard error. Returns
-/// the exit status.
+/// Carries out `replay`. After the output was written, writes hints about the text of the strategy to standard
+/// error. Returns the exit status.
 fn replayed(rt: &HostRuntime, seats: u8) -> Result<u8, RunEnd> {
-    let (status, _stdout) = replay_buffered(
-        rt.alloc(),
-        seats,
-        &mut rt.stdin(),
-        rt.stdout(),
-        &mut rt.stderr(),
-    )?;
+    let mut hints = Vec::new(rt.alloc());
+    let (status, _stdout) =
+        replay_buffered(rt.alloc(), seats, &mut rt.stdin(), rt.stdout(), &mut hints)?;
+    write_hints(rt, &hints);
     Ok(status)
+}
+
+/// Writes hints to standard error. A failed write changes nothing else.
+fn write_hints(rt: &HostRuntime, hints: &[u8]) {
+    let _ = rt.stderr().write_all(hints);
 }
 
 /// Carries out `serve` with the settings of the words and of the environment. Returns the exit status.
