@@ -7,7 +7,7 @@ use crate::listener::CountedListener;
 use crate::pending::{Pending, Watch};
 use crate::pending_connection::{CompleteRequest, PendingConnection};
 use crate::request_buffer::Ending;
-use crate::response_buffer::{ResponseBuffer, Turn};
+use crate::response_buffer::{Fate, ResponseBuffer};
 use crate::sockets::is_ready;
 use crate::wait_sets::{WaitSet, WaitSets};
 use std::alloc::Global;
@@ -261,7 +261,7 @@ impl ClientPort {
         if request.request.ending != Ending::GivenUp {
             let stream = request.stream;
             let mut response = ResponseBuffer::new(response, was_whole);
-            if let Turn::Waits(interest) = response.go_on(&stream) {
+            if let Fate::Waits(interest) = response.go_on(&stream) {
                 let now = self.clock.now(rt);
                 let connection = PendingConnection::answered(stream, response, interest, now);
                 // if it can't be left to the event loop, it ends here

@@ -2,7 +2,7 @@
 
 use crate::progress::{FIRST_BYTE_PACE, Pace, Progress, REQUEST_PACE, RESPONSE_PACE};
 use crate::request_buffer::{BufferedRequest, Ending, RequestBuffer};
-use crate::response_buffer::{ResponseBuffer, Turn};
+use crate::response_buffer::{Fate, ResponseBuffer};
 use crate::sockets::is_drained;
 use crate::wait_sets::{Interest, LoopSet};
 use std::net::{Shutdown, TcpStream};
@@ -214,7 +214,7 @@ impl PendingConnection {
             return false;
         };
         let was_shut = response.is_shut();
-        let turn = response.go_on(&self.stream);
+        let fate = response.go_on(&self.stream);
         let is_shut = response.is_shut();
         let moved = response.moved();
         if is_shut && !was_shut {
@@ -225,9 +225,9 @@ impl PendingConnection {
             self.until = now.saturating_add(STILL_MILLIS).min(last);
         }
         self.moved = moved;
-        match turn {
-            Turn::Over => true,
-            Turn::Waits(interest) => !self.awaits(interest, key, set),
+        match fate {
+            Fate::Over => true,
+            Fate::Waits(interest) => !self.awaits(interest, key, set),
         }
     }
 

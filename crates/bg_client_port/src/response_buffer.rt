@@ -12,9 +12,9 @@ const MOST_PASSED_OVER: usize = 1 << 24;
 /// The number of writes, and of reads, in a row before other connections have their turn.
 const CALLS_A_TURN: u32 = 16;
 
-/// How a turn ends.
+/// Whether a connection stays.
 #[derive(Clone, Copy, PartialEq, Eq, Debug, Drop)]
-pub(crate) enum Turn {
+pub(crate) enum Fate {
     /// The connection waits.
     Waits(Interest),
     /// The connection has to be closed.
@@ -72,15 +72,15 @@ impl ResponseBuffer {
     }
 
     /// Continues as far as it can without waiting, and as its turn allows.
-    pub(crate) fn go_on(&mut self, stream: &TcpStream) -> Turn {
+    pub(crate) fn go_on(&mut self, stream: &TcpStream) -> Fate {
         match self.write_on(stream) {
             Ok(true) => {}
-            Ok(false) => return Turn::Waits(Interest::Output),
-            Err(_) => return Turn::Over,
+            Ok(false) => return Fate::Waits(Interest::Output),
+            Err(_) => return Fate::Over,
         }
         if !self.is_shut {
             if self.was_whole && is_drained(stream) || stream.shutdown(Shutdown::Write).is_err() {
-                return Turn::Over;
+                return Fate::Over;
             }
             self.is_shut = true;
         }
@@ -114,22 +114,22 @@ impl ResponseBuffer {
     }
 
     /// Discards the bytes that still come, up to the bound.
-    fn discard_input(&mut self, stream: &TcpStream) -> Turn {
+    fn discard_input(&mut self, stream: &TcpStream) -> Fate {
         let mut piece = [0u8; PIECE];
         for _ in 0..CALLS_A_TURN {
             match receive_now(stream, &mut piece) {
-                Ok(0) => return Turn::Over,
+                Ok(0) => return Fate::Over,
                 Ok(count) => self.passed = self.passed.saturating_add(count),
                 Err(error) => match error.kind() {
-                    ErrorKind::WouldBlock => return Turn::Waits(Interest::Input),
+                    ErrorKind::WouldBlock => return Fate::Waits(Interest::Input),
                     ErrorKind::Interrupted => {}
-                    _ => return Turn::Over,
+                    _ => return Fate::Over,
                 },
             }
             if self.passed >= MOST_PASSED_OVER {
-                return Turn::Over;
+                return Fate::Over;
             }
         }
-        Turn::Waits(Interest::Input)
+        Fate::Waits(Interest::Input)
     }
 }

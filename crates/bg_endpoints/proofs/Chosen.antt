@@ -2,7 +2,7 @@
 use Rattle.std.proofs.Common.{◌≡◌, ℕ, Bool, true, false, cond, ◌&&◌, List, [], ◌∷◌, Option, Some, None, IfSome, refl, drop, take}
 use Rattle.std.specs.List.{find}
 use Rattle.std.specs.Option.{option_or}
-use Rattle.bg_endpoints.specs.Choices.{alone_choice, chosen, chosen_by, first_from, free_criteria, is_new, passes, place_of}
+use Rattle.bg_endpoints.specs.Choices.{chosen, chosen_by, first_from, free_criteria, is_new, passes, place_of}
 use Rattle.bg_endpoints.specs.Lists.{listed, only_list}
 use Rattle.bg_endpoints.specs.declared.port_lists.PortList.{PortList}
 use Rattle.bg_endpoints.specs.declared.table.Choice.{Choice}
