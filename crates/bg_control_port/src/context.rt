@@ -1,8 +1,8 @@
-//! What connections are handled with.
+//! What the handling of connections needs.
 
 use crate::readiness::Readiness;
 
-/// What the port handles its connections with.
+/// What the handling of any connection needs.
 #[derive(Drop)]
 pub struct PortContext<'a, P> {
     /// The moment, in milliseconds from the start of the port.
@@ -12,7 +12,7 @@ pub struct PortContext<'a, P> {
     pub priority: &'a P,
 }
 
-/// What one connection is handled with.
+/// What the handling of one connection needs.
 #[derive(Drop)]
 pub struct ConnectionContext<'a, P> {
     pub port: &'a PortContext<'a, P>,

@@ -153,7 +153,7 @@ impl ControlPort {
         state.connections.close();
     }
 
-    /// What connections are handled with at this moment.
+    /// What the handling of connections needs at this moment.
     fn context<'a, R: Clock, P>(&'a self, rt: &R, priority: &'a P) -> PortContext<'a, P> {
         PortContext {
             now: self.now(rt),

@@ -48,7 +48,7 @@ pub struct Served {
     pub reason: Option<Reason>,
 }
 
-/// A worker: what it serves the requests of clients with.
+/// A worker: its gate, how it dials, and the service that it serves.
 #[derive(Drop)]
 pub struct Worker<'a, G, D> {
     pub alloc: Global,
