@@ -197,7 +197,12 @@ impl OperatorConnection {
     fn watch_on<P>(&self, may_have_arrived: bool, context: &ConnectionContext<P>) -> Fate {
         match &self.stage {
             OperatorStage::Awaits | OperatorStage::Skips if may_have_arrived => {
-                fate_of(context.port.readiness.watch_input(&self.stream, context.key))
+                fate_of(
+                    context
+                        .port
+                        .readiness
+                        .watch_input(&self.stream, context.key),
+                )
             }
             _ => Fate::Stays,
         }
@@ -236,7 +241,12 @@ impl OperatorConnection {
                 let rest = &reply.bytes[count.min(reply.bytes.len())..];
                 match self.keep(alloc, rest, reply.after) {
                     Ok(()) if has_room(rest.len()) => {
-                        fate_of(context.port.readiness.watch_output(&self.stream, context.key))
+                        fate_of(
+                            context
+                                .port
+                                .readiness
+                                .watch_output(&self.stream, context.key),
+                        )
                     }
                     _ => Fate::Ends,
                 }

@@ -78,12 +78,7 @@ impl Connections {
     }
 
     /// Handles that a connection is ready.
-    pub fn attend<P: LinePriority>(
-        &mut self,
-        key: usize,
-        has_ended: bool,
-        port: &PortContext<P>,
-    ) {
+    pub fn attend<P: LinePriority>(&mut self, key: usize, has_ended: bool, port: &PortContext<P>) {
         let Some(connection) = self.connections.get_mut(key) else {
             return;
         };
@@ -128,12 +123,7 @@ impl Connections {
     }
 
     /// Gives the reply to the line that was taken from a connection.
-    pub fn reply<P: LinePriority>(
-        &mut self,
-        key: usize,
-        reply: Reply,
-        port: &PortContext<P>,
-    ) {
+    pub fn reply<P: LinePriority>(&mut self, key: usize, reply: Reply, port: &PortContext<P>) {
         let Some(connection) = self.connections.get_mut(key) else {
             return;
         };

@@ -37,13 +37,7 @@ pub fn run_workers<
     G: Gate<N> + Sync,
     A: Accept + Sync,
     D: Dial + Sync,
->(
-    rt: &R,
-    context: &WorkerContext<G, A, D>,
-    seats: &mut [Seat<N>],
-    services: &[Service],
-    count: u64,
-)
+>(rt: &R, context: &WorkerContext<G, A, D>, seats: &mut [Seat<N>], services: &[Service], count: u64)
 where
     A::Stream: Send,
     D::Stream: Send,

@@ -67,8 +67,7 @@ fn main(rt: HostRuntime) -> ExitCode {
 /// error. Returns the exit status.
 fn checked(rt: &HostRuntime) -> Result<u8, RunEnd> {
     let mut hints = Vec::new(rt.alloc());
-    let (status, _stdout) =
-        check_buffered(rt.alloc(), &mut rt.stdin(), rt.stdout(), &mut hints)?;
+    let (status, _stdout) = check_buffered(rt.alloc(), &mut rt.stdin(), rt.stdout(), &mut hints)?;
     write_hints(rt, &hints);
     Ok(status)
 }
@@ -77,8 +76,13 @@ fn checked(rt: &HostRuntime) -> Result<u8, RunEnd> {
 /// error. Returns the exit status.
 fn replayed(rt: &HostRuntime, seats: u8) -> Result<u8, RunEnd> {
     let mut hints = Vec::new(rt.alloc());
-    let (status, _stdout) =
-        replay_buffered(rt.alloc(), seats, &mut rt.stdin(), rt.stdout(), &mut hints)?;
+    let (status, _stdout) = replay_buffered(
+        rt.alloc(),
+        seats,
+        &mut rt.stdin(),
+        rt.stdout(),
+        &mut hints,
+    )?;
     write_hints(rt, &hints);
     Ok(status)
 }

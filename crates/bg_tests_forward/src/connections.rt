@@ -247,8 +247,7 @@ pub fn serve<R: Wait>(
         dial: &endpoint,
         questions: &questions,
     };
-    let closed =
-        serve_over::<Brand, R, Endpoint>(&trial, &strategy, &mut client, Blanks::new())?;
+    let closed = serve_over::<Brand, R, Endpoint>(&trial, &strategy, &mut client, Blanks::new())?;
     let Some(served) = closed.served else {
         return Ok(None);
     };
