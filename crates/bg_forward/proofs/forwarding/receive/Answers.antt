@@ -1,11 +1,28 @@
-use Rattle.std.proofs.Common.{◌≡◌, ◌++◌, ◌∙◌, ap, sym, subst, take, rules, arith}
-use Rattle.std.specs.Io.KnownBytes.{Consumes}
+use Rattle.std.proofs.Common.{◌≡◌, ◌<◌, ℕ, List, [], ◌++◌, ◌∙◌, ap, sym, subst, length, take, rules, arith}
+use Rattle.std.proofs.lemmas.List.{append-nil}
+use Rattle.std.specs.Io.KnownBytes.{Consumes, IsAtEnd}
 use Rattle.bg_http_read.specs.Responses.{ReadsResponse}
 use Rattle.bg_http_read.specs.ResponseStates.{IsRead}
 use Rattle.bg_http_read.specs.Streams.{Leaves}
-use Rattle.bg_forward.proofs.Pieces.{Came, came_kept, piece_came, whole_input}
+use Rattle.bg_forward.proofs.Pieces.{Came, came_kept, ended_input, piece_came, whole_input}
 use Rattle.bg_forward.proofs.forwarding.receive.Goals.{in-Ok+in-Ok-None, in-Err+else-ne}
 use Rattle.bg_forward.proofs.forwarding.receive.Goals as goal
+
+pub returns-in-Ok-end-clause-response : goal.returns-in-Ok-end-clause-response
+returns-in-Ok-end-clause-response g c =
+    let first = g.R.Read.remaining c.args.reader.now in
+    let left = g.R.Read.remaining c.loop.reader in
+    let next = g.R.Read.remaining c.read.new.self in
+    let seen = c.loop.parser.seen in
+    let is_response : List ℕ → Type 0 = ReadsResponse c.args.request.now c.in-Ok-end.response in
+    let none = c.in-Ok-eq0.field-0-test in
+    let nothing : Consumes left next [] = subst (λ n. Consumes left next (take n c.read.new.buf)) none c.in-Ok-eq0.ensures.bytes.0 in
+    let room : 0 < length c.read.new.buf = search (rules, arith) in
+    let at_end : IsAtEnd next = c.in-Ok-eq0.ensures.bytes.1 none room in
+    let came = piece_came seen [] first left next c.loop.invariant.came nothing in
+    let read : is_response seen = subst (λ r. ReadsResponse r c.in-Ok-end.response seen) c.loop.invariant.request
+    c.in-Ok-end.ensures.response in
+    ended_input is_response (seen ++ []) first next came at_end (subst is_response (sym (append-nil seen)) read)
 
 pub returns-in-Ok-Some-clause-response : goal.returns-in-Ok-Some-clause-response
 returns-in-Ok-Some-clause-response g c =
