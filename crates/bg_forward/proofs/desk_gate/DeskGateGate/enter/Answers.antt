@@ -1,4 +1,4 @@
-use Rattle.std.proofs.Common.{◌≡◌, IfOk, Result, Ok, Err, None, subst}
+use Rattle.std.proofs.Common.{◌≡◌, IfOk, Result, Ok, Err, None}
 use Rattle.bg_book.specs.Headline.{Headline}
 use Rattle.bg_rollout.specs.Meeting.{Meets}
 use Rattle.bg_rollout.specs.Refusals.{AnswersBy, IsTicket, enter_refusal}
