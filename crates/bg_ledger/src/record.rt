@@ -69,14 +69,7 @@ impl<N: Names> SeatRecord<N> {
         ensures seat { seat.new ≡ next }
         ensures own { self.new ≡ next }
     {
-        swap(
-            &mut self.token,
-            &mut seat.token,
-            next.calls,
-            next.number,
-            next.revision,
-            next.port,
-        );
+        swap(&mut self.token, &mut seat.token, &next);
         self.holding = next;
         seat.holding = next;
     }

@@ -1,8 +1,9 @@
 //! Pairs of tokens. The two tokens of a pair have one name, and always say the same four numbers: they are changed
 //! together, and each part with its token can prove what the other part's token says. They take no space at run time.
 ghost use Rattle.std.specs.Prelude.{◌≡◌, List, ℕ};
-ghost use Rattle.bg_ledger.specs.Tokens.{Amounts, all_own, record_owns, seat_owns, zero};
+ghost use Rattle.bg_ledger.specs.Tokens.{Amounts, all_own, amounts_of, record_owns, seat_owns, zero};
 
+use crate::holding::Holding;
 use std::marker::Model;
 
 /// The token of a record.
@@ -65,17 +66,11 @@ impl NewTokens {
     }
 }
 
-/// Changes what the two tokens of a name say. It proves that they said the same.
-pub(crate) fn swap(
-    own: &mut RecordToken,
-    seat: &mut SeatToken,
-    _calls: u64,
-    _number: u64,
-    _revision: u64,
-    _port: u64,
-)
+/// Makes the two tokens of a name say the quantities of `_next`. It proves that they said the same.
+pub(crate) fn swap(own: &mut RecordToken, seat: &mut SeatToken, _next: &Holding)
     requires name { own.old.name ≡ seat.old.name }
     ensures equal { own.old.amounts ≡ seat.old.amounts }
-    ensures own { (own.new.name ≡ own.old.name) × (own.new.amounts ≡ (_calls, (_number, (_revision, _port)))) }
-    ensures seat { (seat.new.name ≡ seat.old.name) × (seat.new.amounts ≡ (_calls, (_number, (_revision, _port)))) }
+    ensures own { (own.new.name ≡ own.old.name) × (own.new.amounts ≡ amounts_of _next.now) }
+    ensures seat { (seat.new.name ≡ seat.old.name)
+        × (seat.new.amounts ≡ amounts_of _next.now) }
 {}
