@@ -18,6 +18,12 @@ pub(crate) struct Node<T> {
     pub(crate) value: Option<T>,
 }
 
+/// The two nodes between which a node stands.
+struct Neighbours<T> {
+    prev: Link<T>,
+    next: Link<T>,
+}
+
 /// The link to the node of this number.
 pub(crate) fn link_to<T>(nodes: &Vec<Node<T>>, index: usize) -> Link<T>
     requires { index < vec_len nodes.now }
@@ -98,24 +104,26 @@ fn set_prev<T>(nodes: &mut Vec<Node<T>>, at: Link<T>, to: Link<T>)
 fn fill<T>(
     nodes: &mut Vec<Node<T>>,
     at: Link<T>,
-    prev: Link<T>,
-    next: Link<T>,
+    between: Neighbours<T>,
     list: usize,
     value: T,
 ) -> Option<T>
     requires at { IsAt (node_size T.row) nodes.old at }
-    requires between { IsAt (node_size T.row) nodes.old prev
-        × IsAt (node_size T.row) nodes.old next }
+    requires between { IsAt (node_size T.row) nodes.old between.prev
+        × IsAt (node_size T.row) nodes.old between.next }
     requires linked { AllLinked (node_size T.row) nodes.old }
     ensures block { SameBlock nodes.old nodes.new }
     ensures linked { AllLinked (node_size T.row) nodes.new }
-    ensures nexts { nexts nodes.new.items ≡ slice_set (nexts nodes.old.items) at.index next.index }
-    ensures prevs { prevs nodes.new.items ≡ slice_set (prevs nodes.old.items) at.index prev.index }
+    ensures nexts { nexts nodes.new.items
+        ≡ slice_set (nexts nodes.old.items) at.index between.next.index }
+    ensures prevs { prevs nodes.new.items
+        ≡ slice_set (prevs nodes.old.items) at.index between.prev.index }
     ensures tags { tags nodes.new.items ≡ slice_set (tags nodes.old.items) at.index list }
     ensures values { values nodes.new.items
         ≡ slice_set (values nodes.old.items) at.index (Some value) }
     ensures held { result ≡ slice_index_or (values nodes.old.items) at.index None }
 {
+    let Neighbours { prev, next } = between;
     let node = follow_mut(nodes, at.ptr, at.index);
     node.prev = prev;
     node.next = next;
@@ -192,7 +200,11 @@ pub(crate) fn attach<T>(
     ensures held { result ≡ slice_index_or (values nodes.old.items) at.index None }
 {
     let last = node_at(nodes, head).prev;
-    let held = fill(nodes, at, last, head, list, value);
+    let between = Neighbours {
+        prev: last,
+        next: head,
+    };
+    let held = fill(nodes, at, between, list, value);
     set_next(nodes, last, at);
     set_prev(nodes, head, at);
     held
