@@ -21,10 +21,9 @@ use bg_history::History;
 use bg_history_laws as laws;
 use bg_ledger::{Blanks, Names, Seat};
 use bg_rollout::{
-    Control, ControlFault, GatherFault, Limits, MOST_ENTRIES, OpenFault, Rollout,
+    Control, ControlFault, GatherFault, MOST_ENTRIES, OpenFault, Rollout, RolloutOpening,
     laws as rollout_laws,
 };
-use bg_strategy::Strategy;
 use std::alloc::Global;
 use std::marker::Model;
 
@@ -52,7 +51,7 @@ impl<N: Names> Model for Book<N> {
 }
 
 impl<N: Names> Book<N> {
-    /// Opens a book whose revision 1 has this name and these ports. Revision 1 wants its full size and has no
+    /// Opens a book whose revision 1 has the opening's name and ports. Revision 1 wants its full size and has no
     /// endpoint available; both services select it. Gives the book, which keeps a copy of the strategy, and its seats
     /// in order of index, each without a call. `N` sets the number of seats and the names of the tokens in
     /// `blanks`. An error drops the blanks.
@@ -62,25 +61,21 @@ impl<N: Names> Book<N> {
     /// is above the usual one; `OutOfMemory` if an allocation fails.
     pub fn open(
         alloc: Global,
-        strategy: &Strategy,
-        name: &str,
-        ports: &[u16],
-        seats: u32,
-        limits: Limits,
+        opening: &RolloutOpening,
         blanks: Blanks,
     ) -> Result<(Book<N>, Vec<Seat<N>>), OpenFault>
         requires blanks { AreAllFor N.Names blanks }
-        requires seats { 1 ≤ seats → seats ≤ 8 → N.seats ≡ seats }
-        ensures refusal { AnswersBy
-            (open_refusal strategy.now name.now ports.now seats limits) open_fault.OutOfMemory result }
-        ensures book { IfOk result
-            (λ r. r.0 ≡ opened strategy.now name.now ports.now seats limits r.1.items) }
-        ensures seats { IfOk result (λ r. NewSeats seats r.1.items) }
+        requires seats { 1 ≤ opening.now.seats → opening.now.seats ≤ 8
+            → N.seats ≡ opening.now.seats }
+        ensures refusal { AnswersBy (open_refusal opening.now.strategy.now
+            opening.now.name.now opening.now.ports.now opening.now.seats opening.now.limits)
+            open_fault.OutOfMemory result }
+        ensures book { IfOk result (λ r. r.0 ≡ opened opening.now.strategy.now opening.now.name.now
+            opening.now.ports.now opening.now.seats opening.now.limits r.1.items) }
+        ensures seats { IfOk result (λ r. NewSeats opening.now.seats r.1.items) }
         ensures all { IfOk result (λ r. are_all N.seats r.1.items ≡ true) }
     {
-        let (rollout, handed_out) = Rollout::open(
-            alloc, strategy, name, ports, seats, limits, blanks,
-        )?;
+        let (rollout, handed_out) = Rollout::open(alloc, opening, blanks)?;
         Ok((Book { alloc, rollout }, handed_out))
     }
 
@@ -88,25 +83,21 @@ impl<N: Names> Book<N> {
     /// 1 to 2,048 seats.
     pub fn open_with_many_seats(
         alloc: Global,
-        strategy: &Strategy,
-        name: &str,
-        ports: &[u16],
-        seats: u32,
-        limits: Limits,
+        opening: &RolloutOpening,
         blanks: Blanks,
     ) -> Result<(Book<N>, Vec<Seat<N>>), OpenFault>
         requires blanks { AreAllFor N.Names blanks }
-        requires seats { 1 ≤ seats → seats ≤ 2048 → N.seats ≡ seats }
-        ensures refusal { AnswersBy
-            (many_seats_refusal strategy.now name.now ports.now seats limits) open_fault.OutOfMemory result }
-        ensures book { IfOk result
-            (λ r. r.0 ≡ opened strategy.now name.now ports.now seats limits r.1.items) }
-        ensures seats { IfOk result (λ r. NewSeats seats r.1.items) }
+        requires seats { 1 ≤ opening.now.seats → opening.now.seats ≤ 2048
+            → N.seats ≡ opening.now.seats }
+        ensures refusal { AnswersBy (many_seats_refusal opening.now.strategy.now
+            opening.now.name.now opening.now.ports.now opening.now.seats opening.now.limits)
+            open_fault.OutOfMemory result }
+        ensures book { IfOk result (λ r. r.0 ≡ opened opening.now.strategy.now opening.now.name.now
+            opening.now.ports.now opening.now.seats opening.now.limits r.1.items) }
+        ensures seats { IfOk result (λ r. NewSeats opening.now.seats r.1.items) }
         ensures all { IfOk result (λ r. are_all N.seats r.1.items ≡ true) }
     {
-        let (rollout, handed_out) = Rollout::open_with_many_seats(
-            alloc, strategy, name, ports, seats, limits, blanks,
-        )?;
+        let (rollout, handed_out) = Rollout::open_with_many_seats(alloc, opening, blanks)?;
         Ok((Book { alloc, rollout }, handed_out))
     }
 

@@ -13,7 +13,8 @@ pub mod laws;
 mod open_book;
 
 pub use bg_rollout::{
-    Control, ControlFault, EnterFault, GatherFault, GoOn, Left, Limits, OpenFault, Ticket,
+    Control, ControlFault, EnterFault, GatherFault, GoOn, Left, Limits, OpenFault, RolloutOpening,
+    Ticket,
 };
 pub use book::Book;
 pub use calls::{Call, Reply};

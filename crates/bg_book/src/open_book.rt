@@ -17,8 +17,7 @@ use crate::fault::RunFault;
 use crate::laws as book_laws;
 use bg_history::History;
 use bg_ledger::{Blanks, Names, Seat};
-use bg_rollout::{Limits, OpenFault};
-use bg_strategy::Strategy;
+use bg_rollout::{OpenFault, RolloutOpening};
 use std::alloc::Global;
 use std::marker::Model;
 
@@ -45,46 +44,42 @@ impl<N: Names> OpenBook<N> {
     /// Opens a book as [`Book::open`] does, with the same errors.
     pub fn open(
         alloc: Global,
-        strategy: &Strategy,
-        name: &str,
-        ports: &[u16],
-        seats: u32,
-        limits: Limits,
+        opening: &RolloutOpening,
         blanks: Blanks,
     ) -> Result<OpenBook<N>, OpenFault>
         requires blanks { AreAllFor N.Names blanks }
-        requires seats { 1 ≤ seats → seats ≤ 8 → N.seats ≡ seats }
-        ensures refusal { AnswersBy
-            (open_refusal strategy.now name.now ports.now seats limits) OutOfMemory result }
-        ensures book { IfOk result
-            (λ made. made.book ≡ opened strategy.now name.now ports.now seats limits made.seats) }
-        ensures seats { IfOk result (λ made. NewSeats seats made.seats) }
+        requires seats { 1 ≤ opening.now.seats → opening.now.seats ≤ 8
+            → N.seats ≡ opening.now.seats }
+        ensures refusal { AnswersBy (open_refusal opening.now.strategy.now
+            opening.now.name.now opening.now.ports.now opening.now.seats opening.now.limits)
+            OutOfMemory result }
+        ensures book { IfOk result (λ made. made.book ≡ opened opening.now.strategy.now
+            opening.now.name.now opening.now.ports.now opening.now.seats opening.now.limits
+            made.seats) }
+        ensures seats { IfOk result (λ made. NewSeats opening.now.seats made.seats) }
     {
-        let (book, seats) = Book::open(alloc, strategy, name, ports, seats, limits, blanks)?;
+        let (book, seats) = Book::open(alloc, opening, blanks)?;
         Ok(OpenBook { book, seats })
     }
 
     /// Opens a book as [`Book::open_with_many_seats`] does, with the same errors.
     pub fn open_with_many_seats(
         alloc: Global,
-        strategy: &Strategy,
-        name: &str,
-        ports: &[u16],
-        seats: u32,
-        limits: Limits,
+        opening: &RolloutOpening,
         blanks: Blanks,
     ) -> Result<OpenBook<N>, OpenFault>
         requires blanks { AreAllFor N.Names blanks }
-        requires seats { 1 ≤ seats → seats ≤ 2048 → N.seats ≡ seats }
-        ensures refusal { AnswersBy
-            (many_seats_refusal strategy.now name.now ports.now seats limits) OutOfMemory result }
-        ensures book { IfOk result
-            (λ made. made.book ≡ opened strategy.now name.now ports.now seats limits made.seats) }
-        ensures seats { IfOk result (λ made. NewSeats seats made.seats) }
+        requires seats { 1 ≤ opening.now.seats → opening.now.seats ≤ 2048
+            → N.seats ≡ opening.now.seats }
+        ensures refusal { AnswersBy (many_seats_refusal opening.now.strategy.now
+            opening.now.name.now opening.now.ports.now opening.now.seats opening.now.limits)
+            OutOfMemory result }
+        ensures book { IfOk result (λ made. made.book ≡ opened opening.now.strategy.now
+            opening.now.name.now opening.now.ports.now opening.now.seats opening.now.limits
+            made.seats) }
+        ensures seats { IfOk result (λ made. NewSeats opening.now.seats made.seats) }
     {
-        let (book, seats) = Book::open_with_many_seats(
-            alloc, strategy, name, ports, seats, limits, blanks,
-        )?;
+        let (book, seats) = Book::open_with_many_seats(alloc, opening, blanks)?;
         Ok(OpenBook { book, seats })
     }
 

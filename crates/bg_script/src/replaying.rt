@@ -12,7 +12,7 @@ use crate::answering::{FirstRevision, LinesEnd, answer_lines};
 use crate::finding::{Finding, finding_in, write_finding};
 use crate::run_end::RunEnd;
 use crate::stages::{ScriptSettings, WithoutBook};
-use bg_book::{Limits, OpenBook, OpenFault};
+use bg_book::{Limits, OpenBook, OpenFault, RolloutOpening};
 use bg_ledger::{Blanks, Names};
 use bg_operator::{MOST_TURNS, OperatorLines, part_before_script};
 use std::alloc::Global;
@@ -149,15 +149,14 @@ fn open<N: Names>(opening: &Opening, blanks: Blanks) -> Result<OpenBook<N>, Open
         (Closed opening.now.settings.now.strategy.now opening.now.settings.now.seats)) }
 {
     let Opening { settings, first } = opening;
-    OpenBook::open(
-        settings.alloc,
-        settings.strategy,
-        first.name.get(),
-        first.ports.get(),
-        settings.seats,
-        Limits::usual(),
-        blanks,
-    )
+    let rollout_opening = RolloutOpening {
+        strategy: settings.strategy,
+        name: first.name.get(),
+        ports: first.ports.get(),
+        seats: settings.seats,
+        limits: Limits::usual(),
+    };
+    OpenBook::open(settings.alloc, &rollout_opening, blanks)
 }
 
 /// Writes that the book is open, and answers each later line by it. Returns whether a fault was among the answers.

@@ -6,7 +6,7 @@ use crate::context::ServeContext;
 use crate::operators::Operator;
 use crate::serve::written;
 use crate::workers::{services_of, work_beside_operators};
-use bg_book::{Book, Desk, Limits, OpenFault};
+use bg_book::{Book, Desk, Limits, OpenFault, RolloutOpening};
 use bg_ledger::{Blanks, Names, Seat};
 use bg_report::report;
 use bg_script::{Answer, FirstRevision, LinesEnd, RunEnd};
@@ -77,15 +77,14 @@ where
     requires seats { 1 ≤ context.now.seats → context.now.seats ≤ 2048 → N.seats ≡ context.now.seats }
 {
     let services = services_of(context.alloc, context.seats, context.previews)?;
-    let (book, mut seats) = Book::<N>::open_with_many_seats(
-        context.alloc,
-        context.strategy,
-        first.name.get(),
-        first.ports.get(),
-        context.seats,
-        Limits::usual(),
-        blanks,
-    )?;
+    let opening = RolloutOpening {
+        strategy: context.strategy,
+        name: first.name.get(),
+        ports: first.ports.get(),
+        seats: context.seats,
+        limits: Limits::usual(),
+    };
+    let (book, mut seats) = Book::<N>::open_with_many_seats(context.alloc, &opening, blanks)?;
     let desk = Desk::new(book);
     work_beside_operators(context, &desk, &services, seats.as_mut_slice(), operator);
     context.notices.write_refusals();

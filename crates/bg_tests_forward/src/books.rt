@@ -4,7 +4,7 @@ ghost use Rattle.bg_ledger.specs.Blanks.{AreAllFor};
 ghost use Rattle.bg_rollout.specs.Changes.{NewSeats};
 ghost use Rattle.bg_rollout.specs.Gathering.{are_all};
 
-use bg_book::{Book, Control, ControlFault, Desk, Limits, OpenFault, Question};
+use bg_book::{Book, Control, ControlFault, Desk, Limits, OpenFault, Question, RolloutOpening};
 use bg_history::History;
 use bg_ledger::{Blanks, Names, Seat};
 use bg_strategy::Strategy;
@@ -24,7 +24,14 @@ pub fn open<N: Names>(
     ensures seats { IfOk result (λ r. NewSeats seats r.1.items) }
     ensures all { IfOk result (λ r. are_all N.seats r.1.items ≡ true) }
 {
-    let (book, seats) = Book::open(alloc, strategy, "v1", &[9001, 9002], seats, limits, blanks)?;
+    let opening = RolloutOpening {
+        strategy,
+        name: "v1",
+        ports: &[9001, 9002],
+        seats,
+        limits,
+    };
+    let (book, seats) = Book::open(alloc, &opening, blanks)?;
     Ok((Desk::new(book), seats))
 }
 

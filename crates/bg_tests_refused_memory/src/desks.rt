@@ -7,7 +7,7 @@ use crate::asking::{Subject, change, made, made_again, say_made, say_refused, sh
 use crate::state::State;
 use crate::stop::Stop;
 use crate::strategies::base_strategy;
-use bg_book::{Call, Control, Limits, OpenBook};
+use bg_book::{Call, Control, Limits, OpenBook, RolloutOpening};
 use bg_ledger::{Blanks, Names};
 use bg_revisions::{Name, Ports, Service};
 use bg_strategy::Strategy;
@@ -34,9 +34,14 @@ impl<N: Names> Desk<N> {
         requires blanks { AreAllFor N.Names blanks }
         requires seats { N.seats ≡ 8 }
     {
-        let ports = [9001, 9002];
-        let usual = Limits::usual();
-        let opened = OpenBook::open(alloc, strategy, "v1", &ports, 8, usual, blanks)?;
+        let opening = RolloutOpening {
+            strategy,
+            name: "v1",
+            ports: &[9001, 9002],
+            seats: 8,
+            limits: Limits::usual(),
+        };
+        let opened = OpenBook::open(alloc, &opening, blanks)?;
         Ok(Desk { opened })
     }
 
@@ -50,11 +55,14 @@ impl<N: Names> Desk<N> {
         requires blanks { AreAllFor N.Names blanks }
         requires seats { N.seats ≡ seats }
     {
-        let ports = [9001, 9002];
-        let usual = Limits::usual();
-        let opened = OpenBook::open_with_many_seats(
-            alloc, strategy, "v1", &ports, seats, usual, blanks,
-        )?;
+        let opening = RolloutOpening {
+            strategy,
+            name: "v1",
+            ports: &[9001, 9002],
+            seats,
+            limits: Limits::usual(),
+        };
+        let opened = OpenBook::open_with_many_seats(alloc, &opening, blanks)?;
         Ok(Desk { opened })
     }
 

@@ -10,7 +10,9 @@ use crate::page::Page;
 use crate::state::State;
 use crate::stop::Stop;
 use crate::strategies::base_strategy;
-use bg_book::{Book, Desk, EnterFault, GoOn, Left, Limits, Question, Ticket, laws as book_laws};
+use bg_book::{
+    Book, Desk, EnterFault, GoOn, Left, Limits, Question, RolloutOpening, Ticket, laws as book_laws,
+};
 use bg_forward::{DeskGate, Dial, Dialled, End, Gate, InMemoryResult, Worker, serve_in_memory};
 use bg_ledger::{Blanks, Names, Seat};
 use bg_revisions::Service;
@@ -111,15 +113,14 @@ fn work<N: Names, R: AllocGlobal + Print + Eprint + Wait>(
     requires seats { N.seats ≡ 1 }
 {
     book_laws::lent();
-    let (book, mut seats) = Book::<N>::open(
-        rt.alloc(),
+    let opening = RolloutOpening {
         strategy,
-        "v1",
-        &[9001, 9002],
-        1,
-        Limits::usual(),
-        blanks,
-    )?;
+        name: "v1",
+        ports: &[9001, 9002],
+        seats: 1,
+        limits: Limits::usual(),
+    };
+    let (book, mut seats) = Book::<N>::open(rt.alloc(), &opening, blanks)?;
     let desk = Desk::new(book);
     let end = serve_first(rt, &desk, seats.as_mut_slice());
     let _history = desk.into_book().close(seats);

@@ -7,7 +7,7 @@ use crate::desks::available;
 use crate::state::State;
 use crate::stop::Stop;
 use crate::strategies::base_strategy;
-use bg_book::{Call, Limits, OpenBook, Reply};
+use bg_book::{Call, Limits, OpenBook, Reply, RolloutOpening};
 use bg_ledger::{Blanks, Names};
 use bg_revisions::Service;
 use bg_strategy::Strategy;
@@ -45,9 +45,14 @@ impl<N: Names> Room<N> {
         requires blanks { AreAllFor N.Names blanks }
         requires seats { N.seats ≡ 2 }
     {
-        let ports = [9001, 9002];
-        let usual = Limits::usual();
-        let opened = OpenBook::open(alloc, strategy, "v1", &ports, 2, usual, blanks)?;
+        let opening = RolloutOpening {
+            strategy,
+            name: "v1",
+            ports: &[9001, 9002],
+            seats: 2,
+            limits: Limits::usual(),
+        };
+        let opened = OpenBook::open(alloc, &opening, blanks)?;
         Ok(Room { opened })
     }
 

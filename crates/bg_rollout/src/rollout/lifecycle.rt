@@ -11,6 +11,7 @@ ghost use Rattle.bg_ledger.specs.declared.holding.Holding.{Holding};
 
 use crate::fault::{GatherFault, OpenFault};
 use crate::limits::Limits;
+use crate::opening::RolloutOpening;
 use crate::request_lists::{MOST_SEATS, RequestLists};
 use crate::rollout::Rollout;
 use bg_history::History;
@@ -33,136 +34,133 @@ impl<N: Names> Rollout<N> {
     /// is above the usual one; `OutOfMemory` if an allocation fails.
     pub fn open(
         alloc: Global,
-        strategy: &Strategy,
-        name: &str,
-        ports: &[u16],
-        seats: u32,
-        limits: Limits,
+        opening: &RolloutOpening,
         blanks: Blanks,
     ) -> Result<(Rollout<N>, Vec<Seat<N>>), OpenFault>
         requires blanks { AreAllFor N.Names blanks }
-        requires seats { 1 ≤ seats → seats ≤ 8 → N.seats ≡ seats }
-        ensures refusal { AnswersBy
-            (open_refusal strategy.now name.now ports.now seats limits) OutOfMemory result }
+        requires seats { 1 ≤ opening.now.seats → opening.now.seats ≤ 8
+            → N.seats ≡ opening.now.seats }
+        ensures refusal { AnswersBy (open_refusal opening.now.strategy.now
+            opening.now.name.now opening.now.ports.now opening.now.seats opening.now.limits)
+            OutOfMemory result }
         ensures rollout { IfOk result (λ r. r.0 ≡ record {
-          routing = opened strategy.now name.now ports.now seats limits r.1.items;
+          routing = opened opening.now.strategy.now opening.now.name.now opening.now.ports.now
+              opening.now.seats opening.now.limits r.1.items;
           spare = 0;
         }) }
-        ensures count { IfOk result (λ r. seats ≡ N.seats) }
-        ensures seats { IfOk result (λ r. NewSeats seats r.1.items) }
+        ensures count { IfOk result (λ r. opening.now.seats ≡ N.seats) }
+        ensures seats { IfOk result (λ r. NewSeats opening.now.seats r.1.items) }
         ensures all { IfOk result (λ r. are_all_of N.seats r.1.items ≡ true) }
     {
-        Rollout::open_up_to(
-            FEW_SEATS, alloc, strategy, name, ports, seats, limits, blanks,
-        )
+        Rollout::open_up_to(FEW_SEATS, alloc, opening, blanks)
     }
 
     /// Opens a rollout as [`Rollout::open`] does, but with up to [`MOST_SEATS`] seats: the error is `BadSeats` only if
     /// there are not 1 to 2,048 seats.
     pub fn open_with_many_seats(
         alloc: Global,
-        strategy: &Strategy,
-        name: &str,
-        ports: &[u16],
-        seats: u32,
-        limits: Limits,
+        opening: &RolloutOpening,
         blanks: Blanks,
     ) -> Result<(Rollout<N>, Vec<Seat<N>>), OpenFault>
         requires blanks { AreAllFor N.Names blanks }
-        requires seats { 1 ≤ seats → seats ≤ 2048 → N.seats ≡ seats }
-        ensures refusal { AnswersBy
-            (many_seats_refusal strategy.now name.now ports.now seats limits) OutOfMemory result }
+        requires seats { 1 ≤ opening.now.seats → opening.now.seats ≤ 2048
+            → N.seats ≡ opening.now.seats }
+        ensures refusal { AnswersBy (many_seats_refusal opening.now.strategy.now
+            opening.now.name.now opening.now.ports.now opening.now.seats opening.now.limits)
+            OutOfMemory result }
         ensures rollout { IfOk result (λ r. r.0 ≡ record {
-          routing = opened strategy.now name.now ports.now seats limits r.1.items;
+          routing = opened opening.now.strategy.now opening.now.name.now opening.now.ports.now
+              opening.now.seats opening.now.limits r.1.items;
           spare = 0;
         }) }
-        ensures count { IfOk result (λ r. seats ≡ N.seats) }
-        ensures seats { IfOk result (λ r. NewSeats seats r.1.items) }
+        ensures count { IfOk result (λ r. opening.now.seats ≡ N.seats) }
+        ensures seats { IfOk result (λ r. NewSeats opening.now.seats r.1.items) }
         ensures all { IfOk result (λ r. are_all_of N.seats r.1.items ≡ true) }
     {
-        Rollout::open_up_to(
-            MOST_SEATS, alloc, strategy, name, ports, seats, limits, blanks,
-        )
+        Rollout::open_up_to(MOST_SEATS, alloc, opening, blanks)
     }
 
     /// Opens a rollout with at most this many seats.
     fn open_up_to(
         most: u32,
         alloc: Global,
-        strategy: &Strategy,
-        name: &str,
-        ports: &[u16],
-        seats: u32,
-        limits: Limits,
+        opening: &RolloutOpening,
         blanks: Blanks,
     ) -> Result<(Rollout<N>, Vec<Seat<N>>), OpenFault>
         requires most { most ≤ 2048 }
         requires blanks { AreAllFor N.Names blanks }
-        requires seats { 1 ≤ seats → seats ≤ most → N.seats ≡ seats }
-        ensures refusal { AnswersBy
-            (open_refusal_up_to most strategy.now name.now ports.now seats limits) OutOfMemory result }
+        requires seats { 1 ≤ opening.now.seats → opening.now.seats ≤ most
+            → N.seats ≡ opening.now.seats }
+        ensures refusal { AnswersBy (open_refusal_up_to most opening.now.strategy.now
+            opening.now.name.now opening.now.ports.now opening.now.seats opening.now.limits)
+            OutOfMemory result }
         ensures rollout { IfOk result (λ r. r.0 ≡ record {
-          routing = opened strategy.now name.now ports.now seats limits r.1.items;
+          routing = opened opening.now.strategy.now opening.now.name.now opening.now.ports.now
+              opening.now.seats opening.now.limits r.1.items;
           spare = 0;
         }) }
-        ensures count { IfOk result (λ r. seats ≡ N.seats) }
-        ensures seats { IfOk result (λ r. NewSeats seats r.1.items) }
+        ensures count { IfOk result (λ r. opening.now.seats ≡ N.seats) }
+        ensures seats { IfOk result (λ r. NewSeats opening.now.seats r.1.items) }
         ensures all { IfOk result (λ r. are_all_of N.seats r.1.items ≡ true) }
     {
-        if let Some(fault) = opening_fault(most, strategy, name, ports, seats, limits) {
+        if let Some(fault) = opening_fault(most, opening) {
             return Err(fault);
         }
-        Rollout::build(alloc, strategy, name, ports, seats, limits, blanks)
+        Rollout::build(alloc, opening, blanks)
     }
 
     /// Makes the rollout of an opening without a fault, and its seats. The only error is an allocation failure.
     fn build(
         alloc: Global,
-        strategy: &Strategy,
-        name: &str,
-        ports: &[u16],
-        seats: u32,
-        limits: Limits,
+        opening: &RolloutOpening,
         blanks: Blanks,
     ) -> Result<(Rollout<N>, Vec<Seat<N>>), OpenFault>
-        requires fits { many_seats_refusal strategy.now name.now ports.now seats limits ≡ None }
+        requires fits { many_seats_refusal opening.now.strategy.now opening.now.name.now
+            opening.now.ports.now opening.now.seats opening.now.limits ≡ None }
         requires blanks { AreAllFor N.Names blanks }
-        requires seats { N.seats ≡ seats }
+        requires seats { N.seats ≡ opening.now.seats }
         ensures rollout { IfOk result (λ r. r.0 ≡ record {
-          routing = opened strategy.now name.now ports.now seats limits r.1.items;
+          routing = opened opening.now.strategy.now opening.now.name.now opening.now.ports.now
+              opening.now.seats opening.now.limits r.1.items;
           spare = 0;
         }) }
-        ensures count { IfOk result (λ r. seats ≡ N.seats) }
-        ensures seats { IfOk result (λ r. NewSeats seats r.1.items) }
+        ensures count { IfOk result (λ r. opening.now.seats ≡ N.seats) }
+        ensures seats { IfOk result (λ r. NewSeats opening.now.seats r.1.items) }
         ensures all { IfOk result (λ r. are_all_of N.seats r.1.items ≡ true) }
         ensures err { IfErr result (λ e. e ≡ OutOfMemory) }
     {
-        let strategy = strategy.clone()?;
-        Rollout::assemble(alloc, strategy, name, ports, seats, limits, blanks)
+        let strategy = opening.strategy.clone()?;
+        Rollout::assemble(alloc, strategy, opening, blanks)
     }
 
-    /// Makes the parts of a rollout with this strategy. The only error is an allocation failure.
+    /// Makes the parts of a rollout with this strategy, which is a copy of the opening's. The only error is an
+    /// allocation failure.
     fn assemble(
         alloc: Global,
         strategy: Strategy,
-        name: &str,
-        ports: &[u16],
-        seats: u32,
-        limits: Limits,
+        opening: &RolloutOpening,
         blanks: Blanks,
     ) -> Result<(Rollout<N>, Vec<Seat<N>>), OpenFault>
-        requires fits { many_seats_refusal strategy name.now ports.now seats limits ≡ None }
+        requires fits { many_seats_refusal strategy opening.now.name.now
+            opening.now.ports.now opening.now.seats opening.now.limits ≡ None }
         requires blanks { AreAllFor N.Names blanks }
-        requires seats { N.seats ≡ seats }
+        requires seats { N.seats ≡ opening.now.seats }
         ensures rollout { IfOk result (λ r. r.0 ≡ record {
-          routing = opened strategy name.now ports.now seats limits r.1.items;
+          routing = opened strategy opening.now.name.now opening.now.ports.now
+              opening.now.seats opening.now.limits r.1.items;
           spare = 0;
         }) }
-        ensures seats { IfOk result (λ r. NewSeats seats r.1.items) }
+        ensures seats { IfOk result (λ r. NewSeats opening.now.seats r.1.items) }
         ensures err { IfErr result (λ e. e ≡ OutOfMemory) }
     {
-        let (history, roster, lists) = first_parts(alloc, strategy.replicas, seats, name, ports)?;
-        let (records, handed_out) = new_seats::<N>(alloc, seats, blanks)?;
+        let (history, roster, lists) = first_parts(
+            alloc,
+            strategy.replicas,
+            opening.seats,
+            opening.name,
+            opening.ports,
+        )?;
+        let (records, handed_out) = new_seats::<N>(alloc, opening.seats, blanks)?;
         let core = Core::new(&strategy);
         let deadlines = Deadlines::new(
             strategy.delay,
@@ -171,7 +169,7 @@ impl<N: Names> Rollout<N> {
         );
         let rollout = Rollout {
             strategy,
-            limits,
+            limits: opening.limits,
             core,
             roster,
             deadlines,
@@ -215,27 +213,21 @@ impl<N: Names> Rollout<N> {
 }
 
 /// The first fault of an opening with at most this many seats, other than an allocation failure, if it has one.
-fn opening_fault(
-    most: u32,
-    strategy: &Strategy,
-    name: &str,
-    ports: &[u16],
-    seats: u32,
-    limits: Limits,
-) -> Option<OpenFault>
-    ensures { result ≡ open_refusal_up_to most strategy.now name.now ports.now seats limits }
+fn opening_fault(most: u32, opening: &RolloutOpening) -> Option<OpenFault>
+    ensures { result ≡ open_refusal_up_to most opening.now.strategy.now opening.now.name.now
+        opening.now.ports.now opening.now.seats opening.now.limits }
 {
-    if !is_dns_label(name) {
+    if !is_dns_label(opening.name) {
         return Some(OpenFault::BadName);
     }
-    if !are_replica_ports(strategy.replicas, ports) {
+    if !are_replica_ports(opening.strategy.replicas, opening.ports) {
         return Some(OpenFault::BadPorts);
     }
-    if seats < 1 || most < seats {
+    if opening.seats < 1 || most < opening.seats {
         return Some(OpenFault::BadSeats);
     }
     let usual = Limits::usual();
-    if usual.entries < limits.entries || usual.numbers < limits.numbers {
+    if usual.entries < opening.limits.entries || usual.numbers < opening.limits.numbers {
         return Some(OpenFault::BadLimits);
     }
     None

@@ -4,7 +4,10 @@ ghost use Rattle.bg_ledger.specs.Blanks.{AreAllFor};
 
 use super::samples::strategy;
 use crate::history::gathered::expect_audited;
-use bg_book::{Book, Call, Control, ControlFault, Left, Limits, Reply, Ticket, laws as book_laws};
+use bg_book::{
+    Book, Call, Control, ControlFault, Left, Limits, Reply, RolloutOpening, Ticket,
+    laws as book_laws,
+};
 use bg_ledger::{Blanks, Names};
 use bg_revisions::Service;
 use std::alloc::Global;
@@ -66,15 +69,14 @@ fn run_calls<N: Names>(
         entries: 150,
         numbers: 1 << 53,
     };
-    let (mut book, mut seats) = Book::<N>::open(
-        alloc,
-        &strategy,
-        "v1",
-        &[9001, 9002],
-        1,
+    let opening = RolloutOpening {
+        strategy: &strategy,
+        name: "v1",
+        ports: &[9001, 9002],
+        seats: 1,
         limits,
-        blanks,
-    )?;
+    };
+    let (mut book, mut seats) = Book::<N>::open(alloc, &opening, blanks)?;
     let first = book.run(seats.as_mut_slice(), before);
     let dropped = book.compact();
     let closed = book.history().closed(0);

@@ -5,7 +5,8 @@ ghost use Rattle.bg_ledger.specs.Blanks.{AreAllFor};
 use super::samples::strategy;
 use crate::history::gathered::expect_audited;
 use bg_book::{
-    Book, Call, Control, ControlFault, EnterFault, Limits, OpenFault, Reply, laws as book_laws,
+    Book, Call, Control, ControlFault, EnterFault, Limits, OpenFault, Reply, RolloutOpening,
+    laws as book_laws,
 };
 use bg_ledger::{Blanks, Names};
 use bg_revisions::Service;
@@ -30,16 +31,14 @@ fn answers<N: Names>(plan: &Plan, blanks: Blanks) -> Result<Result<Vec<Reply>, O
     requires seats { 1 ≤ plan.now.seats → plan.now.seats ≤ 8 → N.seats ≡ plan.now.seats }
 {
     book_laws::lent();
-    let opened = Book::<N>::open(
-        plan.alloc,
-        plan.strategy,
-        "v1",
-        &[9001, 9002],
-        plan.seats,
-        plan.limits,
-        blanks,
-    );
-    match opened {
+    let opening = RolloutOpening {
+        strategy: plan.strategy,
+        name: "v1",
+        ports: &[9001, 9002],
+        seats: plan.seats,
+        limits: plan.limits,
+    };
+    match Book::<N>::open(plan.alloc, &opening, blanks) {
         Ok((mut book, mut seats)) => {
             let replies = book.run(seats.as_mut_slice(), plan.calls);
             let history = book.close(seats);

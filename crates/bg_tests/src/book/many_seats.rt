@@ -4,7 +4,7 @@ ghost use Rattle.bg_ledger.specs.Blanks.{AreAllFor};
 
 use super::samples::strategy;
 use crate::history::gathered::expect_audited;
-use bg_book::{Book, Call, Control, Limits, OpenFault, Reply, laws as book_laws};
+use bg_book::{Book, Call, Control, Limits, OpenFault, Reply, RolloutOpening, laws as book_laws};
 use bg_ledger::{Blanks, Names};
 use bg_revisions::Service;
 use bg_strategy::Strategy;
@@ -24,16 +24,14 @@ fn replies_of<N: Names>(
     requires seats { 1 ≤ count → count ≤ 2048 → N.seats ≡ count }
 {
     book_laws::lent();
-    let usual = Limits::usual();
-    match Book::<N>::open_with_many_seats(
-        alloc,
+    let opening = RolloutOpening {
         strategy,
-        "v1",
-        &[9001, 9002],
-        count,
-        usual,
-        blanks,
-    ) {
+        name: "v1",
+        ports: &[9001, 9002],
+        seats: count,
+        limits: Limits::usual(),
+    };
+    match Book::<N>::open_with_many_seats(alloc, &opening, blanks) {
         Ok((mut book, mut seats)) => {
             let replies = book.run(seats.as_mut_slice(), calls);
             let history = book.close(seats);

@@ -5,7 +5,9 @@ ghost use Rattle.bg_ledger.specs.Blanks.{AreAllFor};
 
 use super::samples::strategy;
 use crate::history::gathered::expect_audited;
-use bg_book::{Book, Call, Control, Left, Limits, Reply, Ticket, laws as book_laws};
+use bg_book::{
+    Book, Call, Control, Left, Limits, Reply, RolloutOpening, Ticket, laws as book_laws,
+};
 use bg_history::History;
 use bg_ledger::{Blanks, Names};
 use bg_revisions::Service;
@@ -31,16 +33,14 @@ fn run_calls<N: Names>(
     ensures { IfOk result (λ r. open_requests r.1.past ≡ []) }
 {
     let strategy = strategy(alloc)?;
-    let usual = Limits::usual();
-    let (mut book, mut seats) = Book::<N>::open(
-        alloc,
-        &strategy,
-        "v1",
-        &[9001, 9002],
-        4,
-        usual,
-        blanks,
-    )?;
+    let opening = RolloutOpening {
+        strategy: &strategy,
+        name: "v1",
+        ports: &[9001, 9002],
+        seats: 4,
+        limits: Limits::usual(),
+    };
+    let (mut book, mut seats) = Book::<N>::open(alloc, &opening, blanks)?;
     book_laws::lent();
     let answered = book.run(seats.as_mut_slice(), calls);
     let history = book.close(seats);

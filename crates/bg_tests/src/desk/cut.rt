@@ -6,7 +6,7 @@ ghost use Rattle.bg_ledger.specs.Blanks.{AreAllFor};
 use super::calls::make;
 use crate::book::samples::strategy_with;
 use crate::history::gathered::expect_audited;
-use bg_book::{Call, Desk, GoOn, Limits, OpenBook, laws as book_laws};
+use bg_book::{Call, Desk, GoOn, Limits, OpenBook, RolloutOpening, laws as book_laws};
 use bg_ledger::{Blanks, Names, Seat};
 use bg_operator::{Command, LineFault, parse_line};
 use bg_strategy::Strategy;
@@ -129,8 +129,14 @@ fn tell_at<N: Names, R: Wait>(
     requires seats { N.seats ≡ 4 }
 {
     book_laws::lent();
-    let limits = Limits::usual();
-    let opened = OpenBook::<N>::open(alloc, strategy, "v1", &[9001, 9002], 4, limits, blanks)?;
+    let opening = RolloutOpening {
+        strategy,
+        name: "v1",
+        ports: &[9001, 9002],
+        seats: 4,
+        limits: Limits::usual(),
+    };
+    let opened = OpenBook::<N>::open(alloc, &opening, blanks)?;
     let (book, mut seats) = opened.into_parts();
     let desk = Desk::new(book);
     let told = tell(rt, alloc, &desk, seats.as_mut_slice(), story);

@@ -4,7 +4,7 @@ ghost use Rattle.bg_ledger.specs.Blanks.{AreAllFor};
 
 use crate::book::samples::strategy;
 use crate::history::gathered::expect_audited;
-use bg_book::{Book, Control, GatherFault, Limits};
+use bg_book::{Book, Control, GatherFault, Limits, RolloutOpening};
 use bg_ledger::{Blanks, Names, Seat};
 use bg_revisions::Service;
 use std::alloc::Global;
@@ -85,15 +85,14 @@ fn gather_often<N: Names, R: Abort>(rt: &R, alloc: Global, blanks: Blanks) -> Re
         revision: 1,
         size: 2,
     };
-    let (mut book, seats) = Book::<N>::open(
-        alloc,
-        &strategy,
-        "v1",
-        &[9001, 9002],
-        2,
-        Limits::usual(),
-        blanks,
-    )?;
+    let opening = RolloutOpening {
+        strategy: &strategy,
+        name: "v1",
+        ports: &[9001, 9002],
+        seats: 2,
+        limits: Limits::usual(),
+    };
+    let (mut book, seats) = Book::<N>::open(alloc, &opening, blanks)?;
     if book.control(&available).is_err() {
         rt.abort();
     }

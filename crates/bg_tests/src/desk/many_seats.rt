@@ -5,7 +5,7 @@ ghost use Rattle.bg_ledger.specs.Blanks.{AreAllFor};
 use super::threads::work_and_tick;
 use crate::book::samples::strategy;
 use crate::history::gathered::expect_audited;
-use bg_book::{Book, Control, Desk, Limits, laws as book_laws};
+use bg_book::{Book, Control, Desk, Limits, RolloutOpening, laws as book_laws};
 use bg_history::History;
 use bg_ledger::{Blanks, Names, Seat};
 use std::alloc::Global;
@@ -54,15 +54,14 @@ fn open_and_work<N: Names + Send + Sync, R: Threads + Wait + Sync + Abort>(
         revision: 1,
         size: 2,
     };
-    let (book, mut seats) = Book::<N>::open_with_many_seats(
-        alloc,
-        &strategy,
-        "v1",
-        &[9001, 9002],
-        SEATS,
-        Limits::usual(),
-        blanks,
-    )?;
+    let opening = RolloutOpening {
+        strategy: &strategy,
+        name: "v1",
+        ports: &[9001, 9002],
+        seats: SEATS,
+        limits: Limits::usual(),
+    };
+    let (book, mut seats) = Book::<N>::open_with_many_seats(alloc, &opening, blanks)?;
     let desk = Desk::new(book);
     let told = desk.control(rt, &available);
     work_and_tick(rt, &desk, seats.as_mut_slice());

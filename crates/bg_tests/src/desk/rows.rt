@@ -9,7 +9,9 @@ use super::scripts::ROWS;
 use crate::book::samples::strategy_with;
 use crate::history::gathered::expect_audited;
 use crate::history::texts::lines_of;
-use bg_book::{Book, Call, Desk, Limits, OpenBook, Question, Reply, laws as book_laws};
+use bg_book::{
+    Book, Call, Desk, Limits, OpenBook, Question, Reply, RolloutOpening, laws as book_laws,
+};
 use bg_history::History;
 use bg_ledger::{Blanks, Names, Seat};
 use bg_operator::{Command, LineFault, parse_line};
@@ -148,15 +150,14 @@ fn open<N: Names>(script: &Script, blanks: Blanks) -> Result<OpenBook<N>, Fail>
     requires blanks { AreAllFor N.Names blanks }
     requires seats { N.seats ≡ 4 }
 {
-    let opened = OpenBook::open(
-        script.alloc,
-        script.strategy,
-        "v1",
-        &[9001, 9002],
-        4,
-        Limits::usual(),
-        blanks,
-    )?;
+    let opening = RolloutOpening {
+        strategy: script.strategy,
+        name: "v1",
+        ports: &[9001, 9002],
+        seats: 4,
+        limits: Limits::usual(),
+    };
+    let opened = OpenBook::open(script.alloc, &opening, blanks)?;
     Ok(opened)
 }
 

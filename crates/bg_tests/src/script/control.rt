@@ -5,7 +5,7 @@ ghost use Rattle.bg_ledger.specs.Blanks.{AreAllFor};
 use crate::book::samples::strategy;
 use crate::history::gathered::expect_audited;
 use crate::script::streams::Unflushed;
-use bg_book::{Book, Desk, Limits};
+use bg_book::{Book, Desk, Limits, RolloutOpening};
 use bg_ledger::{Blanks, Names};
 use bg_operator::OperatorLines;
 use bg_script::{
@@ -117,7 +117,14 @@ fn answer<N: Names, R: Wait>(
     let strategy = strategy(alloc)?;
     let mut answers = Vec::new(alloc);
     let mut taken = OperatorLines::new(alloc);
-    let (book, seats) = Book::<N>::open(alloc, &strategy, "v1", &[9001, 9002], 1, limits, blanks)?;
+    let opening = RolloutOpening {
+        strategy: &strategy,
+        name: "v1",
+        ports: &[9001, 9002],
+        seats: 1,
+        limits,
+    };
+    let (book, seats) = Book::<N>::open(alloc, &opening, blanks)?;
     let desk = Desk::new(book);
     let refused = AtomicU64::new(0);
     let written = Written {

@@ -6,7 +6,7 @@ use Rattle.bg_rollout.proofs.rollout.Rollout.assemble.Goals as goal
 
 pub first_parts-requires : goal.first_parts-requires
 first_parts-requires g c =
-    let fit = fits c.args.strategy c.args.name.now c.args.ports.now c.args.seats c.args.limits c.requires.fits in
+    let fit = fits c.args.strategy c.args.opening.now.name.now c.args.opening.now.ports.now c.args.opening.now.seats c.args.opening.now.limits c.requires.fits in
     and_both _ _ fit.name_fits fit.ports_fit
 
 pub invariant_of-rollout : goal.invariant_of-rollout
@@ -20,4 +20,4 @@ returns-clause-rollout g c =
     let parts = c.in_ok-history.ensures in
     rw (parts.roster, parts.history, parts.lists, c.new-deadlines.ensures, c.in_ok-records.ensures.records)
     (ap (λ (v : Routing). record { routing = v; spare = 0 })
-    (shown-opened c.args.strategy c.args.name.now c.args.ports.now c.args.seats c.args.limits c.in_ok-records.handed_out.items c.new-core.result (fits _ _ _ _ _ c.requires.fits) c.new-core.ensures c.in_ok-records.ensures.seats))
+    (shown-opened c.args.strategy c.args.opening.now.name.now c.args.opening.now.ports.now c.args.opening.now.seats c.args.opening.now.limits c.in_ok-records.handed_out.items c.new-core.result (fits _ _ _ _ _ c.requires.fits) c.new-core.ensures c.in_ok-records.ensures.seats))

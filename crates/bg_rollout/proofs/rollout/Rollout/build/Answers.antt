@@ -12,4 +12,4 @@ if_ok (Err e) P Q f h = h
 pub returns-clause-all : goal.returns-clause-all
 returns-clause-all g c =
     if_ok c.assemble.result _ _
-    (λ r new. ap (λ (n : ℕ). are_all n r.1.items) c.requires.seats ∙ new_in_order c.args.seats r.1.items new) c.assemble.ensures.seats
+    (λ r new. ap (λ (n : ℕ). are_all n r.1.items) c.requires.seats ∙ new_in_order c.args.opening.now.seats r.1.items new) c.assemble.ensures.seats

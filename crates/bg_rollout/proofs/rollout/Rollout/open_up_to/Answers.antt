@@ -4,11 +4,11 @@ use Rattle.bg_rollout.proofs.rollout.Rollout.open_up_to.Goals as goal
 
 pub build-requires-clause-fits : goal.build-requires-clause-fits
 build-requires-clause-fits g c =
-    widened c.args.most c.args.strategy.now c.args.name.now c.args.ports.now c.args.seats c.args.limits c.requires.most (sym c.opening_fault.ensures ∙ c.in_default.is)
+    widened c.args.most c.args.opening.now.strategy.now c.args.opening.now.name.now c.args.opening.now.ports.now c.args.opening.now.seats c.args.opening.now.limits c.requires.most (sym c.opening_fault.ensures ∙ c.in_default.is)
 
 pub build-requires-clause-seats : goal.build-requires-clause-seats
 build-requires-clause-seats g c =
-    let range = seats_in_range c.args.most c.args.strategy.now c.args.name.now c.args.ports.now c.args.seats c.args.limits (sym c.opening_fault.ensures ∙ c.in_default.is) in
+    let range = seats_in_range c.args.most c.args.opening.now.strategy.now c.args.opening.now.name.now c.args.opening.now.ports.now c.args.opening.now.seats c.args.opening.now.limits (sym c.opening_fault.ensures ∙ c.in_default.is) in
     c.requires.seats range.0 range.1
 
 pub returns-clause-refusal : goal.returns-clause-refusal
