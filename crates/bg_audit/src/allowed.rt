@@ -60,7 +60,12 @@ impl Facts {
                 port,
             } => {
                 let selected = self.state.selection(strategy, *service);
-                self.may_enter(seats, selected, *seat, *number, *revision, *port)
+                let request = AuditedRequest {
+                    seat: *seat,
+                    number: *number,
+                    revision: *revision,
+                };
+                self.may_enter(seats, selected, request, *port)
             }
             Entry::Leave {
                 seat,
@@ -137,18 +142,22 @@ impl Facts {
         }
     }
 
-    /// Whether a request may enter; `selected` is the revision that the service selects.
+    /// Whether the request may enter with this port; `selected` is the revision that the service selects.
     fn may_enter(
         &self,
         seats: u64,
         selected: Option<u64>,
-        seat: u32,
-        number: u64,
-        revision: u64,
+        request: AuditedRequest,
         port: u16,
     ) -> bool
-        ensures { result ≡ enters_in self.now seats selected seat number revision port }
+        ensures { result ≡ enters_in self.now seats selected
+            request.seat request.number request.revision port }
     {
+        let AuditedRequest {
+            seat,
+            number,
+            revision,
+        } = request;
         (seat as u64) < seats
             && requests::held_by(&self.requests, seat).is_none()
             && is_value(selected, revision)

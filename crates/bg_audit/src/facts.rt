@@ -11,6 +11,7 @@ ghost use Rattle.bg_history_laws.specs.Reachable.{Reachable};
 use crate::audited_state::AuditedState;
 use crate::marks::{Around, NewestMark};
 use crate::requests::AuditedRequest;
+use crate::revisions::NumberedTemplate;
 use crate::{marks, requests, revisions};
 use bg_history::Entry;
 use bg_revisions::Revision;
@@ -48,7 +49,12 @@ impl Facts {
         }) [] f) }
     {
         let mut revisions = Vec::new(alloc);
-        revisions::add(alloc, &mut revisions, 1, name, ports, strategy.replicas)?;
+        let template = NumberedTemplate {
+            number: 1,
+            name,
+            ports,
+        };
+        revisions::add(alloc, &mut revisions, &template, strategy.replicas)?;
         let mut marks = Vec::new(alloc);
         marks::add(&mut marks, 1)?;
         Ok(Facts {

@@ -9,7 +9,7 @@ ghost use Rattle.bg_audit.specs.Requests.{request_told, greatest_of, greater_of,
 use bg_history::Entry;
 use std::alloc::AllocError;
 
-/// An open request: it entered and hasn't left.
+/// A request at a seat: an open one, which entered and hasn't left, or one that is to enter.
 #[derive(Clone, Copy, Drop, Debug)]
 pub struct AuditedRequest {
     pub seat: u32,

@@ -18,6 +18,14 @@ use bg_revisions::{Name, Ports, Revision};
 use bg_strategy::Strategy;
 use std::alloc::{AllocError, Global};
 
+/// A template and the number of its revision.
+#[derive(Clone, Copy, Drop, Debug)]
+pub struct NumberedTemplate<'a> {
+    pub number: u64,
+    pub name: &'a str,
+    pub ports: &'a [u16],
+}
+
 /// The revision of this number.
 pub fn with_number(revisions: &[Revision], number: u64) -> Option<&Revision>
     ensures { option_copied result ≡ numbered number revisions.now }
@@ -64,7 +72,14 @@ pub fn take(
             revision,
             name,
             ports,
-        } => deploy(alloc, revisions, strategy, state, *revision, name, ports)?,
+        } => {
+            let template = NumberedTemplate {
+                number: *revision,
+                name: name.get(),
+                ports: ports.get(),
+            };
+            deploy(alloc, revisions, strategy, state, &template)?;
+        }
         Entry::Available { revision, size } => report(revisions, *revision, *size),
         Entry::Retry => raise(revisions, state.newest, strategy.preview_replicas),
         Entry::Outcome(outcome) => settle(revisions, strategy, *outcome),
@@ -73,29 +88,28 @@ pub fn take(
     Ok(())
 }
 
-/// Updates the revisions with a deploy.
+/// Updates the revisions with a deploy. The only error is an allocation failure.
 fn deploy(
     alloc: Global,
     revisions: &mut Vec<Revision>,
     strategy: &Strategy,
     state: &AuditedState,
-    number: u64,
-    name: &Name,
-    ports: &Ports,
+    template: &NumberedTemplate,
 ) -> Result<(), AllocError>
     ensures { (o : Opening) (past : List Entry) → IsAuditedState strategy.now past state.now
         → Reachable strategy.now o past
-        → may_deploy strategy.now o number name.now ports.now past ≡ true
+        → may_deploy strategy.now o template.now.number template.now.name.now
+        template.now.ports.now past ≡ true
         → revisions.old.items ≡ revisions_of strategy.now o past
-        → OnOk result (revisions.new.items
-        ≡ revisions_of strategy.now o (Entry.Deploy number name.now ports.now ∷ past)) }
+        → OnOk result (revisions.new.items ≡ revisions_of strategy.now o (Entry.Deploy
+        template.now.number template.now.name.now template.now.ports.now ∷ past)) }
 {
     laws::resizes();
     laws::appends();
     laws::finds();
+    let number = template.number;
     if !has_number(revisions, number) {
-        let desired = strategy.preview_replicas;
-        add(alloc, revisions, number, name.get(), ports.get(), desired)?;
+        add(alloc, revisions, template, strategy.preview_replicas)?;
     } else if number != state.stable {
         raise(revisions, number, strategy.preview_replicas);
     }
@@ -106,23 +120,21 @@ fn deploy(
 pub fn add(
     alloc: Global,
     revisions: &mut Vec<Revision>,
-    number: u64,
-    name: &str,
-    ports: &[u16],
+    template: &NumberedTemplate,
     desired: u32,
 ) -> Result<(), AllocError>
     ensures { OnOk result (revisions.new.items ≡ revisions.old.items ++ record {
-      number = number;
-      name = name.now;
-      ports = ports.now;
+      number = template.now.number;
+      name = template.now.name.now;
+      ports = template.now.ports.now;
       desired = desired;
       available = 0;
     } ∷ []) }
 {
-    let name = Name::new(alloc, name)?;
-    let ports = Ports::new(alloc, ports)?;
+    let name = Name::new(alloc, template.name)?;
+    let ports = Ports::new(alloc, template.ports)?;
     revisions.push(Revision {
-        number,
+        number: template.number,
         name,
         ports,
         desired,

@@ -9,17 +9,17 @@ use Rattle.bg_audit.proofs.revisions.deploy.Goals as goal
 
 pub returns-in_ok-add : goal.returns-in_ok-add
 returns-in_ok-add c = λ o past state reach allowed is.
-    deployed-listed c.args.strategy.now o past c.args.number c.args.name.now c.args.ports.now c.args.revisions.now.items _
-    (λ above other size there. c.appends.ensures c.args.strategy.now o past c.args.number c.args.name.now c.args.ports.now above other size there)
-    (c.finds.ensures.number c.args.strategy.now o past c.args.number) reach allowed is (grind arith) (grind arith)
+    deployed-listed c.args.strategy.now o past c.args.template.now.number c.args.template.now.name.now c.args.template.now.ports.now c.args.revisions.now.items _
+    (λ above other size there. c.appends.ensures c.args.strategy.now o past c.args.template.now.number c.args.template.now.name.now c.args.template.now.ports.now above other size there)
+    (c.finds.ensures.number c.args.strategy.now o past c.args.template.now.number) reach allowed is (grind arith) (grind arith)
 
 pub returns-then-number-state : goal.returns-then-number-state
 returns-then-number-state c = λ o past state reach allowed is.
-    let kept : is_some (numbered c.args.number c.args.revisions.now.items) ≡ true = grind arith in
-    let there : exists_in c.args.number past ≡ true =
-    sym (number-listed c.args.strategy.now o past c.args.number c.args.revisions.now.items (c.finds.ensures.number c.args.strategy.now o past c.args.number) is) ∙ kept in
+    let kept : is_some (numbered c.args.template.now.number c.args.revisions.now.items) ≡ true = grind arith in
+    let there : exists_in c.args.template.now.number past ≡ true =
+    sym (number-listed c.args.strategy.now o past c.args.template.now.number c.args.revisions.now.items (c.finds.ensures.number c.args.strategy.now o past c.args.template.now.number) is) ∙ kept in
     let same = state.stable_is in
-    let other : IsFalse (c.args.number == stable_of past) = grind (arith, nat_tests) in
-    raised-listed c.args.strategy.now o past (Deploy c.args.number c.args.name.now c.args.ports.now) c.args.number c.args.strategy.now.preview_replicas _ _
-    (c.resizes.ensures.deploy c.args.strategy.now o past c.args.number c.args.name.now c.args.ports.now there other)
-    (c.finds.ensures.number c.args.strategy.now o past c.args.number) there is c.raise.ensures
+    let other : IsFalse (c.args.template.now.number == stable_of past) = grind (arith, nat_tests) in
+    raised-listed c.args.strategy.now o past (Deploy c.args.template.now.number c.args.template.now.name.now c.args.template.now.ports.now) c.args.template.now.number c.args.strategy.now.preview_replicas _ _
+    (c.resizes.ensures.deploy c.args.strategy.now o past c.args.template.now.number c.args.template.now.name.now c.args.template.now.ports.now there other)
+    (c.finds.ensures.number c.args.strategy.now o past c.args.template.now.number) there is c.raise.ensures
