@@ -1,10 +1,12 @@
 #!/usr/bin/env python3
-"""Writes crates/bg_tests/src/history/changed_histories.rt: histories that scripts gather, single changes of their entries, and for
+"""Writes crates/bg_tests/src/history/changed_histories.rt: the histories of worked rows, single changes of their entries, and for
 each change whether the history is still legal and settled.
 
 The verdicts come from the definitions below alone, which ask a list of entries, oldest first, as a reader would ask it.
 They are slow, keep no state, and share nothing with `audit`. What is written is the same at each run.
 """
+import json
+import json
 import pathlib
 import random
 import re
@@ -12,7 +14,7 @@ from collections.abc import Callable, Sequence
 from typing import Literal, NamedTuple, TypeAlias, TypeVar
 
 ROOT = pathlib.Path(__file__).resolve().parent.parent
-SCRIPTS = ROOT / "crates/bg_tests/src/desk/scripts.rt"
+ROWS = ROOT / "rows"
 TABLE = ROOT / "crates/bg_tests/src/history/changed_histories.rt"
 CHANGES = 200
 SEED = 2026
@@ -36,29 +38,23 @@ class Strategy(NamedTuple):
     history_limit: int
 
 
-def strategy_of(settings: str) -> Strategy:
-    """What the settings beside the active service make of the strategy, for two replicas."""
-
-    def value(name: str) -> str | None:
-        found = re.search(rf'"{name}": ("[^"]*"|\w+|\{{)', settings)
-        return found.group(1) if found else None
-
-    def number(name: str, absent: int) -> int:
-        found = value(name)
-        return absent if found is None else int(found)
-
+def strategy_of(document: str) -> Strategy:
+    """The strategy of a document that `check` accepts, with a default for each setting that it does not have."""
+    spec = json.loads(document)["spec"]
+    settings = {name: value for name, value in spec["strategy"]["blueGreen"].items() if value is not None}
+    replicas = spec.get("replicas", 1)
     return Strategy(
-        replicas=2,
-        preview_replicas=number("previewReplicaCount", 2),
-        has_preview=value("previewService") is not None,
-        auto=value("autoPromotionEnabled") in (None, "true"),
-        seconds=number("autoPromotionSeconds", 0),
-        pre=value("prePromotionAnalysis") is not None,
-        post=value("postPromotionAnalysis") is not None,
-        delay=number("scaleDownDelaySeconds", 30),
-        revision_limit=None if value("scaleDownDelayRevisionLimit") is None else number("scaleDownDelayRevisionLimit", 0),
-        abort_delay=number("abortScaleDownDelaySeconds", 30),
-        history_limit=number("revisionHistoryLimit", 10),
+        replicas=replicas,
+        preview_replicas=min(settings.get("previewReplicaCount", replicas), replicas),
+        has_preview=bool(settings.get("previewService")),
+        auto=settings.get("autoPromotionEnabled", True),
+        seconds=settings.get("autoPromotionSeconds", 0),
+        pre="prePromotionAnalysis" in settings,
+        post="postPromotionAnalysis" in settings,
+        delay=settings.get("scaleDownDelaySeconds", 30),
+        revision_limit=settings.get("scaleDownDelayRevisionLimit"),
+        abort_delay=settings.get("abortScaleDownDelaySeconds", 30),
+        history_limit=spec.get("revisionHistoryLimit", 10),
     )
 
 
@@ -671,15 +667,15 @@ def a_change(h: History, chance: random.Random) -> tuple[str, History]:
 
 
 class Row(NamedTuple):
-    """A script, its place in the table of scripts, and its strategy's settings."""
-    place: int
-    settings: str
+    """A worked row: its name, the document of its strategy, and its lines after the opening."""
+    name: str
+    document: str
     script: str
 
 
 class Change(NamedTuple):
-    """A change of the history of the script at a place in the table of scripts."""
-    row: int
+    """A change of the history of the row with this name."""
+    row: str
     line: str
 
 
@@ -689,34 +685,59 @@ class Judged(NamedTuple):
     is_good: bool
 
 
+FIRST_LINE = " ".join(["open", OPENING.name, *OPENING.ports])
+
+
+WORDS = {"report", "tick", "deploy", "available", "verdict", "promote", "abort", "retry", "enter", "leave"}
+
+
+def is_plain(line: str) -> bool:
+    """Whether a line is an event or a report, with single spaces and no number that begins with 0."""
+    return line.split(" ")[0] in WORDS and re.fullmatch(r"[a-z]+( [A-Za-z][A-Za-z0-9]*| 0| [1-9][0-9]*)*", line) is not None
+
+
 def rows() -> list[Row]:
-    """The scripts that drop no entry."""
-    source = SCRIPTS.read_text()
-    found: list[tuple[str, str]] = re.findall(
-        r'^    \(\n        (?:r#)?"(.*?)"#?,\n        "(.*?)",\n    \),$', source, re.M | re.S)
-    assert f"ROWS: [(&str, &str); {len(found)}]" in source
-    return [Row(place, settings, script) for place, (settings, script) in enumerate(found) if "compact" not in script]
+    """The rows of `replay` for the usual number of seats whose lines are plain and have no fault, after this first line."""
+    found = []
+    for folder in sorted(ROWS.iterdir()):
+        document, _, lines = (folder / "input").read_text(errors="replace").partition("---\n")
+        first, *script = lines.splitlines() or [""]
+        if (folder / "command").read_text().split() != ["replay"] or first != FIRST_LINE or not script:
+            continue
+        if all(is_plain(line) for line in script) and "fault" not in (folder / "replies").read_text():
+            found.append(Row(folder.name, document.strip(), "\n".join(script)))
+    return found
 
 
-def sort_key(judged: Judged) -> tuple[int, str, list[int], str]:
-    """What the changes are sorted by: their script, their kind and the numbers of their line."""
+def sort_key(judged: Judged) -> tuple[str, str, list[int], str]:
+    """What the changes are sorted by: their row, their kind and the numbers of their line."""
     row, line = judged.change
     words = line.split()
     return row, words[0], [int(word) if word.isdigit() else -1 for word in words], line
 
 
-def choose() -> tuple[dict[int, History], list[Judged]]:
-    """For each script its place, its history and its changes. At least a third of the changes, where so many are found,
+def distinct() -> list[tuple[Row, Strategy, History]]:
+    """The rows with their strategies and histories, without each whose history another one begins with."""
+    found: list[tuple[Row, Strategy, History]] = []
+    for row in rows():
+        s = strategy_of(row.document)
+        h = gathered(s, row.script)
+        assert fault(s, h) is None, row.name
+        if not any(other[: len(h)] == h for _, _, other in found):
+            found = [it for it in found if h[: len(it[2])] != it[2]]
+            found.append((row, s, h))
+    return found
+
+
+def choose() -> tuple[dict[Row, History], list[Judged]]:
+    """The history of each row, and the changes of these histories. At least a third of the changes, where so many are found,
     leave the history legal and settled; the others are spread over what they break."""
     chance = random.Random(SEED)
-    histories: dict[int, History] = {}
+    histories: dict[Row, History] = {}
     good: list[Change] = []
     by_fault: dict[str, list[Change]] = {}
-    for place, settings, script in rows():
-        s = strategy_of(settings)
-        h = gathered(s, script)
-        assert fault(s, h) is None, (settings, script)
-        histories[place] = h
+    for row, s, h in distinct():
+        histories[row] = h
         seen = {h}
         for _ in range(60 * len(h)):
             line, new = a_change(h, chance)
@@ -725,7 +746,7 @@ def choose() -> tuple[dict[int, History], list[Judged]]:
             seen.add(new)
             why = fault(s, new)
             found = good if why is None else by_fault.setdefault(why, [])
-            found.append(Change(place, line))
+            found.append(Change(row.name, line))
     chance.shuffle(good)
     chosen = [Judged(change, True) for change in good[: CHANGES * 2 // 5]]
     groups = [by_fault[name] for name in sorted(by_fault)]
@@ -737,28 +758,26 @@ def choose() -> tuple[dict[int, History], list[Judged]]:
     return histories, sorted(chosen, key=sort_key)
 
 
+def block(row: Row, h: History, changes: list[Judged]) -> str:
+    """A history and its changes, as the test reads them: each line begins with the word that says what it is."""
+    lines = [f"row {row.name}", f"strategy {json.dumps(json.loads(row.document))}"]
+    lines += [f"play {line}" for line in row.script.splitlines()]
+    lines += [f"entry {text_of(entry)}" for entry in h]
+    lines += [f"{'good' if is_good else 'bad'} {line}" for (name, line), is_good in changes if name == row.name]
+    return "\n".join(lines)
+
+
 def main() -> None:
     histories, changes = choose()
-    parts = []
-    for place, h in histories.items():
-        lines = [f"{'good' if is_good else 'bad'} {line}" for (row, line), is_good in changes if row == place]
-        entries = "\n".join(text_of(entry) for entry in h)
-        parts.append(f'    Changed {{\n        row: {place},\n        entries: "{entries}",\n        changes: "{chr(10).join(lines)}",\n    }},\n')
+    blocks = [block(row, h, changes) for row, h in histories.items()]
     TABLE.write_text(
-        f"""//! Changed histories, and whether each is legal and settled. Written by scripts/changed_histories.py.
+        f"""//! Changed histories of worked rows, and whether each is legal and settled. Written by scripts/changed_histories.py.
 
-/// A history that a script gathers, and changes of its entries.
-pub(super) struct Changed {{
-    /// The place of its script among the rows.
-    pub(super) row: usize,
-    /// Its entries, one a line.
-    pub(super) entries: &'static str,
-    /// One a line: whether the changed history is good, and what is changed at which place.
-    pub(super) changes: &'static str,
-}}
-
-pub(super) const CHANGED: [Changed; {len(parts)}] = [
-{"".join(parts)}];
+/// The histories, with an empty line between two. The first word of a line says what it is: `row`, the name of its row;
+/// `strategy`, the document of its strategy; `play`, a line after `open v1 9001 9002`; `entry`, an entry of its history;
+/// `good` or `bad`, a change of its entries, and whether the changed history is legal and settled. (One text costs less to
+/// prove than a table of texts.)
+pub(super) const CHANGED: &str = r#"{(chr(10) * 2).join(blocks)}"#;
 """
     )
 

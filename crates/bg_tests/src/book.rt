@@ -1,7 +1,7 @@
 //! The routing book.
 
-mod compaction;
 mod limits;
 mod many_seats;
+mod openings;
 mod runs;
 pub(crate) mod samples;

@@ -5,5 +5,5 @@ mod cut;
 mod gathering;
 mod many_seats;
 pub(crate) mod rows;
-pub(crate) mod scripts;
+mod scripts;
 mod threads;

@@ -1,184 +1,159 @@
-//! The limits of a book, and its number of seats.
-ghost use Rattle.std.specs.Prelude.{◌≡◌, ◌≤◌};
-ghost use Rattle.bg_ledger.specs.Blanks.{AreAllFor};
-
+//! Scripts whose history becomes full, or whose numbers are spent.
 use super::samples::strategy;
-use crate::history::gathered::expect_audited;
-use bg_book::{
-    Book, Call, Control, ControlFault, EnterFault, Limits, OpenFault, Reply, RolloutOpening,
-    laws as book_laws,
-};
-use bg_ledger::{Blanks, Names};
-use bg_revisions::Service;
-use bg_strategy::Strategy;
-use std::alloc::Global;
-use std::marker::Brand;
+use crate::desk::rows::play_book;
+use crate::history::texts::lines_of;
+use bg_book::Limits;
+use std::io;
+use std::io::Write;
 use std::test::Fail;
 
-/// A book, and the calls that are made to it.
-#[derive(Drop)]
-struct Plan<'a> {
-    alloc: Global,
-    strategy: &'a Strategy,
-    seats: u32,
-    limits: Limits,
-    calls: &'a [Call],
-}
+/// The most entries, the highest number of a request, the lines after `open v1 9001 9002`, the answers, and what the
+/// history shows at the end.
+type Row = (u64, u64, &'static str, &'static str, &'static str);
 
-/// The answers to an opening and to the calls after it.
-fn answers<N: Names>(plan: &Plan, blanks: Blanks) -> Result<Result<Vec<Reply>, OpenFault>, Fail>
-    requires blanks { AreAllFor N.Names blanks }
-    requires seats { 1 ≤ plan.now.seats → plan.now.seats ≤ 8 → N.seats ≡ plan.now.seats }
-{
-    book_laws::lent();
-    let opening = RolloutOpening {
-        strategy: plan.strategy,
-        name: "v1",
-        ports: &[9001, 9002],
-        seats: plan.seats,
-        limits: plan.limits,
-    };
-    match Book::<N>::open(plan.alloc, &opening, blanks) {
-        Ok((mut book, mut seats)) => {
-            let replies = book.run(seats.as_mut_slice(), plan.calls);
-            let history = book.close(seats);
-            expect_audited(plan.alloc, &history, plan.strategy)?;
-            Ok(Ok(replies?))
-        }
-        Err(fault) => Ok(Err(fault)),
+static ROWS: [Row; 2] = [
+    // a book whose history is full has room again after it is compacted
+    (
+        150,
+        1 << 53,
+        "available 1 2
+enter 0 active
+leave 0
+enter 0 active
+leave 0
+tick 1
+enter 0 active
+leave 0
+enter 0 active
+leave 0
+tick 2
+compact
+tick 2
+enter 0 active
+leave 0",
+        "ok 0
+entered 1 revision 1 port 9002
+left 1 revision 1
+entered 2 revision 1 port 9001
+left 2 revision 1
+ok 0
+entered 3 revision 1 port 9002
+left 3 revision 1
+entered 4 revision 1 port 9001
+left 4 revision 1
+refused HistoryFull
+compacted 8
+ok 0
+entered 5 revision 1 port 9002
+left 5 revision 1
+",
+        "closed 4
+closed 0
+closed 0
+closed 0
+Available { revision: 1, size: 2 }
+Tick(1)
+Tick(2)
+Enter { seat: 0, service: Active, number: 5, revision: 1, port: 9002 }
+Leave { seat: 0, number: 5, revision: 1 }
+",
+    ),
+    // no number above the limit is given
+    (
+        1000,
+        1,
+        "available 1 2
+enter 0 active
+leave 0
+enter 0 active",
+        "ok 0
+entered 1 revision 1 port 9002
+left 1 revision 1
+refused NumbersSpent
+",
+        "closed 0
+closed 0
+closed 0
+closed 0
+Available { revision: 1, size: 2 }
+Enter { seat: 0, service: Active, number: 1, revision: 1, port: 9002 }
+Leave { seat: 0, number: 1, revision: 1 }
+",
+    ),
+];
+
+#[test]
+fn limits_are_kept(rt: HostRuntime) -> Result<(), Fail> {
+    let strategy = strategy(rt.alloc())?;
+    for (entries, numbers, script, answers, shown) in &ROWS {
+        let limits = Limits {
+            entries: *entries,
+            numbers: *numbers,
+        };
+        let played = play_book(
+            rt.alloc(),
+            &strategy,
+            limits,
+            &lines_of(rt.alloc(), script)?,
+        )?;
+        let is_expected = played.answers.as_slice() == answers.as_bytes()
+            && played.entries.as_slice() == shown.as_bytes();
+        assert!(rt; is_expected, "{script}");
     }
+    Ok(())
 }
 
-fn answers_to(plan: &Plan) -> Result<Result<Vec<Reply>, OpenFault>, Fail> {
-    answers::<Brand>(plan, Blanks::new())
-}
+/// The number of requests that leave before the history is full.
+const ROUNDS: u32 = 64;
 
-/// A request enters at a seat.
-fn enter(seat: u32) -> Call {
-    Call::Enter {
-        seat,
-        service: Service::Active,
+/// Writes the lines that fill a history of 141 entries, and the answers to them. At the end there is room for each
+/// leaving, and for no other entry.
+fn write_full(lines: &mut Vec<u8>, answers: &mut Vec<u8>) -> io::Result<()> {
+    writeln!(lines, "available 1 2\ntick 1")?;
+    writeln!(answers, "ok 0\nrefused HistoryFull")?;
+    for round in 0..ROUNDS {
+        let number = round + 1;
+        let port = if number % 2 == 1 { 9002 } else { 9001 };
+        writeln!(lines, "enter 0 active\nleave 0")?;
+        writeln!(
+            answers,
+            "entered {number} revision 1 port {port}\nleft {number} revision 1"
+        )?;
     }
-}
-
-/// Both endpoints are available.
-fn available() -> Call {
-    Call::Control(Control::Available {
-        revision: 1,
-        size: 2,
-    })
-}
-
-/// Whether a call was carried out.
-fn is_done(reply: &Reply) -> bool {
-    matches!(reply, Reply::Entered(_) | Reply::Left(_) | Reply::Done(_))
+    writeln!(
+        lines,
+        "enter 0 active\nenter 1 active\nenter 2 active\nenter 3 active\nleave 0\nleave 1\nleave 2"
+    )?;
+    writeln!(
+        answers,
+        "entered 65 revision 1 port 9002\nentered 66 revision 1 port 9001\nentered 67 revision 1 port 9002
+refused HistoryFull\nleft 65 revision 1\nleft 66 revision 1\nleft 67 revision 1"
+    )
 }
 
 #[test]
-fn keeps_room_for_each_leaving(rt: HostRuntime) -> Result<(), Fail> {
+fn a_full_history_has_room_for_each_leaving(rt: HostRuntime) -> Result<(), Fail> {
     let strategy = strategy(rt.alloc())?;
-    let mut calls = Vec::new(rt.alloc());
-    calls.push(available())?;
-    calls.push(Call::Control(Control::Tick(1)))?;
-    for _ in 0..64 {
-        calls.push(enter(0))?;
-        calls.push(Call::Leave { seat: 0 })?;
-    }
-    for seat in 0..4 {
-        calls.push(enter(seat))?;
-    }
-    for seat in 0..3 {
-        calls.push(Call::Leave { seat })?;
-    }
-    let plan = Plan {
-        alloc: rt.alloc(),
-        strategy: &strategy,
-        seats: 4,
-        limits: Limits {
-            entries: 141,
-            numbers: 1 << 53,
-        },
-        calls: &calls,
+    let mut lines = Vec::new(rt.alloc());
+    let mut answers = Vec::new(rt.alloc());
+    write_full(&mut lines, &mut answers)?;
+    let Ok(script) = str::from_utf8(&lines) else {
+        return Err(Fail::new("the script is no text"));
     };
-    let Ok(replies) = answers_to(&plan)? else {
-        panic!(rt; "the book is refused");
+    let limits = Limits {
+        entries: 141,
+        numbers: 1 << 53,
     };
-    assert_eq!(rt; replies.len(), 137);
-    assert_eq!(rt; replies.iter().filter(|reply| is_done(reply)).count(), 135);
-    assert_eq!(rt;
-        replies[1],
-        Reply::ControlRefused(ControlFault::HistoryFull)
+    let played = play_book(
+        rt.alloc(),
+        &strategy,
+        limits,
+        &lines_of(rt.alloc(), script)?,
+    )?;
+    assert!(rt;
+        played.answers == answers,
+        "{}",
+        played.answers.escape_ascii()
     );
-    assert_eq!(rt; replies[133], Reply::EnterRefused(EnterFault::HistoryFull));
-    Ok(())
-}
-
-#[test]
-fn gives_no_number_above_the_limit(rt: HostRuntime) -> Result<(), Fail> {
-    let strategy = strategy(rt.alloc())?;
-    let plan = Plan {
-        alloc: rt.alloc(),
-        strategy: &strategy,
-        seats: 1,
-        limits: Limits {
-            entries: 1000,
-            numbers: 1,
-        },
-        calls: &[available(), enter(0), Call::Leave { seat: 0 }, enter(0)],
-    };
-    let Ok(replies) = answers_to(&plan)? else {
-        panic!(rt; "the book is refused");
-    };
-    assert_eq!(rt; replies.len(), 4);
-    assert_eq!(rt; replies[3], Reply::EnterRefused(EnterFault::NumbersSpent));
-    Ok(())
-}
-
-#[test]
-fn has_one_to_eight_seats(rt: HostRuntime) -> Result<(), Fail> {
-    let strategy = strategy(rt.alloc())?;
-    for (seats, is_good) in [(0, false), (1, true), (8, true), (9, false)] {
-        let plan = Plan {
-            alloc: rt.alloc(),
-            strategy: &strategy,
-            seats,
-            limits: Limits::usual(),
-            calls: &[],
-        };
-        match answers_to(&plan)? {
-            Ok(replies) => assert!(rt; is_good && replies.is_empty(), "{seats}"),
-            Err(fault) => {
-                assert!(rt; !is_good, "{seats}");
-                assert_eq!(rt; fault, OpenFault::BadSeats);
-            }
-        }
-    }
-    Ok(())
-}
-
-#[test]
-fn has_no_greater_limits_than_usual(rt: HostRuntime) -> Result<(), Fail> {
-    let strategy = strategy(rt.alloc())?;
-    for (entries, numbers, is_good) in [
-        (1_000_000, 1 << 53, true),
-        (1_000_001, 1 << 53, false),
-        (1_000_000, (1 << 53) + 1, false),
-        (0, 0, true),
-    ] {
-        let plan = Plan {
-            alloc: rt.alloc(),
-            strategy: &strategy,
-            seats: 1,
-            limits: Limits { entries, numbers },
-            calls: &[],
-        };
-        match answers_to(&plan)? {
-            Ok(replies) => assert!(rt; is_good && replies.is_empty(), "{entries} {numbers}"),
-            Err(fault) => {
-                assert!(rt; !is_good, "{entries} {numbers}");
-                assert_eq!(rt; fault, OpenFault::BadLimits);
-            }
-        }
-    }
     Ok(())
 }

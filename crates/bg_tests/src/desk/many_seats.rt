@@ -23,7 +23,7 @@ const REQUESTS_OF_A_SEAT: u64 = 1000;
 
 /// The results that the test checks.
 #[derive(Drop)]
-struct Worked {
+struct WorkedSeats {
     calls: u64,
     history: History,
 }
@@ -43,7 +43,7 @@ fn open_and_work<N: Names + Send + Sync, R: Threads + Wait + Sync + Abort>(
     rt: &R,
     alloc: Global,
     blanks: Blanks,
-) -> Result<Worked, Fail>
+) -> Result<WorkedSeats, Fail>
     requires blanks { AreAllFor N.Names blanks }
     requires seats { N.seats ≡ 200 }
     ensures { IfOk result (λ worked. worked.history.opening.seats ≡ 200) }
@@ -73,10 +73,13 @@ fn open_and_work<N: Names + Send + Sync, R: Threads + Wait + Sync + Abort>(
     };
     let _outcomes = told?;
     expect_audited(alloc, &history, &strategy)?;
-    Ok(Worked { calls, history })
+    Ok(WorkedSeats { calls, history })
 }
 
-fn with_new_names<R: Threads + Wait + Sync + Abort>(rt: &R, alloc: Global) -> Result<Worked, Fail>
+fn with_new_names<R: Threads + Wait + Sync + Abort>(
+    rt: &R,
+    alloc: Global,
+) -> Result<WorkedSeats, Fail>
     ensures { IfOk result (λ worked. worked.history.opening.seats ≡ 200) }
 {
     open_and_work::<Brand, R>(rt, alloc, Blanks::new())

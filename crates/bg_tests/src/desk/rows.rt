@@ -5,13 +5,11 @@ ghost use Rattle.bg_rollout.specs.Gathering.{are_all, indices};
 ghost use Rattle.bg_ledger.specs.Blanks.{AreAllFor};
 
 use super::calls::make;
-use super::scripts::ROWS;
+use super::scripts::SCRIPTS;
 use crate::book::samples::strategy_with;
 use crate::history::gathered::expect_audited;
 use crate::history::texts::lines_of;
-use bg_book::{
-    Book, Call, Desk, Limits, OpenBook, Question, Reply, RolloutOpening, laws as book_laws,
-};
+use bg_book::{Book, Call, Desk, Limits, OpenBook, Question, Reply, RolloutOpening, laws as book_laws};
 use bg_history::History;
 use bg_ledger::{Blanks, Names, Seat};
 use bg_operator::{Command, LineFault, parse_line};
@@ -29,15 +27,16 @@ use std::test::Fail;
 struct Script<'a> {
     alloc: Global,
     strategy: &'a Strategy,
+    limits: Limits,
     /// The lines that the book carries out itself before it gets a desk.
     before: &'a [&'a str],
     lines: &'a [&'a str],
 }
 
 /// The answers, and the entries of the history after all seats have left.
-#[derive(Drop)]
+#[derive(PartialEq, Drop)]
 pub(crate) struct Played {
-    answers: Vec<u8>,
+    pub(crate) answers: Vec<u8>,
     pub(crate) entries: Vec<u8>,
 }
 
@@ -135,8 +134,14 @@ fn go_on<P: Player>(
     play(script.alloc, script.lines, player, answers)
 }
 
-/// Writes the entries of a history, oldest first.
+/// The number of seats of each book.
+const SEATS: u32 = 4;
+
+/// Writes the number of closed requests of each seat, and the entries of a history, oldest first.
 pub(crate) fn write_entries(history: &History, text: &mut Vec<u8>) -> io::Result<()> {
+    for seat in 0..SEATS {
+        writeln!(text, "closed {}", history.closed(seat))?;
+    }
     for place in 0..history.len() {
         if let Some(entry) = history.get(place) {
             writeln!(text, "{entry:?}")?;
@@ -154,8 +159,8 @@ fn open<N: Names>(script: &Script, blanks: Blanks) -> Result<OpenBook<N>, Fail>
         strategy: script.strategy,
         name: "v1",
         ports: &[9001, 9002],
-        seats: 4,
-        limits: Limits::usual(),
+        seats: SEATS,
+        limits: script.limits,
     };
     let opened = OpenBook::open(script.alloc, &opening, blanks)?;
     Ok(opened)
@@ -168,8 +173,7 @@ fn play_at_book<N: Names>(script: &Script, blanks: Blanks) -> Result<Played, Fai
     let mut player = open::<N>(script, blanks)?;
     let mut answers = Vec::new(script.alloc);
     let mut entries = Vec::new(script.alloc);
-    let before = play(script.alloc, script.before, &mut player, &mut answers);
-    let played = go_on(before, script, &mut player, &mut answers);
+    let played = play(script.alloc, script.lines, &mut player, &mut answers);
     let history = player.close();
     played?;
     expect_audited(script.alloc, &history, script.strategy)?;
@@ -197,54 +201,65 @@ fn play_at_desk<N: Names, R: Wait>(rt: &R, script: &Script, blanks: Blanks) -> R
     Ok(Played { answers, entries })
 }
 
-/// The answers to the script of a book, and of a desk over a book that has carried out this many lines of it.
-pub(crate) fn play_both<R: Wait>(
+/// Plays a script at a book with these limits.
+pub(crate) fn play_book(
+    alloc: Global,
+    strategy: &Strategy,
+    limits: Limits,
+    lines: &[&str],
+) -> Result<Played, Fail> {
+    let script = Script {
+        alloc,
+        strategy,
+        limits,
+        before: &[],
+        lines,
+    };
+    play_at_book::<Brand>(&script, Blanks::new())
+}
+
+/// Plays a script at a desk over a book that has carried out this many lines of it.
+fn play_desk<R: Wait>(
+    rt: &R,
+    alloc: Global,
+    strategy: &Strategy,
+    lines: &[&str],
+    used: usize,
+) -> Result<Played, Fail> {
+    let (before, lines) = lines.split_at(used.min(lines.len()));
+    let script = Script {
+        alloc,
+        strategy,
+        limits: Limits::usual(),
+        before,
+        lines,
+    };
+    play_at_desk::<Brand, R>(rt, &script, Blanks::new())
+}
+
+/// Whether a desk over a book that has carried out this many lines of a script answers and records what a book does.
+fn is_as_at_book<R: Wait>(
     rt: &R,
     alloc: Global,
     settings: &str,
     script: &str,
     used: usize,
-) -> Result<(Played, Played), Fail> {
+) -> Result<bool, Fail> {
     let strategy = strategy_with(alloc, settings)?;
     let lines = lines_of(alloc, script)?;
-    let (before, lines) = lines.split_at(used.min(lines.len()));
-    let script = Script {
-        alloc,
-        strategy: &strategy,
-        before,
-        lines,
-    };
-    let at_book = play_at_book::<Brand>(&script, Blanks::new())?;
-    let at_desk = play_at_desk::<Brand, R>(rt, &script, Blanks::new())?;
-    Ok((at_book, at_desk))
+    let at_book = play_book(alloc, &strategy, Limits::usual(), &lines)?;
+    let at_desk = play_desk(rt, alloc, &strategy, &lines, used)?;
+    Ok(!at_book.answers.is_empty() && at_desk == at_book)
 }
 
-/// The place of the first script with other answers or records at a desk over a book that has carried out this
-/// many lines.
-fn first_other<R: Wait>(rt: &R, alloc: Global, used: usize) -> Result<Option<usize>, Fail> {
-    for (place, (settings, script)) in ROWS.iter().enumerate() {
-        let (at_book, at_desk) = play_both(rt, alloc, settings, script, used)?;
-        if at_book.answers.is_empty()
-            || at_desk.answers.as_slice() != at_book.answers.as_slice()
-            || at_desk.entries.as_slice() != at_book.entries.as_slice()
-        {
-            return Ok(Some(place));
-        }
-    }
-    Ok(None)
-}
-
+/// A desk also continues after the calls of its book.
 #[test]
 fn desk_rows(rt: HostRuntime) -> Result<(), Fail> {
-    assert_eq!(rt; first_other(&rt, rt.alloc(), 0)?, None);
-    Ok(())
-}
-
-/// A desk continues after the calls of its book.
-#[test]
-fn used_books(rt: HostRuntime) -> Result<(), Fail> {
-    for used in 1..5usize {
-        assert_eq!(rt; first_other(&rt, rt.alloc(), used)?, None, "{used}");
+    for used in 0..5usize {
+        for (settings, script) in &SCRIPTS {
+            let is_as_at_book = is_as_at_book(&rt, rt.alloc(), settings, script, used)?;
+            assert!(rt; is_as_at_book, "{used} lines before: {script}");
+        }
     }
     Ok(())
 }

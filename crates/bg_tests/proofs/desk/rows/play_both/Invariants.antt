@@ -1,8 +1,0 @@
-use Rattle.bg_ledger.specs.Picks.{names_of}
-use Rattle.bg_tests.proofs.desk.rows.play_both.Given as goal
-
-abbrev pub ghosts-play_at_book : goal.ghosts-play_at_book
-ghosts-play_at_book g a = names_of 4 a.blanks
-
-abbrev pub ghosts-play_at_desk : goal.ghosts-play_at_desk
-ghosts-play_at_desk g a = names_of 4 a.blanks
