@@ -43,163 +43,122 @@ fn expected_connections() -> [ExpectedConnection; 2] {
     [plain, waiting]
 }
 
-/// The numbers of reads and writes of the client and of the endpoint if nothing fails.
-#[derive(Clone, Copy, Drop)]
-struct SoundUses {
-    client: Uses,
-    endpoint: Uses,
+/// A kind of call, one of which fails.
+#[derive(Clone, Copy, Debug, Drop)]
+enum FailingCall {
+    ReadOfClient,
+    WriteToClient,
+    ReadOfEndpoint,
+    WriteToEndpoint,
 }
 
-fn sound_uses<R: Abort + Wait>(
-    rt: &R,
-    alloc: Global,
-    expected: &ExpectedConnection,
-) -> Result<SoundUses, Fail> {
-    let sound = ends(
-        rt,
-        alloc,
-        &expected.setting,
-        End::Answered(200),
-        expected.answered,
-    )?;
-    Ok(SoundUses {
-        client: sound.client,
-        endpoint: sound.endpoint,
-    })
-}
+const FAILING_CALLS: [FailingCall; 4] = [
+    FailingCall::ReadOfClient,
+    FailingCall::WriteToClient,
+    FailingCall::ReadOfEndpoint,
+    FailingCall::WriteToEndpoint,
+];
 
-/// The read of the client that is at this place fails.
-fn read_of_the_client<R: Abort + Wait>(
-    rt: &R,
-    alloc: Global,
-    expected: &ExpectedConnection,
-    place: u64,
-) -> Result<(), Fail> {
-    let client = Pace {
+/// The pace at which the read at this place fails.
+fn failing_read(place: u64) -> Pace {
+    Pace {
         failing_read: Some(place),
         ..STEADY
-    };
-    let setting = Setting {
-        client,
-        ..expected.setting
-    };
-    let outcome = ends(rt, alloc, &setting, End::ReadFailed, expected.answered)?;
-    assert_eq!(rt; outcome.client.reads, place.saturating_add(1));
-    assert!(rt; outcome.written == 0 || outcome.written == expected.before);
-    assert!(rt; !outcome.entered);
-    assert_eq!(rt; outcome.dialled, 0);
-    Ok(())
-}
-
-#[test]
-fn each_read_of_the_client(rt: HostRuntime) -> Result<(), Fail> {
-    for expected in expected_connections() {
-        let count = sound_uses(&rt, rt.alloc(), &expected)?.client.reads;
-        assert!(rt; count > 2);
-        for place in 0..count {
-            read_of_the_client(&rt, rt.alloc(), &expected, place)?;
-        }
     }
-    Ok(())
 }
 
-/// The write to the client that is at this place fails.
-fn write_to_the_client<R: Abort + Wait>(
-    rt: &R,
-    alloc: Global,
-    expected: &ExpectedConnection,
-    place: u64,
-) -> Result<(), Fail> {
-    let client = Pace {
+/// The pace at which the write at this place fails.
+fn failing_write(place: u64) -> Pace {
+    Pace {
         failing_write: Some(place),
         ..STEADY
-    };
-    let setting = Setting {
-        client,
-        ..expected.setting
-    };
-    let outcome = ends(rt, alloc, &setting, End::WriteFailed, expected.answered)?;
-    assert_eq!(rt; outcome.client.writes, place.saturating_add(1));
-    assert!(rt; outcome.written < expected.answered.len());
-    assert_eq!(rt; outcome.entered, outcome.written >= expected.before);
-    Ok(())
+    }
 }
 
-#[test]
-fn each_write_to_the_client(rt: HostRuntime) -> Result<(), Fail> {
-    for expected in expected_connections() {
-        let count = sound_uses(&rt, rt.alloc(), &expected)?.client.writes;
-        assert!(rt; count > 2);
-        for place in 0..count {
-            write_to_the_client(&rt, rt.alloc(), &expected, place)?;
+impl FailingCall {
+    /// The connection on which the call at this place fails.
+    fn setting(self, sound: &Setting<'static>, place: u64) -> Setting<'static> {
+        let (client, endpoint) = match self {
+            FailingCall::ReadOfClient => (failing_read(place), sound.endpoint),
+            FailingCall::WriteToClient => (failing_write(place), sound.endpoint),
+            FailingCall::ReadOfEndpoint => (sound.client, failing_read(place)),
+            FailingCall::WriteToEndpoint => (sound.client, failing_write(place)),
+        };
+        Setting {
+            client,
+            endpoint,
+            ..*sound
         }
     }
-    Ok(())
+
+    /// The number of such calls.
+    fn count(self, client: Uses, endpoint: Uses) -> u64 {
+        match self {
+            FailingCall::ReadOfClient => client.reads,
+            FailingCall::WriteToClient => client.writes,
+            FailingCall::ReadOfEndpoint => endpoint.reads,
+            FailingCall::WriteToEndpoint => endpoint.writes,
+        }
+    }
 }
 
-/// The read of the endpoint that is at this place fails.
-fn read_of_the_endpoint<R: Abort + Wait>(
+/// Whether a connection on which the call at this place fails ends as it should.
+fn ends_as_expected<R: Abort + Wait>(
     rt: &R,
     alloc: Global,
     expected: &ExpectedConnection,
+    call: FailingCall,
     place: u64,
-) -> Result<(), Fail> {
-    let endpoint = Pace {
-        failing_read: Some(place),
-        ..STEADY
-    };
-    let setting = Setting {
-        endpoint,
-        ..expected.setting
-    };
-    let refused = Expected::entered(End::Refused(502), expected.refused);
-    let outcome = expect(rt, alloc, &setting, refused)?;
-    assert_eq!(rt; outcome.endpoint.reads, place.saturating_add(1));
-    assert_eq!(rt; outcome.forwarded, 1);
-    Ok(())
-}
-
-#[test]
-fn each_read_of_the_endpoint(rt: HostRuntime) -> Result<(), Fail> {
-    for expected in expected_connections() {
-        let count = sound_uses(&rt, rt.alloc(), &expected)?.endpoint.reads;
-        assert!(rt; count > 2);
-        for place in 0..count {
-            read_of_the_endpoint(&rt, rt.alloc(), &expected, place)?;
+) -> Result<bool, Fail> {
+    let setting = call.setting(&expected.setting, place);
+    match call {
+        FailingCall::ReadOfClient => {
+            let outcome = ends(rt, alloc, &setting, End::ReadFailed, expected.answered)?;
+            Ok(
+                outcome.client.reads == place.saturating_add(1)
+                    && (outcome.written == 0 || outcome.written == expected.before)
+                    && !outcome.entered
+                    && outcome.dialled == 0,
+            )
+        }
+        FailingCall::WriteToClient => {
+            let outcome = ends(rt, alloc, &setting, End::WriteFailed, expected.answered)?;
+            Ok(
+                outcome.client.writes == place.saturating_add(1)
+                    && outcome.written < expected.answered.len()
+                    && outcome.entered == (outcome.written >= expected.before),
+            )
+        }
+        FailingCall::ReadOfEndpoint => {
+            let refused = Expected::entered(End::Refused(502), expected.refused);
+            let outcome = expect(rt, alloc, &setting, refused)?;
+            Ok(outcome.endpoint.reads == place.saturating_add(1) && outcome.forwarded == 1)
+        }
+        FailingCall::WriteToEndpoint => {
+            let refused = Expected::entered(End::Refused(502), expected.refused);
+            let outcome = expect(rt, alloc, &setting, refused)?;
+            Ok(outcome.endpoint.writes == place.saturating_add(1) && outcome.endpoint.reads == 0)
         }
     }
-    Ok(())
-}
-
-/// The write to the endpoint that is at this place fails.
-fn write_to_the_endpoint<R: Abort + Wait>(
-    rt: &R,
-    alloc: Global,
-    expected: &ExpectedConnection,
-    place: u64,
-) -> Result<(), Fail> {
-    let endpoint = Pace {
-        failing_write: Some(place),
-        ..STEADY
-    };
-    let setting = Setting {
-        endpoint,
-        ..expected.setting
-    };
-    let refused = Expected::entered(End::Refused(502), expected.refused);
-    let outcome = expect(rt, alloc, &setting, refused)?;
-    assert_eq!(rt; outcome.endpoint.writes, place.saturating_add(1));
-    assert_eq!(rt; outcome.endpoint.reads, 0);
-    Ok(())
 }
 
 #[test]
-fn each_write_to_the_endpoint(rt: HostRuntime) -> Result<(), Fail> {
+fn each_call_fails_once(rt: HostRuntime) -> Result<(), Fail> {
     for expected in expected_connections() {
-        let count = sound_uses(&rt, rt.alloc(), &expected)?.endpoint.writes;
-        assert!(rt; count > 2);
-        for place in 0..count {
-            write_to_the_endpoint(&rt, rt.alloc(), &expected, place)?;
+        let sound = ends(
+            &rt,
+            rt.alloc(),
+            &expected.setting,
+            End::Answered(200),
+            expected.answered,
+        )?;
+        for call in FAILING_CALLS {
+            let count = call.count(sound.client, sound.endpoint);
+            assert!(rt; count > 2);
+            for place in 0..count {
+                let is_expected = ends_as_expected(&rt, rt.alloc(), &expected, call, place)?;
+                assert!(rt; is_expected, "{call:?} {place}");
+            }
         }
     }
     Ok(())
