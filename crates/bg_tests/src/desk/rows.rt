@@ -9,7 +9,9 @@ use super::scripts::SCRIPTS;
 use crate::book::samples::strategy_with;
 use crate::history::gathered::expect_audited;
 use crate::history::texts::lines_of;
-use bg_book::{Book, Call, Desk, Limits, OpenBook, Question, Reply, RolloutOpening, laws as book_laws};
+use bg_book::{
+    Book, Call, Desk, Limits, OpenBook, Question, Reply, RolloutOpening, laws as book_laws,
+};
 use bg_history::History;
 use bg_ledger::{Blanks, Names, Seat};
 use bg_operator::{Command, LineFault, parse_line};
