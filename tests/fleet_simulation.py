@@ -14,7 +14,7 @@ from bg_switch_tools.controller.controller import MOST_LINES
 from bg_switch_tools.controller.line_source import SourceParts
 from bg_switch_tools.controller.plan import Plan
 from bg_switch_tools.fleet.agent import FleetAgent
-from bg_switch_tools.fleet.candidate import Candidate, Pending
+from bg_switch_tools.fleet.candidate import Candidate, Clocks, Pending
 from bg_switch_tools.fleet.fleet_lines import FleetLines
 from bg_switch_tools.fleet.fleet_plan import MachineSettings
 from bg_switch_tools.fleet.leader import awaited_of
@@ -178,7 +178,7 @@ class Host:
         self.agent = FleetAgent(machine, self.store, self.world.say, self.now, LEASE)
         parts = cast(SourceParts, types.SimpleNamespace(log=NoLog(), history=NoHistory(), launcher=ReadyLauncher()))
         self.lines = FleetLines(machine, parts, self.now)
-        self.candidate = Candidate(self.name, self.leader_store, self.world.say, self.now, lambda: 0.0, LEASE)
+        self.candidate = Candidate(self.name, self.leader_store, self.world.say, Clocks(self.now, lambda: 0.0), LEASE)
         self.pending: Pending | None = None
         self.analysis: RunningAnalysis | None = None
         self.step = 0

@@ -7,7 +7,7 @@ from unittest import mock
 
 from bg_switch_tools.controller.plan import PlannedRevision
 from bg_switch_tools.fleet.agent import FleetAgent
-from bg_switch_tools.fleet.candidate import Candidate
+from bg_switch_tools.fleet.candidate import Candidate, Clocks
 from bg_switch_tools.fleet.fleet_plan import MachineSettings
 from bg_switch_tools.fleet.machine import FRESH, RETRY, Machine
 from bg_switch_tools.fleet.machine_state import MachineState
@@ -430,7 +430,8 @@ class Leading(FleetCase):
         self.person.write([], {"members/a": "", "machines/a": MachineReport("m1", self.plan_id, "passed").text()})
 
     def candidate(self, host: str) -> Candidate:
-        return Candidate(host, MemoryStore(self.keys, host), lambda _, text: self.said.append(text), lambda: self.time, lambda: 5.0)
+        return Candidate(host, MemoryStore(self.keys, host), lambda _, text: self.said.append(text),
+                         Clocks(lambda: self.time, lambda: 5.0))
 
     def record(self) -> Record:
         record = View(self.person.read()).record

@@ -1,7 +1,7 @@
 """bin/fleet promote and abort: what is refused, what is written, what a leader makes of it, and races with others."""
 import unittest
 
-from bg_switch_tools.fleet.candidate import Candidate
+from bg_switch_tools.fleet.candidate import Candidate, Clocks
 from bg_switch_tools.fleet.person_orders import MOVED_ON
 from bg_switch_tools.fleet.record import ABORT, LEADER, MEMBERS, ORDER, PROMOTE, PersonOrder
 from tests.fleet_people import HOSTS, V1, V2, V3, WithFleet
@@ -78,7 +78,7 @@ class Put(Orders):
 
     def test_what_a_leader_makes_of_it(self) -> None:
         self.delete(LEADER)
-        leader = Candidate("web-1", MemoryStore(self.keys, "web-1"), lambda *_: None, lambda: 0.0, lambda: 0.0)
+        leader = Candidate("web-1", MemoryStore(self.keys, "web-1"), lambda *_: None, Clocks(lambda: 0.0, lambda: 0.0))
         leader.do_round()
         for order, stage, reason in ((PROMOTE, "promoting", "ordered by alice"), (ABORT, "aborted", "ordered by alice")):
             self.begin(state="ready")

@@ -1,6 +1,7 @@
 """Analyses: commands that judge a revision."""
 import threading
 import time
+from typing import NamedTuple
 
 from bg_switch_tools.controller.plan import PlannedRevision
 from bg_switch_tools.controller.process_groups import Group, ProcessId
@@ -10,17 +11,23 @@ ANALYSIS_OF_PHASE = {"preAnalysis": "pre", "postAnalysis": "post"}  # by the pha
 VERDICTS = {0: "successful", 1: "failed"}  # by the exit status; any other is an error
 
 
+class AnalysisCommand(NamedTuple):
+    """A command that judges a revision: its words, the folder in which it runs, and the seconds that it has."""
+    words: tuple[str, ...]
+    folder: str
+    seconds: float
+
+
 class Analysis:
     """A command that runs for the analysis `name` of the revision of this number."""
 
-    def __init__(self, name: str, number: int, revision: PlannedRevision, command: tuple[str, ...], seconds: float,
-                 folder: str, control: int) -> None:
+    def __init__(self, name: str, number: int, revision: PlannedRevision, command: AnalysisCommand, control: int) -> None:
         """Begins it, for the switch at this control port. `fault` says why it can't be run, where it can't."""
         self.name = name
         self.number = number
         self.revision = revision
-        self.command = command
-        self.seconds = seconds
+        self.command = command.words
+        self.seconds = command.seconds
         self.begun = time.monotonic()
         self.fault = ""
         self.is_fault_told = False
@@ -28,7 +35,7 @@ class Analysis:
         told = {"BG_REVISION": revision.name, "BG_REVISION_NUMBER": str(number), "BG_PORTS": " ".join(map(str, revision.ports)),
                 "BG_CONTROL": str(control)}
         try:
-            self.group = Group(command, folder, told)
+            self.group = Group(command.words, command.folder, told)
         except (OSError, ValueError) as error:
             self.fault = f"it can't be run: {error}"
 

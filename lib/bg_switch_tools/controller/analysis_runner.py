@@ -1,7 +1,7 @@
 """Runs the analysis that a phase asks for, and hands its verdict in."""
 import threading
 
-from bg_switch_tools.controller.analysis_process import ANALYSIS_OF_PHASE, Analysis
+from bg_switch_tools.controller.analysis_process import ANALYSIS_OF_PHASE, Analysis, AnalysisCommand
 from bg_switch_tools.controller.book import Book
 from bg_switch_tools.controller.line_source import LineSource
 from bg_switch_tools.controller.log import Log, OncePerRevision
@@ -77,7 +77,8 @@ class AnalysisRunner:
         if planned is None or command is None:
             self.once.say(name, newest, f"waits for verdict {name} by hand: the plan has no command for it")
             return
-        self.analysis = Analysis(name, newest.number, planned, command, plan.analyses.seconds, self.folder, plan.control)
+        told = AnalysisCommand(command, self.folder, plan.analyses.seconds)
+        self.analysis = Analysis(name, newest.number, planned, told, plan.control)
         self.memory.set_analysis(self.analysis.process)
         self.log.say("analysis", f"{self.analysis.title()} begins")
 

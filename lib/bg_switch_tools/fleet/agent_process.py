@@ -17,7 +17,7 @@ from bg_switch_tools.fleet.agent import LEASE, FleetAgent, Read
 from bg_switch_tools.fleet.agent_files import StateKeeper, machine_id, path_of
 from bg_switch_tools.fleet.agent_rounds import ANSWER, CONNECT, AgentRounds
 from bg_switch_tools.fleet.agent_status import AgentStatus, AgentStatusFile
-from bg_switch_tools.fleet.candidate import Candidate
+from bg_switch_tools.fleet.candidate import Candidate, Clocks
 from bg_switch_tools.fleet.etcd import EtcdStore
 from bg_switch_tools.fleet.exit_statuses import DONE, FAULT, REFUSED, TAKEN
 from bg_switch_tools.fleet.fleet_file import FleetFile, missing_files
@@ -72,7 +72,7 @@ class AgentProcess:
         self.keeper = StateKeeper(path, log.say)
         machine = Machine(file.host, machine_id(path, log.say), settings, self.keeper.keep, self.keeper.read())
         self.agent = FleetAgent(machine, make_store(timeout), log.say, clock, self.seconds)
-        self.candidate = Candidate(file.host, make_store(timeout), log.say, clock, seconds=self.seconds)
+        self.candidate = Candidate(file.host, make_store(timeout), log.say, Clocks(clock), self.seconds)
         self.rounds = AgentRounds(self.agent, ControllerFiles(path, file.folder), log)
         self.status = AgentStatusFile(path, AgentStatus(file.fleet, file.host, os.getpid()))
         self.stopping = threading.Event()

@@ -14,17 +14,22 @@ class Pending(NamedTuple):
     lease: int = 0
 
 
+class Clocks(NamedTuple):
+    """By what a candidate measures, and by what it dates the record."""
+    now: Clock = time.monotonic
+    unix_time: Clock = time.time
+
+
 class Candidate:
     """Each agent is one. Its store and its lease are its own, so a slow switch does not end its lead."""
 
-    def __init__(self, host: str, store: Store, say: Say, now: Clock = time.monotonic, unix_time: Clock = time.time,
-                 seconds: int = LEASE) -> None:
+    def __init__(self, host: str, store: Store, say: Say, clocks: Clocks = Clocks(), seconds: int = LEASE) -> None:
         """`seconds` are those of the leader's lease."""
         self.host = host
         self.store = store
         self.say = say
-        self.now = now
-        self.unix_time = unix_time
+        self.now = now = clocks.now
+        self.unix_time = clocks.unix_time
         self.lease = Lease(store, now, seconds)
         self.created = 0  # the `created` revision of the leader's key while this one leads
         self.clock = StageClock()

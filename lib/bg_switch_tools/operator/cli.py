@@ -11,7 +11,7 @@ from bg_switch_tools.operator.commands import COMMAND_NAMES, examples, help_line
 from bg_switch_tools.operator.conditions import CONDITION_SYNTAX, Conditions, WrongCondition
 from bg_switch_tools.operator.line_sender import Reply, send_line
 from bg_switch_tools.operator.prompt import Prompt, PromptCommand, confirm_shutdown
-from bg_switch_tools.operator.wait import TOO_LATE, nothing_comes, wait_for
+from bg_switch_tools.operator.wait import TOO_LATE, WaitLimits, nothing_comes, wait_for
 from bg_switch_tools.operator.watch import dated, watch
 from bg_switch_tools.switch.arguments import port_of, seconds_of
 from bg_switch_tools.switch.connection import Unreachable, ask, words_of
@@ -126,7 +126,7 @@ class Operator:
             for change in dated(before[-1], report) if before else []:
                 self.tell(change)
             before[:] = [report]
-        waited = wait_for(self.port, Conditions(texts), self.timeout, self.wait, see, announced)
+        waited = wait_for(self.port, Conditions(texts), WaitLimits(self.timeout, self.wait), see, announced)
         if self.is_json:
             report = as_json(waited.report) if waited.report else None
             self.show_json({"status": waited.status, "reason": waited.reason or None, "report": report})

@@ -12,6 +12,12 @@ PAUSE = 0.2  # seconds between two reports
 REACHED, NEVER, TOO_LATE = 0, 1, 2
 
 
+class WaitLimits(NamedTuple):
+    """The seconds that a wait has, and those within which the switch has to answer each question."""
+    whole: float
+    answer: float
+
+
 class WaitResult(NamedTuple):
     """How a wait has ended: `REACHED`, `NEVER` or `TOO_LATE`; the reason of the latter two; the latest report."""
     status: int
@@ -24,20 +30,20 @@ def nothing_comes() -> str | None:
     return None
 
 
-def wait_for(port: int, conditions: Conditions, timeout: float, wait: float, see: Callable[[Report], None],
+def wait_for(port: int, conditions: Conditions, limits: WaitLimits, see: Callable[[Report], None],
              announced: Callable[[], str | None] = nothing_comes) -> WaitResult:
-    """Waits for conditions, for `timeout` seconds at most. `see` is given each report. `announced` gives the revision whose
+    """Waits for conditions, as long as the limits say. `see` is given each report. `announced` gives the revision whose
     deploy a plan announces: up to that deploy the wait goes on.
 
-    A switch that does not answer within `wait` seconds, or has no book yet, is asked again.
+    A switch that does not answer in time, or has no book yet, is asked again.
     """
-    deadline = time.monotonic() + timeout
+    deadline = time.monotonic() + limits.whole
     report: Report | None = None
     state = "the switch was not asked"
     while True:
         coming = announced()  # before the report: what was deployed by then, the report shows
         try:
-            report = read_report(ask(port, b"report", max(min(wait, deadline - time.monotonic()), PAUSE)))
+            report = read_report(ask(port, b"report", max(min(limits.answer, deadline - time.monotonic()), PAUSE)))
             state = in_one_line(report)
         except (Unreachable, NoReport) as error:
             report, state = None, str(error)
@@ -50,4 +56,4 @@ def wait_for(port: int, conditions: Conditions, timeout: float, wait: float, see
             break
         time.sleep(PAUSE)
     state += f"; the controller has not deployed {coming} by the plan yet" if coming else ""
-    return WaitResult(TOO_LATE, f"{' '.join(conditions.texts)} does not hold after {timeout:g} seconds: {state}", report)
+    return WaitResult(TOO_LATE, f"{' '.join(conditions.texts)} does not hold after {limits.whole:g} seconds: {state}", report)
