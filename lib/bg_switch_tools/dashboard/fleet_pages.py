@@ -1,21 +1,18 @@
 """The page of a fleet: one read of its keys after the other, and what all who look at it are told by it."""
 import asyncio
 import concurrent.futures
-import contextlib
 import threading
-import traceback
-from collections.abc import AsyncIterator
 
 from aiohttp import web
 
 from bg_switch_tools.dashboard import fleet_json
 from bg_switch_tools.dashboard.fleet_board import FleetBoard
+from bg_switch_tools.dashboard.looks import take_fault, while_it_runs
 from bg_switch_tools.dashboard.streams import Listeners
 from bg_switch_tools.dashboard.web_pages import FLEET, SWITCH, html_answer, page
 from bg_switch_tools.fleet.store import Snapshot, Store, StoreFault
 
 PAUSE = 1.0  # seconds between two reads, and between two updates while a read takes longer
-LONGEST_FAULT = 300  # characters of an exception that are told
 
 
 class FleetPages:
@@ -35,15 +32,7 @@ class FleetPages:
         router.add_get("/api/fleet/events", self.show_events, allow_head=False)
         if not self.has_switch:
             router.add_get(SWITCH.address, self.show_page)
-        application.cleanup_ctx.append(self.looking)
-
-    async def looking(self, _: web.Application) -> AsyncIterator[None]:
-        """Looks for as long as the server runs."""
-        task = asyncio.create_task(self.look_always())
-        yield
-        task.cancel()
-        with contextlib.suppress(asyncio.CancelledError):
-            await task
+        application.cleanup_ctx.append(while_it_runs(self.look_always))
 
     async def look_always(self) -> None:
         """Looks again and again, whatever happens."""
@@ -51,7 +40,7 @@ class FleetPages:
             try:
                 await self.look()
             except Exception as error:  # none is expected; without the reads that follow, the page would show what is long past
-                self.take_fault(error)
+                take_fault(self.board, error, self.tell)
             await asyncio.sleep(PAUSE)
 
     async def look(self) -> None:
@@ -85,13 +74,6 @@ class FleetPages:
                 found.set_exception(error)
         threading.Thread(target=read, daemon=True).start()
         return found
-
-    def take_fault(self, error: Exception) -> None:
-        """Takes in what has ended a look: the page says it, and standard error, once for each series of the same."""
-        if self.board.take_fault(f"{type(error).__name__}: {error}"[:LONGEST_FAULT]):
-            traceback.print_exception(error)
-        with contextlib.suppress(Exception):
-            self.tell()
 
     def tell(self) -> None:
         self.listeners.tell(fleet_json.update(self.board))

@@ -2,13 +2,12 @@
 import asyncio
 import contextlib
 import secrets
-import traceback
-from collections.abc import AsyncIterator
 
 from aiohttp import web
 
 from bg_switch_tools.dashboard import guard
 from bg_switch_tools.dashboard.board import Board
+from bg_switch_tools.dashboard.looks import take_fault, while_it_runs
 from bg_switch_tools.dashboard.page_commands import NewestHasChanged, WrongPageCommand, read_page_command, send_page_command
 from bg_switch_tools.dashboard.streams import Listeners
 from bg_switch_tools.dashboard.web_pages import FLEET, SWITCH, html_answer, page, refusal
@@ -21,7 +20,6 @@ PAUSE = 0.5  # seconds between two reports
 SOON = 0.01  # seconds, while more of the log is there than was read
 ANSWER = 1.5  # seconds for the switch to answer
 BACKLOG = 1 << 25  # bytes of the log that are read when the dashboard begins
-LONGEST_FAULT = 300  # characters of an exception that are told
 
 
 class SwitchPages:
@@ -41,15 +39,7 @@ class SwitchPages:
         router.add_get("/api/state", self.show_state)
         router.add_get("/api/events", self.show_events, allow_head=False)
         router.add_post("/api/order", self.command)
-        application.cleanup_ctx.append(self.looking)
-
-    async def looking(self, _: web.Application) -> AsyncIterator[None]:
-        """Looks for as long as the server runs."""
-        task = asyncio.create_task(self.look_always())
-        yield
-        task.cancel()
-        with contextlib.suppress(asyncio.CancelledError):
-            await task
+        application.cleanup_ctx.append(while_it_runs(self.look_always))
 
     async def look_always(self) -> None:
         """Looks again and again, whatever happens."""
@@ -58,7 +48,7 @@ class SwitchPages:
                 is_counted = not (self.follower and self.follower.is_behind)
                 self.take(*await asyncio.to_thread(self.look), is_counted)
             except Exception as error:  # none is expected; without the looks that follow, the page would show what is long past
-                self.take_fault(error)
+                take_fault(self.board, error, self.tell)
             with contextlib.suppress(TimeoutError):
                 await asyncio.wait_for(self.soon.wait(), SOON if self.follower and self.follower.has_more else PAUSE)
             self.soon.clear()
@@ -71,13 +61,6 @@ class SwitchPages:
             return batch, read_report(ask(self.board.control, b"report", ANSWER))
         except (Unreachable, NoReport) as reason:
             return batch, str(reason)
-
-    def take_fault(self, error: Exception) -> None:
-        """Takes in what has ended a look: the page says it, and standard error, once for each series of the same."""
-        if self.board.take_fault(f"{type(error).__name__}: {error}"[:LONGEST_FAULT]):
-            traceback.print_exception(error)
-        with contextlib.suppress(Exception):
-            self.tell()
 
     def take(self, batch: Batch | None, seen: Report | None | str, is_counted: bool) -> None:
         """Takes in what was seen, and tells it to all who listen."""
