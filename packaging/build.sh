@@ -67,7 +67,7 @@ put_tools() {
 
 # The units, the users, the rotation of the access log, and the Rollout with which the switch starts.
 put_service() {
-    for unit in examples/production/*.service; do
+    for unit in examples/production/*.service examples/fleet/*.service; do
         put 644 "$unit" "lib/systemd/system/${unit##*/}"
     done
     put 644 examples/production/sysusers.conf usr/lib/sysusers.d/bg-switch.conf

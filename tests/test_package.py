@@ -10,8 +10,9 @@ from support.processes import Run
 from tests.tool_runs import TOP, WAIT
 
 BUILD = TOP / "packaging" / "build.sh"
+EXAMPLES = {"bg-fleet": "fleet"}  # by unit: the folder of examples that has it; production for the others
 EXAMPLE = TOP / "examples" / "production"
-UNITS = ("bg-switch", "bg-controller", "bg-dashboard")
+UNITS = ("bg-switch", "bg-controller", "bg-fleet", "bg-dashboard")
 SOURCE = TOP / "crates" / "bg_command_line" / "src" / "command_line.rt"
 # The commands, with what each calls itself in its usage.
 PACKAGED_COMMANDS = {"bgctl": "bgctl", "bg-operator": "bin/operator", "bg-controller": "bin/controller", "bg-analysis": "bin/analysis",
@@ -42,9 +43,12 @@ def program_of(folder: str, printed: str) -> str:
     return str(path)
 
 
+def unit_text(unit: str) -> str:
+    return (TOP / "examples" / EXAMPLES.get(unit, "production") / f"{unit}.service").read_text(encoding="ascii")
+
+
 def values(unit: str, key: str) -> list[str]:
-    lines = (EXAMPLE / f"{unit}.service").read_text(encoding="ascii").splitlines()
-    return [line.partition("=")[2] for line in lines if line.startswith(f"{key}=")]
+    return [line.partition("=")[2] for line in unit_text(unit).splitlines() if line.startswith(f"{key}=")]
 
 
 def word_after(command: str, word: str) -> str:
@@ -149,6 +153,21 @@ class Files(unittest.TestCase):
 
 
 class Units(unittest.TestCase):
+    def test_the_agent_of_a_fleet_takes_the_place_of_the_controller(self) -> None:
+        """It has the same user, whose lines the switch takes, the same folder of state and the same limits, and never runs beside it."""
+        self.assertEqual(values("bg-fleet", "Conflicts"), ["bg-controller.service"])
+        variable = next(value for value in values("bg-switch", "Environment") if value.startswith("BG_SWITCH_OPERATORS="))
+        self.assertIn(values("bg-fleet", "User")[0], variable.partition("=")[2].split(","))
+        for key in ("User", "SupplementaryGroups", "StateDirectory", "WorkingDirectory"):
+            self.assertEqual(values("bg-fleet", key), values("bg-controller", key), key)
+        limits = [unit_text(unit).partition("\nCapabilityBoundingSet=")[2] for unit in ("bg-fleet", "bg-controller")]
+        self.assertIn("NoNewPrivileges=yes", limits[0])
+        self.assertEqual(limits[0], limits[1])
+
+    def test_the_rules_of_debian_name_each_unit(self) -> None:
+        rules = (TOP / "packaging" / "debian" / "rules").read_text(encoding="ascii")
+        self.assertEqual(set(re.findall(r"([\w-]+)\.service", rules)), set(UNITS))
+
     def test_each_user_and_group_is_made_and_is_removed_by_a_purge(self) -> None:
         made = re.findall(r"^([ug]) (\S+)", (EXAMPLE / "sysusers.conf").read_text(encoding="ascii"), re.M)
         users = {name for kind, name in made if kind == "u"}
@@ -180,7 +199,7 @@ class Units(unittest.TestCase):
         rotation = (EXAMPLE / "logrotate.conf").read_text(encoding="ascii")
         self.assertIn(f"\n{log} {{\n", rotation)
         self.assertIn(f"\n    su {values('bg-switch', 'User')[0]} {values('bg-switch', 'Group')[0]}\n", rotation)
-        for unit in ("bg-controller", "bg-dashboard"):
+        for unit in ("bg-controller", "bg-fleet", "bg-dashboard"):
             self.assertEqual(values(unit, "SupplementaryGroups"), values("bg-switch", "Group"), unit)
 
 
