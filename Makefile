@@ -1,8 +1,8 @@
 # check: for the working day.  build: proves and builds the program.  test: the gate.  demo: the examples.  demo-live: a
-# rollout under traffic, and one that its analysis takes back.  bench: times, and ratios beside the baseline.  tools: one
-# file of the Python tools.  share: completions and manual pages of bgctl.  lint: judges what no proof reads.  test-tools:
-# the tests of the tools.  model: all searches of the model of a fleet.  NAME: proves and builds the library NAME and what it
-# stands on.
+# rollout under traffic, and one that its analysis takes back.  demo-fleet: a fleet of three machines on one.  bench: times,
+# and ratios beside the baseline.  tools: one file of the Python tools.  share: completions and manual pages of bgctl.  lint:
+# judges what no proof reads.  test-tools: the tests of the tools.  model: all searches of the model of a fleet.  NAME: proves
+# and builds the library NAME and what it stands on.
 CRATES := $(shell sed -n 's/^\([a-z_]*\)[^:]*:.*/\1/p' crates.txt)
 LIBRARIES := $(foreach crate,$(CRATES),$(if $(wildcard crates/$(crate)/src/lib.rt),$(crate)))
 # The libraries that a crate stands on, by its line of crates.txt.
@@ -15,7 +15,7 @@ GROUPS := group-rules group-http group-others
 BENCHES := $(filter-out bench/run.sh,$(wildcard bench/*.sh)) bench/sick_endpoint.py
 ARCHIVE := out/bg_switch_tools.pyz
 
-.PHONY: check build test lint tools share test-tools model deb dist demo demo-live bench $(GROUPS) $(LIBRARIES)
+.PHONY: check build test lint tools share test-tools model deb dist demo demo-live demo-fleet bench $(GROUPS) $(LIBRARIES)
 
 check:
 	rt all check
@@ -98,6 +98,10 @@ demo: build
 demo-live: build
 	examples/live/demo.py
 	examples/live/bad_revision.py
+
+# It needs etcd, haproxy and curl.
+demo-fleet: build
+	examples/fleet/fleet_demo.py
 
 # Each bench, one after the other, with its ratios beside those of bench/baseline.json; it fails at the end where one did.
 bench: build

@@ -12,6 +12,7 @@
 #   live_controller  the controller
 #   live_crash       crashes of the switch and of the controller
 #   live_readme, live_operating   the sessions of README.md and of docs/OPERATING.md
+#   live_fleet_pages the session of docs/FLEET.md, and the demonstration of a fleet
 #   live_clients     slow, silent, hasty and many clients
 #   live_endpoints   endpoints that hang, are silent, or are ports of the switch
 #   live_operators   the users whose orders are taken
@@ -31,8 +32,8 @@ trap 'rm -rf "$work"' EXIT
 parts='live live_starting live_timeouts live_resources live_concurrency live_attack live_random live_operator live_controller
     live_readme live_operating live_clients live_endpoints live_operators live_control live_shutdown live_production
     live_access_log live_access_log_random live_history live_analysis'
-# These run alone: one has a time limit of two seconds, and a browser is slow beside all of the others.
-alone='live_crash live_dashboard'
+# These run alone: one has a time limit of two seconds, a browser is slow beside all of the others, and a fleet has three of each.
+alone='live_crash live_dashboard live_fleet_pages'
 play() {
     for part in "$@"; do
         { python3 -B "scripts/$part.py" > "$work/$part" 2>&1 && : > "$work/$part.passed"; } &

@@ -5,14 +5,14 @@ import re
 import signal
 import subprocess
 import tempfile
-from collections.abc import Sequence
+from collections.abc import Mapping, Sequence
 from typing import IO, NamedTuple
 
 from support.checks import check, fail
 from support.ports import free_ports, is_refused
 from support.switch import PROGRAM
 
-WAIT = 80  # seconds for a whole session
+WAIT = 80  # seconds until a shell that was killed has ended
 END_OF_BLOCK = "-- end of block --"
 FOLDER = "/tmp/bg"  # where a page puts its files
 
@@ -34,15 +34,26 @@ def with_places(page: str, ports: dict[str, str], folder: str) -> str:
     return moved.replace(FOLDER, folder)
 
 
-def run_script(script: str, printed: IO[str], ports: Sequence[str]) -> list[str]:
-    """Runs a script in a shell; what it leaves running is ended. Gives the ports that still listen after it."""
-    shell = subprocess.Popen(["bash", "-c", script], stdin=subprocess.DEVNULL, stdout=printed, start_new_session=True)
+class Limits(NamedTuple):
+    """How long a session may take, in seconds, and the variables of the environment that it has beside those of the script."""
+    longest: float = 80.0
+    variables: Mapping[str, str] = {}
+
+
+def run_script(script: str, printed: IO[str], ports: Sequence[str], limits: Limits) -> list[str]:
+    """Runs a script in a shell; what it leaves running is ended. Gives the ports that still listen after it; none where it does not
+    end."""
+    shell = subprocess.Popen(["bash", "-c", script], stdin=subprocess.DEVNULL, stdout=printed, start_new_session=True,
+                             env={**os.environ, **limits.variables})
+    has_ended = False
     try:
-        shell.wait(WAIT)
+        shell.wait(limits.longest)
+        has_ended = True
     except subprocess.TimeoutExpired:
-        fail("the session", "it doesn't end")
+        printed.seek(0)
+        fail("the session", f"it doesn't end in {limits.longest:g} seconds, and has printed at last {printed.read()[-300:]!r}")
     # what was told to end may take a moment
-    listening = [port for port in ports if not is_refused(int(port))]
+    listening = [port for port in ports if has_ended and not is_refused(int(port))]
     with contextlib.suppress(ProcessLookupError):
         os.killpg(shell.pid, signal.SIGKILL)
     shell.wait(WAIT)
@@ -64,12 +75,12 @@ class Session(NamedTuple):
         check("what still listens after the session", self.listening, [])
 
 
-def run_session(page: str, title: str, ports: Sequence[str]) -> Session:
+def run_session(page: str, title: str, ports: Sequence[str], limits: Limits = Limits()) -> Session:
     """Runs the blocks of a section one after the other in one shell, with other ports and another folder."""
     places = dict(zip(ports, map(str, free_ports(len(ports)))))
     with tempfile.TemporaryDirectory() as folder, tempfile.TemporaryFile("w+", encoding="utf-8") as printed:
         blocks = blocks_of(with_places(page, places, folder), title)
         script = "".join(f"{block}\necho '{END_OF_BLOCK}'\n" for block in blocks)
-        listening = run_script(script.replace("bin/bg_switch ", f"{PROGRAM} "), printed, list(places.values()))
+        listening = run_script(script.replace("bin/bg_switch ", f"{PROGRAM} "), printed, list(places.values()), limits)
         printed.seek(0)
         return Session(blocks, printed.read().split(f"{END_OF_BLOCK}\n")[:-1], listening)

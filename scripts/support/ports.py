@@ -15,8 +15,8 @@ HOST = "127.0.0.1"
 SCRIPTS = ("live", "live_starting", "live_timeouts", "live_resources", "live_attack", "live_random", "live_operator",
            "live_controller", "live_crash", "live_readme", "live_operating", "live_clients", "live_endpoints",
            "live_control", "live_shutdown", "live_production", "live_access_log", "live_access_log_random",
-           "live_history", "live_dashboard", "live_analysis", "live_concurrency", "live_operators")
-FIRST_PORT, PORTS_EACH = 20000, 550
+           "live_history", "live_dashboard", "live_analysis", "live_concurrency", "live_operators", "live_fleet_pages")
+FIRST_PORT, PORTS_EACH = 20000, 500
 # The system's table of sockets, its columns, and the state of a socket that listens.
 TABLE = pathlib.Path("/proc/net/tcp")
 LOCAL, STATE, INODE, LISTENS = 1, 3, 9, "0A"
