@@ -23,6 +23,7 @@
 #   live_history     a full history
 #   live_analysis    outages that analyses find, by the access log, by reports and by Prometheus
 #   live_dashboard   the dashboard's page in a browser, and a bad revision that its analysis takes back
+#   live_fleet       a fleet of three machines with etcd, HAProxy and nginx, each kind of fault once, and the rules of a fleet
 set -eu
 cd "$(dirname -- "$0")/.."
 # Builds the program where it is stale.
@@ -33,7 +34,7 @@ parts='live live_starting live_timeouts live_resources live_concurrency live_att
     live_readme live_operating live_clients live_endpoints live_operators live_control live_shutdown live_production
     live_access_log live_access_log_random live_history live_analysis'
 # These run alone: one has a time limit of two seconds, a browser is slow beside all of the others, and a fleet has three of each.
-alone='live_crash live_dashboard live_fleet_pages'
+alone='live_crash live_dashboard live_fleet live_fleet_pages'
 play() {
     for part in "$@"; do
         { python3 -B "scripts/$part.py" > "$work/$part" 2>&1 && : > "$work/$part.passed"; } &

@@ -1,4 +1,5 @@
 """The hosts and programs of a fleet's drill, before a stand-in for the switch: what they record, their faults, and that all ends."""
+import concurrent.futures
 import contextlib
 import os
 import pathlib
@@ -16,7 +17,7 @@ from support.fleet.lab import FLEET, Lab, missing_programs
 from support.fleet.programs import PATHS
 from support.fleet.recording import Event
 from support.fleet.rules import rule_5, Run
-from tests.tool_runs import TOP, comes
+from tests.tool_runs import TOP, WAIT, comes
 
 HOSTS = ("a", "b", "c")
 MISSING = missing_programs()
@@ -123,8 +124,16 @@ class Base(unittest.TestCase):
         lab.restart("etcd", "c")
         member = OneMember(lab.network, "a")
         self.check_cut(lab, member)
+        self.check_follow(lab)
         lab.etcd.put("plan", "second")
         lab.etcd.delete("plan")
+
+    def check_follow(self, lab: Lab) -> None:
+        """A change is known as it comes."""
+        with concurrent.futures.ThreadPoolExecutor(1) as pool:
+            first = pool.submit(lambda: next(EtcdClient(lab.network, FLEET).follow(WAIT)))
+            self.assertTrue(comes(lambda: lab.etcd.put("drill/followed", "value") and first.done()))
+        self.assertEqual((first.result().name, first.result().value), ("drill/followed", "value"))
 
     def check_cut(self, lab: Lab, member: OneMember) -> None:
         raise NotImplementedError

@@ -3,23 +3,16 @@
 python3 -m tests.test_fleet_simulation SEED.. shows the histories of these seeds.
 """
 import collections
-import contextlib
-import dataclasses
 import json
 import sys
 import unittest
 from collections.abc import Callable, Iterator
 from unittest import mock
 
-from bg_switch_tools.fleet import leader, machine, next_line
-from bg_switch_tools.fleet.fleet_lines import FleetLines
-from bg_switch_tools.fleet.fleet_plan import FleetPlan
-from bg_switch_tools.fleet.leader import Decision, Votes
-from bg_switch_tools.fleet.machine import Machine
-from bg_switch_tools.fleet.next_line import Known
-from bg_switch_tools.fleet.record import ATTEMPT, LEADER, MACHINES, MEMBERS, PLAN, Record, View
-from bg_switch_tools.fleet.store import Compare
-from bg_switch_tools.switch.reports import Report
+from bg_switch_tools.fleet import machine
+from bg_switch_tools.fleet.record import ATTEMPT, LEADER, MACHINES, MEMBERS, PLAN
+from tests.fleet_faults import (Patch, after_the_end, alone, back_by_permission, no_catch_up, on_changes, on_reads_of_any_age,
+                                verdict_at_once, without_compares, without_one_member, without_the_id)
 from tests.fleet_rules import broken
 from tests.fleet_simulation import World, history
 
@@ -28,7 +21,6 @@ MOST_PLANTED = 1000  # histories until a planted fault has to be found
 # What a history has to meet so many times on the average.
 LEAST = {"deploying": 1, "promoting": 0.5, "successful": 1, "aborted": 0.5, "missing": 0.05, "promote": 1, "store lost": 1, "failed": 0.2}
 RETRY = 2.0  # seconds, in place of the agent's own, so that histories stay short
-Patch = contextlib.AbstractContextManager[object]
 
 
 def told(world: World, faults: list[str]) -> str:
@@ -75,93 +67,6 @@ def counts(world: World) -> collections.Counter[str]:
     found["store lost"] = sum("cut off from the store" in line for line in world.lines)
     found["failed"] = sum("failed => ok" in line or "error => ok" in line for line in world.lines)
     return found
-
-
-def without_compares(*names: str) -> Patch:
-    """A leader that does not compare these keys, or keys below these prefixes."""
-    compares_of = leader.compares_of
-
-    def fewer(view: View, created: int, decision: Decision) -> tuple[Compare, ...]:
-        return tuple(compare for compare in compares_of(view, created, decision) if not compare.name.startswith(names))
-    return mock.patch.object(leader, "compares_of", fewer)
-
-
-def without_one_member() -> Patch:
-    def are_enough(votes: Votes, max_missing: int) -> bool:
-        return bool(votes.given) and len(votes.awaited) <= 1
-    return mock.patch.object(Votes, "are_enough", are_enough)
-
-
-def alone() -> Patch:
-    """An agent that promotes when it has lost the store."""
-    line_of = Machine.next_line
-
-    def or_promote(self: Machine, report: Report, now: float) -> str | None:
-        return "promote" if self.read_at is None and report.phase == "paused" else line_of(self, report, now)
-    return mock.patch.object(Machine, "next_line", or_promote)
-
-
-def on_changes() -> Patch:
-    """An agent that acts on each change of the record once, and not on the record."""
-    line_of = Machine.next_line
-    done: dict[Machine, Record] = {}
-
-    def once(self: Machine, report: Report, now: float) -> str | None:
-        if self.record is None or done.get(self) == self.record or not self.is_fresh(now):
-            return None
-        line = line_of(self, report, now)
-        if line is None:
-            done[self] = self.record
-        return line
-    return mock.patch.object(Machine, "next_line", once)
-
-
-def on_reads_of_any_age() -> Patch:
-    def is_fresh(self: Machine, now: float) -> bool:
-        return self.record is not None
-    return mock.patch.object(Machine, "is_fresh", is_fresh)
-
-
-def no_catch_up() -> Patch:
-    def nothing(report: Report, known: Known) -> None:
-        return None
-    return mock.patch.object(next_line, "_catch_up", nothing)
-
-
-def without_the_id() -> Patch:
-    """An agent that takes the attempt of a revision for that of the record by its name alone."""
-    def has_joined(self: Known, report: Report) -> bool:
-        return report.newest.name == self.record.revision.name
-    return mock.patch.object(Known, "has_joined", has_joined)
-
-
-def back_by_permission() -> Patch:
-    """An agent that hands a failed verdict in only where it has a fresh read."""
-    may_hand_in = FleetLines.may_hand_in
-
-    def by_permission(self: FleetLines, report: Report, name: str, verdict: str, fault: str) -> bool:
-        return self.machine.is_fresh(self.now()) and may_hand_in(self, report, name, verdict, fault)
-    return mock.patch.object(FleetLines, "may_hand_in", by_permission)
-
-
-def verdict_at_once() -> Patch:
-    """An agent that does not hold the verdict after the switch back."""
-    may_hand_in = FleetLines.may_hand_in
-
-    def at_once(self: FleetLines, report: Report, name: str, verdict: str, fault: str) -> bool:
-        return may_hand_in(self, report, name, verdict, fault) or True
-    return mock.patch.object(FleetLines, "may_hand_in", at_once)
-
-
-def after_the_end() -> Patch:
-    """A leader that goes on with an attempt that was aborted."""
-    begin = leader._begin
-
-    def again(view: View, plan: FleetPlan, record: Record) -> Decision | None:
-        if record.stage == "aborted" and view.changed(PLAN) == record.id and "h1" in record.reason:
-            return Decision(dataclasses.replace(record, stage="deploying", reason=""))
-        return begin(view, plan, record)
-    return mock.patch.object(leader, "_begin", again)
 
 
 class PlantedFaults(unittest.TestCase):

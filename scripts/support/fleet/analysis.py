@@ -1,5 +1,6 @@
-"""An analysis: python3 -m support.fleet.analysis FOLDER HOST STEP PORT. It asks the switch for a while, and fails where an answer is none
-of the revision, or where the file bad-HOST-STEP-REVISION is in the folder. It writes down what it came to."""
+"""An analysis: python3 -m support.fleet.analysis FOLDER HOST STEP PORT. It asks the switch for a while, and longer while the file
+hold-HOST-STEP-REVISION is in the folder. It fails where an answer is none of the revision, or where the file bad-HOST-STEP-REVISION
+is there. It writes down what it came to."""
 import json
 import os
 import pathlib
@@ -10,6 +11,7 @@ from support.fleet.client import ask
 from support.fleet.recording import VERDICTS, Verdict
 
 SECONDS, PAUSE = 0.6, 0.1
+LONGEST_HOLD = 15.0  # seconds: shorter than the plan allows for an analysis
 STATUSES = {"successful": 0, "failed": 1, "error": 2}
 
 
@@ -18,9 +20,15 @@ def bad_file(host: str, step: str, revision: str) -> str:
     return f"bad-{host}-{step}-{revision}"
 
 
+def hold_file(host: str, step: str, revision: str) -> str:
+    """The file by which a drill lets an analysis go on."""
+    return f"hold-{host}-{step}-{revision}"
+
+
 def verdict_of(folder: pathlib.Path, host: str, step: str, port: int, revision: str) -> str:
     end = time.monotonic() + SECONDS
-    while time.monotonic() < end:
+    latest = end + LONGEST_HOLD
+    while time.monotonic() < end or ((folder / hold_file(host, step, revision)).exists() and time.monotonic() < latest):
         answered = ask("127.0.0.1", port)
         if not answered.status:
             return "error"

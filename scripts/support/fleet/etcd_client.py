@@ -14,6 +14,7 @@ from support.fleet.recording import HISTORY, POLLS, Event, Poll
 
 TIMEOUT = 1.0   # seconds for a call
 PERIOD = 0.05   # seconds between two polls
+FIELDS = {"Grpc-Metadata-hasleader": "true"}  # a member without a leader says so, and is not silent
 
 
 class NoAnswer(Exception):
@@ -50,7 +51,7 @@ class EtcdClient:
         for endpoint in list(self.endpoints):
             try:
                 with contextlib.closing(self._connected(endpoint, TIMEOUT)) as connection:
-                    connection.request("POST", path, json.dumps(message), {"Grpc-Metadata-hasleader": "true"})
+                    connection.request("POST", path, json.dumps(message), FIELDS)
                     answer = connection.getresponse()
                     told = json.loads(answer.read())
                 if answer.status == 200:
@@ -65,10 +66,18 @@ class EtcdClient:
         """The revision of the store, by a linearizable read."""
         return int(self._call("/v3/kv/range", {"key": coded("/"), "count_only": True})["header"]["revision"])
 
+    def entries(self) -> dict[str, Event]:
+        """All keys of the fleet by their names, each as it was changed last."""
+        found = [self._event(key) for key in self._call("/v3/kv/range", self._range()).get("kvs", [])]
+        return {event.name: event for event in found}
+
     def keys(self) -> dict[str, str]:
-        """All keys of the fleet, by their names without the prefix."""
-        return {decoded(each["key"]).removeprefix(self.prefix): decoded(each.get("value", ""))
-                for each in self._call("/v3/kv/range", self._range()).get("kvs", [])}
+        """The values of all keys of the fleet, by their names."""
+        return {name: event.value or "" for name, event in self.entries().items()}
+
+    def _event(self, key: dict[str, Any], is_deleted: bool = False) -> Event:
+        return Event(int(key["mod_revision"]), decoded(key["key"]).removeprefix(self.prefix),
+                     None if is_deleted else decoded(key.get("value", "")), int(key.get("create_revision", 0)))
 
     def put(self, name: str, value: str) -> int:
         """Writes a key. Gives the revision."""
@@ -80,28 +89,51 @@ class EtcdClient:
     def history(self, seconds: float = 30.0) -> list[Event]:
         """All changes of the keys so far, by a watch from the first revision on. It needs a store that was never compacted.
         `NoAnswer` where they did not come in time."""
-        last, end = self.revision(), time.monotonic() + seconds
+        end = time.monotonic() + seconds
+        while True:
+            with contextlib.suppress(NoAnswer):
+                return self._history(end)
+            if time.monotonic() > end:
+                raise NoAnswer("the history of the keys did not come in time")
+            time.sleep(PERIOD)
+
+    def _history(self, end: float) -> list[Event]:
+        last = self.revision()
         marker = self.put("drill/end-of-history", "")  # the watch has all changes before it once it has this one
         for endpoint in list(self.endpoints):
             found: list[Event] = []
             with contextlib.suppress(OSError, ValueError, http.client.HTTPException):
-                for event in self._watched(endpoint, seconds):
+                for event in self._watched(endpoint, max(PERIOD, end - time.monotonic())):
                     if event.revision >= marker:
                         return [each for each in found if not each.name.startswith("drill/") and each.revision <= last]
                     found.append(event)
                     if time.monotonic() > end:
                         break
-        raise NoAnswer("the history of the keys did not come in time")
+        raise NoAnswer("no member gives the history")
 
-    def _watched(self, endpoint: Address, seconds: float) -> Iterator[Event]:
+    def follow(self, seconds: float) -> Iterator[Event]:
+        """The changes of the keys from now on, as they come, for so many seconds. `NoAnswer` where no member answers at first."""
+        after, end = self.revision(), time.monotonic() + seconds
+        while (left := end - time.monotonic()) > 0:
+            with contextlib.suppress(OSError, ValueError, http.client.HTTPException):
+                for event in self._watched(self.endpoints[0], left, after + 1):
+                    after = event.revision
+                    yield event
+            self.endpoints.append(self.endpoints.pop(0))
+            time.sleep(PERIOD)
+
+    def _watched(self, endpoint: Address, seconds: float, first: int = 1) -> Iterator[Event]:
+        """The changes from a revision on, by one member, which has so many seconds for each of them."""
         with contextlib.closing(self._connected(endpoint, seconds)) as connection:
-            connection.request("POST", "/v3/watch", json.dumps({"create_request": {**self._range(), "start_revision": "1"}}))
+            message = {"create_request": {**self._range(), "start_revision": str(first)}}
+            connection.request("POST", "/v3/watch", json.dumps(message), FIELDS)
             answer = connection.getresponse()
             while line := answer.readline():
-                for event in json.loads(line)["result"].get("events", []):
-                    key, is_deleted = event["kv"], event.get("type") == "DELETE"
-                    yield Event(int(key["mod_revision"]), decoded(key["key"]).removeprefix(self.prefix),
-                                None if is_deleted else decoded(key.get("value", "")), int(key.get("create_revision", 0)))
+                told = json.loads(line)
+                if "result" not in told:
+                    raise ValueError(f"the watch has ended: {told}")
+                for event in told["result"].get("events", []):
+                    yield self._event(event["kv"], event.get("type") == "DELETE")
 
 
 class Recorder:

@@ -16,8 +16,10 @@ from collections.abc import Iterator, Sequence
 from typing import NamedTuple, Protocol
 
 LOOPBACK = "127.0.0.1"
-# Below the ports that the system gives to connections by itself.
-FIRST_PORT, LAST_PORT = 10_000, 20_000
+# Below the ports that the system gives to connections by itself, and below those of the other scripts. Single addresses and blocks
+# have ranges of their own, so that none that was found free is taken by the other kind.
+FIRST_PORT, LAST_PORT = 10_000, 14_000
+FIRST_OF_BLOCKS, LAST_OF_BLOCKS = 14_000, 20_000
 PIECE = 65536
 
 
@@ -206,7 +208,7 @@ def free_addresses(count: int) -> list[Address]:
 def free_block(count: int) -> int:
     """The first of so many ports of loopback, one after the other, that nothing listens at."""
     while True:
-        first = random.randrange(FIRST_PORT, LAST_PORT - count)
+        first = random.randrange(FIRST_OF_BLOCKS, LAST_OF_BLOCKS - count)
         with contextlib.ExitStack() as stack, contextlib.suppress(OSError):
             for port in range(first, first + count):
                 stack.enter_context(socket.socket()).bind((LOOPBACK, port))

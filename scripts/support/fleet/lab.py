@@ -7,16 +7,18 @@ import shutil
 import signal
 import sys
 import time
-from collections.abc import Callable, Sequence
+from collections.abc import Callable, Iterator, Sequence
 from types import FrameType
 
 from support import TOP
 from support.checks import comes
-from support.fleet.analysis import bad_file
+from support.fleet.analysis import bad_file, hold_file
 from support.fleet.etcd_client import EtcdClient, NoAnswer, Recorder, write_rows
 from support.fleet.hosts import Network, free_block, network_of
 from support.fleet.programs import Programs
 from support.fleet.recording import OUTAGES, REQUESTS, Look, Outage, Recording, look_file, read_recording
+from support.fleet.seen import Seen
+from support.fleet.servers import etcd_words, haproxy_words, nginx_words
 from support.processes import Run, run_to_end
 from support.switch import PROGRAM, words_of_serve
 
@@ -25,6 +27,7 @@ FLEET = "web"
 FIRST_PORT = 9000  # of the endpoints, where each host has a loopback of its own
 WORKERS, CLIENTS = 4, 4
 LONGEST = 30.0  # seconds for which anything is awaited
+TAIL = 4096  # bytes at the end of a file of looks: more than two of them
 ROLLOUT = {"spec": {"replicas": 2, "revisionHistoryLimit": 3, "strategy": {"blueGreen": {
     "activeService": "web", "previewService": "web-preview", "autoPromotionEnabled": False,
     "prePromotionAnalysis": {}, "postPromotionAnalysis": {}, "scaleDownDelaySeconds": 10}}}}
@@ -74,6 +77,7 @@ class Lab:
         self.broken: dict[tuple[str, str], float] = {}  # by fault and host: since when
         self.outages: list[Outage] = []
         self.recorder: Recorder | None = None
+        self.failures: list[str] = []  # of programs, up to the recording: what has ended by itself, or has told of an exception
 
     def __enter__(self) -> "Lab":
         self.previous = signal.signal(signal.SIGTERM, self._interrupt)
@@ -147,14 +151,7 @@ class Lab:
         self.programs.start(name, [*self.network.words(host), *words], output=output, given=given, is_timed=is_timed)
 
     def start_etcd(self, host: str) -> None:
-        places = self.network.addresses(host)
-        cluster = ",".join(f"{each}=http://{self.network.addresses(each).peer}" for each in self.hosts)
-        self._start(f"etcd-{host}", host, [
-            "etcd", "--name", host, "--data-dir", str(self.folder / f"etcd-{host}"), "--logger", "zap", "--log-level", "warn",
-            "--heartbeat-interval", "100", "--election-timeout", "1000", "--unsafe-no-fsync=true",
-            "--listen-client-urls", f"http://{places.etcd}", "--advertise-client-urls", f"http://{places.etcd}",
-            "--listen-peer-urls", f"http://{places.peer}", "--initial-advertise-peer-urls", f"http://{places.peer}",
-            "--initial-cluster", cluster])
+        self._start(f"etcd-{host}", host, etcd_words(self.folder, self.network, host))
 
     def start_switch(self, host: str) -> None:
         self._start(f"switch-{host}", host, self.switch_words(self, host), given=json.dumps(ROLLOUT).encode())
@@ -173,24 +170,10 @@ class Lab:
         self._start(f"endpoints-{host}", host, module_words("endpoints", *words))
 
     def _start_nginx(self, host: str) -> None:
-        folder, places = self.folder / f"nginx-{host}", self.network.addresses(host)
-        folder.mkdir(exist_ok=True)
-        paths = "".join(f" {name}_temp_path {folder}/{name};\n" for name in ("client_body", "proxy", "fastcgi", "uwsgi", "scgi"))
-        (folder / "nginx.conf").write_text(
-            f"worker_processes 1; pid {folder}/pid; error_log {folder}/error warn; daemon off;\nevents {{ worker_connections 512; }}\n"
-            f"http {{ access_log off;\n{paths} server {{ listen {places.web}; add_header X-Host {host} always;\n"
-            f"  location / {{ proxy_pass http://{places.active}; proxy_connect_timeout 2s; proxy_read_timeout 10s; }} }} }}\n",
-            encoding="ascii")
-        self._start(f"nginx-{host}", host, ["nginx", "-e", str(folder / "error"), "-c", str(folder / "nginx.conf")])
+        self._start(f"nginx-{host}", host, nginx_words(self.folder, self.network, host))
 
     def _start_haproxy(self) -> None:
-        path = self.folder / "haproxy.cfg"
-        servers = "".join(f" server {host} {self.network.addresses(host).web} check inter 300 fall 2 rise 2\n" for host in self.hosts)
-        path.write_text(
-            "global\n maxconn 500\ndefaults\n mode http\n timeout connect 1s\n timeout client 15s\n timeout server 15s\n"
-            f" timeout check 2s\n retries 2\n option redispatch\nfrontend all\n bind {self.network.balancer()}\n default_backend machines\nbackend machines\n"
-            f" balance roundrobin\n option httpchk GET /\n{servers}", encoding="ascii")
-        self._start("haproxy", "", ["haproxy", "-db", "-f", str(path)])
+        self._start("haproxy", "", haproxy_words(self.folder, self.network))
 
     # ---- files ----
 
@@ -228,6 +211,20 @@ class Lab:
         """Lets an analysis of a revision fail on one host: `step` is pre or post."""
         (self.folder / bad_file(host, step, name_of(number))).touch()
 
+    def pass_analysis(self, host: str, step: str, number: int) -> None:
+        """Lets the analysis no longer fail."""
+        (self.folder / bad_file(host, step, name_of(number))).unlink(missing_ok=True)
+
+    @contextlib.contextmanager
+    def held_analysis(self, host: str, step: str, number: int) -> Iterator[None]:
+        """An analysis of a revision goes on on one host, until the block ends or a switch gives it no answer."""
+        path = self.folder / hold_file(host, step, name_of(number))
+        path.touch()
+        try:
+            yield
+        finally:
+            path.unlink()
+
     # ---- faults ----
 
     def _begin_outage(self, what: str, host: str, text: str) -> None:
@@ -257,6 +254,15 @@ class Lab:
         self.programs.wake(f"{what}-{host}")
         self._end_outage(what, host, f"{what} continues:")
 
+    def delay_switch(self, host: str) -> None:
+        """Stops a switch, which answers late then. That is no outage: no request of it fails, where it is let go on soon."""
+        self.say(f"DELAY switch {host}")
+        self.programs.stop(f"switch-{host}")
+
+    def let_switch_go_on(self, host: str) -> None:
+        self.programs.wake(f"switch-{host}")
+        self.say(f"switch goes on: {host}")
+
     def cut(self, host: str) -> None:
         """Cuts a host off from etcd, in silence."""
         self._begin_outage("link", host, "CUT the link to etcd of")
@@ -282,10 +288,19 @@ class Lab:
         """The latest look at each switch."""
         found = {}
         for host in self.hosts:
-            lines = (self.folder / look_file(host)).read_text(encoding="ascii").splitlines(keepends=True)
-            whole = [line for line in lines[-2:] if line.endswith("\n")]
+            path = self.folder / look_file(host)
+            with open(path, "rb") as file:
+                file.seek(max(0, path.stat().st_size - TAIL))
+                lines = file.read().splitlines(keepends=True)
+            whole = [line for line in lines[-2:] if line.endswith(b"\n")]
             found[host] = Look(**json.loads(whole[-1])) if whole else Look(0, 0)
         return found
+
+    def seen(self) -> Seen:
+        """What the keys of the fleet say; nothing where etcd gives no answer."""
+        with contextlib.suppress(NoAnswer):
+            return Seen(self.etcd.entries())
+        return Seen({})
 
     def keys(self) -> dict[str, str]:
         """The keys of the fleet; none where etcd gives no answer."""
@@ -299,6 +314,7 @@ class Lab:
 
     def record(self) -> Recording:
         """Ends the recording while the fleet still runs, and reads it. All that is broken has to be mended before."""
+        self.failures = self.programs.failures()
         self.programs.kill("client")
         for host in self.hosts:
             self.programs.kill(f"look-{host}")

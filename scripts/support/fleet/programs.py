@@ -24,6 +24,7 @@ class Programs:
         self.folder = folder
         self.running: dict[str, subprocess.Popen[bytes]] = {}
         self.stopped: set[str] = set()
+        self.ended: list[str] = []  # what has ended by itself, with its status, before it was killed
 
     def start(self, name: str, words: Sequence[str], *, output: str = "", given: bytes = b"", is_timed: bool = False) -> None:
         """Starts a program with this standard input. Its output goes to a file, `NAME.log` if none is named; with `is_timed`, each
@@ -53,13 +54,28 @@ class Programs:
 
     def kill(self, name: str) -> None:
         """Ends a program and what it has started as a crash does. Nothing where it does not run."""
-        process = self.running.pop(name, None)
+        if self._is_there(name):
+            self._remove(name)
+
+    def _is_there(self, name: str) -> bool:
+        """Whether a program was started and not ended since. It is noted where it has ended by itself."""
+        process = self.running.get(name)
+        if process and process.poll() is not None:
+            self.ended.append(f"{name}: status {process.returncode}")
+        return process is not None
+
+    def _remove(self, name: str) -> int:
+        process = self.running.pop(name)
         self.stopped.discard(name)
-        if process is None:
-            return
         with contextlib.suppress(ProcessLookupError):
             os.killpg(process.pid, signal.SIGKILL)
-        process.wait(LONGEST)
+        return process.wait(LONGEST)
+
+    def failures(self) -> list[str]:
+        """What has ended by itself, and what has told of an exception that nobody expected: a line each. A drill has none."""
+        found = [f"{name}: status {process.returncode}" for name, process in self.running.items() if process.poll() is not None]
+        told = [path.name for path in sorted(self.folder.glob("*.err")) if b"Traceback" in path.read_bytes()]
+        return [*self.ended, *found, *(f"{name} has a traceback" for name in told)]
 
     def stop(self, name: str) -> None:
         """Stops a program as by SIGSTOP, until `wake`."""
@@ -74,14 +90,13 @@ class Programs:
     def end(self, name: str, number: int = signal.SIGTERM) -> int | None:
         """Ends a program by a signal, and kills it where that takes too long. Gives its status; None where it did not run."""
         self.wake(name)
-        process = self.running.get(name)
-        if process is None:
+        if not self._is_there(name):
             return None
+        process = self.running[name]
         process.send_signal(number)
         with contextlib.suppress(subprocess.TimeoutExpired):
             process.wait(LONGEST)
-        self.kill(name)
-        return process.returncode
+        return self._remove(name)
 
     def end_all(self, first: Sequence[str] = ()) -> None:
         """Ends all programs: those that are named first, and the others at once."""

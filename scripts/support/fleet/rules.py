@@ -125,6 +125,10 @@ class Run:
         return next((write for write in self.writes if (write.record["id"], write.stage, write.name)
                      == (promote.attempt, "aborted", promote.revision)), None)
 
+    def late_promotes(self) -> list[Promote]:
+        """The promotes that met an abort on its way: it was written already for sure, and the agent had read the record before."""
+        return [promote for promote in self.recording.promotes if (aborted := self.abort_of(promote)) and aborted.latest <= promote.moment]
+
     def is_known(self, name: str, moment: float) -> bool:
         """Whether a revision may have been promoted up to a moment."""
         return self.known_from.get(name, FOREVER) <= moment
@@ -311,12 +315,11 @@ def figures(recording: Recording) -> dict[str, str]:
     """What a run had, for people: without promotions, aborts and faults its checks say little."""
     run = Run(recording)
     stages = collections.Counter(write.stage for write in run.writes)
-    late = sum(1 for promote in recording.promotes if (aborted := run.abort_of(promote)) and aborted.earliest <= promote.moment)
     failed = [request for request in recording.requests if request.status != 200]
     return {
         "writes of the record": f"{len(run.writes)} ({', '.join(f'{stage} {count}' for stage, count in stages.items())})",
         "leaders": str(len({write.record["by"] for write in run.writes})),
-        "promotes of agents": f"{len(recording.promotes)}, {late} of them while an abort was on its way",
+        "promotes of agents": f"{len(recording.promotes)}, {len(run.late_promotes())} of them while an abort was on its way",
         "oldest read of a promote": f"{max((promote.age for promote in recording.promotes), default=0):.3f} s",
         "changes of active services": str(sum(1 for looks in recording.looks.values() for _ in selections(looks))),
         "requests": f"{len(recording.requests)}, {len(failed)} failed, {sum(_is_excused(run, each) for each in failed)} of these at a "

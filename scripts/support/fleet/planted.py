@@ -1,0 +1,144 @@
+"""Planted faults of agents, each with a drill in which it breaks a rule. Agents without it break none in the same drill."""
+import contextlib
+import pathlib
+import sys
+import time
+from collections.abc import Callable, Iterator, Mapping
+from typing import NamedTuple
+from unittest import mock
+
+from support import TOP
+from support.fleet.aimed_abort import promoted_attempt, put_abort
+from support.fleet.etcd_client import EtcdClient
+from support.fleet.lab import FLEET, Lab, agent_words, module_words, name_of
+from support.fleet.rules import Broken, broken_rules
+from support.fleet.session import Session
+
+# isort: split; `support` tells where the packages of the tools and of the tests are
+sys.path.insert(0, str(TOP))
+from bg_switch_tools.fleet.agent import LEASE  # noqa: E402
+from bg_switch_tools.fleet.candidate import Candidate, Pending  # noqa: E402
+from tests.fleet_faults import (Patch, alone, back_by_permission, no_catch_up, on_changes, on_reads_of_any_age,  # noqa: E402
+                                without_compares, without_one_member)
+
+LATE = 2.0       # seconds for which a switch is late: a read of before is too old then, and no round has given up yet
+LOST = 6.0       # seconds for which a machine has no etcd: more than its agent needs to notice that
+CATCHING_UP = 20.0  # seconds in which a machine that was away catches up
+SLEEP = LEASE + 2.0  # seconds for which a leader sleeps before it writes: it leads no longer then
+
+
+@contextlib.contextmanager
+def slow_without_compares() -> Iterator[None]:
+    """A leader without compares, which sleeps past its lease before it writes."""
+    send = Candidate.send
+
+    def late(self: Candidate, pending: Pending) -> bool:
+        if pending.write.record and pending.write.record.is_running:
+            time.sleep(SLEEP)
+        return send(self, pending)
+    with without_compares(""), mock.patch.object(Candidate, "send", late):
+        yield
+
+
+# ---- the drills ----
+
+def one_member_away(session: Session) -> None:
+    """An attempt begins while a machine is cut off."""
+    away = session.follower()
+    session.lab.cut(away)
+    session.deploy(2)
+    time.sleep(LOST)
+    session.lab.mend(away)
+    session.until(lambda seen: seen.is_settled, CATCHING_UP)
+
+
+def etcd_lost(session: Session) -> None:
+    """All machines are ready, a person is awaited, and a machine loses etcd."""
+    lost = session.follower()
+    session.deploy(2, by_hand=True)
+    session.until(lambda seen: seen.are_all("ready"))
+    session.lab.cut(lost)
+    time.sleep(LOST)
+    session.lab.mend(lost)
+    session.give("abort")
+    session.until(lambda seen: seen.is_settled, CATCHING_UP)
+
+
+def one_good_revision(session: Session) -> None:
+    session.deploy(2)
+    session.until(lambda seen: seen.is_settled, 3 * SLEEP)
+
+
+def missed_attempt(session: Session) -> None:
+    """A machine that was removed misses an attempt, and is added again."""
+    away = session.follower()
+    session.lab.cut(away)
+    session.give("members", "remove", away)
+    session.deploy(2)
+    session.is_at(2, "successful")
+    session.lab.mend(away)
+    session.give("members", "add", away)
+    session.until(lambda seen: seen.is_settled, CATCHING_UP)
+
+
+def late_switch(session: Session) -> None:
+    """A switch is late when its attempt begins to be promoted, and a person aborts meanwhile."""
+    host, client = session.follower(), EtcdClient(session.lab.network, FLEET)
+    session.put(1, 2, seconds=2)  # so that the keys are followed before it is promoted
+    attempt = promoted_attempt(client, name_of(2), CATCHING_UP)
+    session.lab.delay_switch(host)
+    if attempt:
+        put_abort(client, attempt)
+    time.sleep(LATE)
+    session.lab.let_switch_go_on(host)
+    session.until(lambda seen: seen.is_settled, CATCHING_UP)
+
+
+def failure_without_etcd(session: Session) -> None:
+    """The analysis after the switch fails on a machine that has lost etcd."""
+    lost = session.follower()
+    with session.lab.held_analysis(lost, "post", 2):
+        session.deploy(2)
+        session.selects(lost, 2, CATCHING_UP)
+        session.lab.cut(lost)
+        session.lab.fail_analysis(lost, "post", 2)
+    time.sleep(LOST)
+    session.lab.mend(lost)
+    session.until(lambda seen: seen.is_settled, CATCHING_UP)
+
+
+class Planted(NamedTuple):
+    """A fault of the agents, the drill in which it shows, the rule that it breaks, and a part of what that says."""
+    plant: Callable[[], Patch]
+    drill: Callable[[Session], None]
+    rule: int
+    text: str
+
+    def is_found(self, broken: list[Broken]) -> bool:
+        return any(rule == self.rule and self.text in text for rule, text in broken)
+
+
+PLANTED: Mapping[str, Planted] = {
+    "without-one-member": Planted(without_one_member, one_member_away, 1, "promoting was written while"),
+    "alone": Planted(alone, etcd_lost, 1, "selected web-2"),
+    "without-compares": Planted(slow_without_compares, one_good_revision, 3, "was written by the leader"),
+    "no-catch-up": Planted(no_catch_up, missed_attempt, 4, "at the end"),
+    "old-reads": Planted(on_reads_of_any_age, late_switch, 2, "by a read"),
+    "changes": Planted(on_changes, missed_attempt, 4, "at the end"),
+    "back-by-permission": Planted(back_by_permission, failure_without_etcd, 6, "still selected web-2")}
+
+
+def faulty_words(fault: str) -> Callable[[Lab, str], list[str]]:
+    """The words of agents with this fault."""
+    return lambda lab, host: module_words("faulty_agent", fault, str(lab.fleet_file(host)))
+
+
+def broken_by(folder: pathlib.Path, name: str, is_planted: bool) -> list[Broken]:
+    """The rules that are broken in the drill of a fault, by agents with it or without."""
+    with Lab(folder, revisions=2, agent=faulty_words(name) if is_planted else agent_words) as lab:
+        session = Session(lab)
+        session.begin()
+        PLANTED[name].drill(session)
+        lab.mend_all()
+        time.sleep(2)  # so that what follows is seen
+        return broken_rules(lab.record())
