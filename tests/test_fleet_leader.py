@@ -225,6 +225,7 @@ class Missing(Decisions):
         self.record = self.put(PROMOTING, missing=("c",))
         self.report(a=PASSED, c=PASSED)
         self.assertIsNone(self.decision())
+        self.assertEqual(awaited_of(self.snapshot()), ["b: is away"])
 
     def test_one_that_goes_away_while_promoting(self) -> None:
         self.record = self.put(PROMOTING)

@@ -208,7 +208,7 @@ def awaited_of(snapshot: Snapshot) -> list[str]:
     votes = votes_of(view, record)
     found = [f"{host}: {_told(view, host)}" for host in votes.awaited]
     if len(votes.missing) > plan.max_missing:
-        found += [f"{host}: {_told(view, host)}" for host in votes.missing]
+        found += [f"{host}: {_told(view, host)}" for host in votes.missing if host not in record.missing]
     if not votes.members:
         found.append("members")
     if not found and record.stage == DEPLOYING:
