@@ -99,9 +99,9 @@ where
 }
 
 /// Runs the workers, each for at most this many connections, and then ends the writer of the access log.
-fn work<N: Names + Send + Sync, R>(
-    context: &ServeContext<R>,
-    desk: &Desk<N>,
+fn work<'a, N: Names + Send + Sync, R>(
+    context: &'a ServeContext<'a, R>,
+    desk: &'a Desk<N>,
     services: &[Service],
     seats: &mut [Seat<N>],
     count: u64,
