@@ -1,0 +1,9 @@
+pub mod Feeding
+pub mod Incoming
+pub mod Outgoing
+pub mod Paces
+pub mod Ports
+pub mod Received
+pub mod Registers
+pub mod Stages
+pub mod Totals

@@ -1,0 +1,28 @@
+-- What a worker is given of a connection.
+use Rattle.std.specs.Prelude.{◌≡◌, ℕ, List, ◌++◌, Result, Ok, Err}
+use Rattle.bg_http.specs.declared.request.Request.{Request}
+use Rattle.bg_http.specs.declared.request_fault.RequestFault.{RequestFault}
+use Rattle.bg_http.specs.declared.request_fault.RequestFault.TheVariants as fault
+use Rattle.bg_http_read.specs.Requests.{ReadsRequest, RequestFails}
+use Rattle.bg_port.specs.Incoming.{counted}
+use Rattle.bg_port.specs.declared.received.Ending.{Ending}
+use Rattle.bg_port.specs.declared.received.ReceivedRequest.{ReceivedRequest}
+
+-- the answer is what reading these bytes gives: the request that they begin with, or their fault
+abbrev pub IsAnswer : List ℕ → Result Request RequestFault → Type 0
+IsAnswer came (Ok request) = (rest : List ℕ) × ReadsRequest came request rest
+IsAnswer came (Err named) = RequestFails came named
+
+-- the same, whatever follows
+abbrev pub StaysAnswer : List ℕ → Result Request RequestFault → Type 0
+StaysAnswer came answer = (more : List ℕ) → IsAnswer (came ++ more) answer
+
+-- the answer is that of these bytes, and this ended the request
+pub record IsReceived (received : ReceivedRequest) (came : List ℕ) (ending : Ending) : Type 0 where
+  pub answers : IsAnswer came received.answer
+  pub ending_is : received.ending ≡ ending
+  pub bytes_are : received.bytes ≡ counted came
+
+-- the rest of the request could not be read
+abbrev pub unread : Ending → ℕ → ReceivedRequest
+unread ending bytes = record { answer = Err fault.ReadFailed; ending = ending; bytes = bytes }

@@ -1,0 +1,38 @@
+//! A connection of a client.
+
+ghost use Rattle.std.specs.Prelude.{◌≡◌};
+ghost use Rattle.bg_port.specs.Registers.{accepted_at};
+
+use crate::stage::Stage;
+
+/// A connection of a client.
+#[derive(Drop)]
+pub struct Connection {
+    /// Its number, in the order of the accepts. No two connections have the same number.
+    pub(crate) number: u64,
+    /// When it was accepted, in milliseconds from the start of the port.
+    pub(crate) accepted: u64,
+    pub(crate) stage: Stage,
+}
+
+impl Connection {
+    /// A connection that was just accepted.
+    pub(crate) fn new(number: u64, moment: u64) -> Connection
+        ensures { result ≡ accepted_at number moment }
+    {
+        Connection {
+            number,
+            accepted: moment,
+            stage: Stage::Accepted,
+        }
+    }
+}
+
+/// Names a connection. Its key is the index of its place, which another connection has once this one has left.
+#[derive(Clone, Copy, PartialEq, Eq, Debug, Drop)]
+pub struct ConnectionId {
+    /// The index of its place.
+    pub key: usize,
+    /// Its number, in the order of the accepts.
+    pub number: u64,
+}

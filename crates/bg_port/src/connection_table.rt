@@ -1,0 +1,100 @@
+//! The places of connections, with their totals.
+ghost use Rattle.std.specs.Prelude.{◌≡◌, ◌<◌, EachIndex, IfNone, IfOk, IfSome, None, length, min, replicate};
+ghost use Rattle.std.specs.Prelude.{slice_index_or, slice_set};
+ghost use Rattle.std.specs.Option.{option_copied};
+ghost use Rattle.bg_port.specs.Totals.{AreSums};
+
+use crate::connection::Connection;
+use crate::totals::Totals;
+use std::alloc::{AllocError, Global};
+use std::marker::Model;
+use std::mem;
+
+/// The greatest number of places.
+const MOST_PLACES: usize = 1 << 20;
+
+/// Places of connections. The index of a place is its key. Contracts see the list of the places.
+#[derive(Drop)]
+pub(crate) struct ConnectionTable {
+    places: Vec<Option<Connection>>,
+    totals: Totals,
+}
+
+impl Model for ConnectionTable {
+    ghost use Rattle.std.specs.Prelude.{◌≤◌, List, Option, vec_len};
+    ghost use Rattle.bg_port.specs.declared.connection.Connection.{Connection};
+
+    ghost Value = { List (Option Connection) };
+
+    ghost use Rattle.bg_port.specs.Totals.{AreSums};
+
+    ghost view = { λ t. t.places.items };
+
+    ghost invariant = { λ t. AreSums t.totals t.places.items × (vec_len t.places ≤ 1048576) };
+}
+
+impl ConnectionTable {
+    /// So many free places, at most 2 to the power of 20. The only error is an allocation failure.
+    pub(crate) fn new(alloc: Global, room: usize) -> Result<ConnectionTable, AllocError>
+        ensures { IfOk result (λ table. table ≡ replicate (min room 1048576) None) }
+    {
+        let room = room.min(MOST_PLACES);
+        let mut places = Vec::with_capacity(alloc, room)?;
+        for _ in 0..room {
+            places.push(None)?;
+        }
+        Ok(ConnectionTable {
+            places,
+            totals: Totals::none(),
+        })
+    }
+
+    /// The number of places.
+    pub(crate) fn len(&self) -> usize
+        ensures { result ≡ length self.now }
+    {
+        self.places.len()
+    }
+
+    /// What the connections come to.
+    pub(crate) fn totals(&self) -> Totals
+        ensures { AreSums result self.now }
+    {
+        self.totals
+    }
+
+    /// The place of a key.
+    pub(crate) fn get(&self, key: usize) -> Option<&Connection>
+        ensures { option_copied result ≡ slice_index_or self.now key None }
+    {
+        match self.places.get(key) {
+            Some(Some(connection)) => Some(connection),
+            Some(None) | None => None,
+        }
+    }
+
+    /// Puts this into the place of a key, and gives what was there.
+    pub(crate) fn set(&mut self, key: usize, place: Option<Connection>) -> Option<Connection>
+        requires { key < length self.old }
+        ensures places { self.new ≡ slice_set self.old key place }
+        ensures before { result ≡ slice_index_or self.old key None }
+    {
+        let before = Totals::of_place(&self.places[key]);
+        self.totals = self.totals.replaced(before, Totals::of_place(&place));
+        mem::replace(&mut self.places[key], place)
+    }
+
+    /// The key of the first free place; `None` if no place is free.
+    pub(crate) fn first_free(&self) -> Option<usize>
+        ensures within { IfSome result (λ key. key < length self.now) }
+        ensures free { IfSome result (λ key. slice_index_or self.now key None ≡ None) }
+        ensures none { IfNone result (EachIndex self.now (λ key. ¬ (slice_index_or self.now key None ≡ None))) }
+    {
+        for (key, place) in self.places.iter().enumerate() {
+            if place.is_none() {
+                return Some(key);
+            }
+        }
+        None
+    }
+}

@@ -1,0 +1,122 @@
+//! The connections of a port: each at its key, and those that wait for a worker in order.
+ghost use Rattle.std.specs.Prelude.{◌≡◌, ◌<◌, [], IfNone, IfOk, IfSome, None, length, min, replicate};
+ghost use Rattle.std.specs.Option.{option_copied};
+ghost use Rattle.bg_port.specs.Totals.{AreSums};
+ghost use Rattle.bg_port.specs.Registers.{Enters, IsMissing, TakesFirst, TakesOut, at, takeable, with_connection};
+
+use crate::connection::{Connection, ConnectionId};
+use crate::connection_table::ConnectionTable;
+use crate::stage::Stage;
+use crate::totals::Totals;
+use std::alloc::{AllocError, Global};
+use std::collections::VecDeque;
+use std::marker::Model;
+
+/// The connections of a port. Each accepted connection has a number and a place, until it leaves. The keys of those that
+/// wait for a worker are in a queue, each once.
+#[derive(Drop)]
+pub struct Connections {
+    table: ConnectionTable,
+    queue: VecDeque<usize>,
+    /// The number of the next connection.
+    next: u64,
+}
+
+impl Model for Connections {
+    ghost use Rattle.std.specs.Prelude.{◌≤◌, length};
+    ghost use Rattle.std.specs.VecDeque.{deque_capacity};
+    ghost use Rattle.bg_port.specs.Registers.{Holds, Register};
+
+    ghost Value = { Register };
+
+    ghost view = { λ c. record { places = c.table; queue = c.queue.items; next = c.next } };
+
+    ghost invariant = { λ c.
+        Holds c.table c.queue.items c.next × (length c.table ≤ deque_capacity c.queue) };
+}
+
+impl Connections {
+    /// No connections, and places for so many, at most 2 to the power of 20. The only error is an allocation failure.
+    pub(crate) fn new(alloc: Global, room: usize) -> Result<Connections, AllocError>
+        ensures { IfOk result (λ connections. connections ≡ record {
+          places = replicate (min room 1048576) None;
+          queue = [];
+          next = 0;
+        }) }
+    {
+        let table = ConnectionTable::new(alloc, room)?;
+        let queue = VecDeque::with_capacity(alloc, table.len())?;
+        Ok(Connections {
+            table,
+            queue,
+            next: 0,
+        })
+    }
+
+    /// What the connections come to.
+    pub(crate) fn totals(&self) -> Totals
+        ensures { AreSums result self.now.places }
+    {
+        self.table.totals()
+    }
+
+    /// The number of connections that wait for a worker.
+    pub(crate) fn waiting(&self) -> usize
+        ensures { result ≡ length self.now.queue }
+    {
+        self.queue.len()
+    }
+
+    /// The connection of a key.
+    pub(crate) fn get(&self, key: usize) -> Option<&Connection>
+        ensures { option_copied result ≡ at self.now.places key }
+    {
+        self.table.get(key)
+    }
+
+    /// Adds a connection that was accepted at a moment. `None` if no place is free.
+    pub(crate) fn enter(&mut self, moment: u64) -> Option<ConnectionId>
+        ensures enters { IfSome result (λ id. Enters self.old self.new id moment) }
+        ensures none { IfNone result (self.new ≡ self.old) }
+    {
+        let key = self.table.first_free()?;
+        let number = self.next;
+        self.next = number.checked_add(1)?;
+        self.table.set(key, Some(Connection::new(number, moment)));
+        Some(ConnectionId { key, number })
+    }
+
+    /// Takes the connection of a key out of its place, unless it waits for a worker.
+    pub(crate) fn take(&mut self, key: usize) -> Option<Connection>
+        ensures which { result ≡ takeable (at self.old.places key) }
+        ensures taken { IfSome result (λ connection. TakesOut self.old self.new key connection) }
+        ensures none { IfNone result (self.new ≡ self.old) }
+    {
+        if self.table.get(key)?.stage.is_waiting() {
+            return None;
+        }
+        self.table.set(key, None)
+    }
+
+    /// Puts a connection into its place. If it waits for a worker now, it is the last to do so.
+    pub(crate) fn put(&mut self, key: usize, connection: Connection)
+        requires { IsMissing self.old key connection.number }
+        ensures { self.new ≡ with_connection self.old key connection }
+    {
+        if connection.stage.is_waiting() {
+            self.queue.push_back_reserved(key);
+        }
+        self.table.set(key, Some(connection));
+    }
+
+    /// Takes the connection that has waited for a worker longest out of its place, and gives it with its key.
+    pub(crate) fn take_first(&mut self) -> Option<(usize, Connection)>
+        ensures first { IfSome result (λ first. TakesFirst self.old self.new first.0 first.1) }
+        ensures none { IfNone result (self.new ≡ self.old) }
+        ensures empty { IfNone result (self.old.queue ≡ []) }
+    {
+        let key = self.queue.pop_front()?;
+        let connection = self.table.set(key, None)?;
+        Some((key, connection))
+    }
+}

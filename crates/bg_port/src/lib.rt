@@ -1,0 +1,22 @@
+//! The state of a client port, as a machine without sockets: the stage of each connection, and what is read and written.
+#![tactic(auto)]
+
+mod connection;
+mod connection_table;
+mod connections;
+mod incoming;
+mod outgoing;
+mod port;
+mod progress;
+mod received;
+mod stage;
+mod totals;
+
+pub use connection::ConnectionId;
+pub use incoming::{Fed, IncomingRequest};
+pub use outgoing::OutgoingResponse;
+pub use port::{Port, PortSettings};
+pub use progress::Pace;
+pub use received::{Ending, ReceivedRequest};
+pub use stage::ReadStep;
+pub use totals::Totals;

@@ -1,0 +1,65 @@
+//! The state of a client port.
+ghost use Rattle.std.specs.Prelude.{◌≡◌, IfNone, IfOk, IfSome, None, min, replicate, ◌+◌, []};
+ghost use Rattle.bg_port.specs.Registers.{Enters};
+
+mod reading;
+mod writing;
+
+use crate::connection::ConnectionId;
+use crate::connections::Connections;
+use std::alloc::{AllocError, Global};
+
+/// The settings of a client port.
+#[derive(Clone, Copy, PartialEq, Eq, Debug, Drop)]
+pub struct PortSettings {
+    /// The number of connections that no worker has at which the port accepts no further one.
+    pub connections: u64,
+    /// The number of workers. Each of them has at most one connection.
+    pub workers: u64,
+    /// The timeout of a request from the moment at which it is left to the port, in milliseconds.
+    pub request_millis: u64,
+    /// The memory, in bytes, that requests may take before large ones are paused.
+    pub request_bytes: u64,
+    /// The memory, in bytes, that responses may take before slow clients are closed.
+    pub response_bytes: u64,
+}
+
+/// The state of a client port. It has no sockets: its caller reports what came and what was written, and reads and
+/// writes as the port says. Moments are milliseconds from the start of the port.
+#[derive(Drop)]
+pub struct Port {
+    pub(crate) connections: Connections,
+    pub(crate) settings: PortSettings,
+    /// When the timeout of the shutdown ends, once it has begun.
+    pub(crate) closing_until: Option<u64>,
+}
+
+impl Port {
+    /// A port without connections. It has places for as many connections as the settings allow, at most 2 to the power
+    /// of 20; no later call allocates a place. The only error is an allocation failure.
+    pub fn new(alloc: Global, settings: PortSettings) -> Result<Port, AllocError>
+        ensures places { IfOk result (λ port. port.connections ≡ record {
+          places = replicate (min (min (settings.connections + settings.workers) usize.MAX) 1048576) None;
+          queue = [];
+          next = 0;
+        }) }
+        ensures settings { IfOk result (λ port. port.settings ≡ settings) }
+        ensures open { IfOk result (λ port. port.closing_until ≡ None) }
+    {
+        let room = settings.connections.saturating_add(settings.workers) as usize;
+        Ok(Port {
+            connections: Connections::new(alloc, room)?,
+            settings,
+            closing_until: None,
+        })
+    }
+
+    /// Notes that a worker accepted a connection, and gives it a number and a place. `None` if no place is free.
+    pub fn accept(&mut self, now: u64) -> Option<ConnectionId>
+        ensures enters { IfSome result (λ id. Enters self.old.connections self.new.connections id now) }
+        ensures none { IfNone result (self.new ≡ self.old) }
+        ensures rest { self.new ≡ record self.old { connections = self.new.connections } }
+    {
+        self.connections.enter(now)
+    }
+}

@@ -1,0 +1,67 @@
+//! How a port writes responses, and ends connections.
+ghost use Rattle.std.specs.Prelude.{◌≡◌, IfNone, IfSome, IsSomeAnd, None, Some};
+ghost use Rattle.bg_port.specs.Ports.{answering, changed_by, discard_by, handed, lingering_by, stop_by, write_by, writing_at};
+ghost use Rattle.bg_port.specs.Ports.{is_held, shut_by};
+ghost use Rattle.bg_port.specs.Registers.{at};
+
+use crate::connection::{Connection, ConnectionId};
+use crate::outgoing::OutgoingResponse;
+use crate::port::Port;
+use crate::progress::Progress;
+use crate::received::Ending;
+use crate::stage::{Lingering, Stage, Writing};
+
+impl Port {
+    /// What is still to be written on a connection. `None` if no response is written on it.
+    pub fn rest(&self, key: usize) -> Option<&[u8]>
+        ensures some { IfSome result (λ rest. IsSomeAnd (writing_at (at self.now.connections.places key))
+            (λ writing. rest.now ≡ writing.response.rest)) }
+        ensures none { IfNone result (writing_at (at self.now.connections.places key) ≡ None) }
+    {
+        match &self.connections.get(key)?.stage {
+            Stage::Writing(writing) => Some(writing.response.rest()),
+            _ => None,
+        }
+    }
+
+    /// Notes that so many bytes more of the rest of a response were written.
+    pub fn wrote(&mut self, key: usize, count: usize, now: u64)
+        ensures { self.new ≡ record self.old {
+          connections = changed_by (write_by count now) self.old.connections key;
+        } }
+    {
+        let Some(connection) = self.connections.take(key) else {
+            return;
+        };
+        let stage = connection.stage.wrote(count, now);
+        self.connections.put(
+            key,
+            Connection {
+                number: connection.number,
+                accepted: connection.accepted,
+                stage,
+            },
+        );
+    }
+
+    /// Notes that the writing side of a connection was shut, so that its lingering close begins. Nothing changes if a
+    /// part of the response is still to be written.
+    pub fn begin_lingering_close(&mut self, key: usize, now: u64)
+        ensures { self.new ≡ record self.old {
+          connections = changed_by (shut_by now) self.old.connections key;
+        } }
+    {
+        let Some(connection) = self.connections.take(key) else {
+            return;
+        };
+        let stage = connection.stage.begin_lingering_close(now);
+        self.connections.put(
+            key,
+            Connection {
+                number: connection.number,
+                accepted: connection.accepted,
+                stage,
+            },
+        );
+    }
+}

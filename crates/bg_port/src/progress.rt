@@ -1,0 +1,84 @@
+//! Whether a connection makes progress.
+ghost use Rattle.std.specs.Prelude.{◌≡◌};
+ghost use Rattle.bg_port.specs.Paces.{is_slower, noted, request_pace};
+
+/// What counts as progress: this many bytes within this many milliseconds. If no bytes come at all, the time is
+/// shorter.
+#[derive(Clone, Copy, PartialEq, Eq, Debug, Drop)]
+pub struct Pace {
+    pub(crate) bytes: u64,
+    pub(crate) within_millis: u64,
+    pub(crate) silent_millis: u64,
+}
+
+/// The pace of a client that takes its response, or that is in its lingering close. Clients are on this machine, so a
+/// client that reads takes bytes within milliseconds. With a longer time, 500 clients that do not read would fill the
+/// memory faster than they are closed, and would block all other clients.
+pub(crate) const RESPONSE_PACE: Pace = Pace {
+    bytes: 1 << 17,
+    within_millis: 2_000,
+    silent_millis: 250,
+};
+
+/// The pace of a request that has bytes already, and of one that has none yet.
+const REQUEST_PACE: Pace = Pace {
+    bytes: 4_096,
+    within_millis: 4_000,
+    silent_millis: 2_000,
+};
+
+const FIRST_BYTE_PACE: Pace = Pace {
+    bytes: 1,
+    within_millis: 1_000,
+    silent_millis: 1_000,
+};
+
+/// The pace of a request of which so many bytes came.
+pub(crate) fn request_pace(count: u64) -> Pace
+    ensures { result ≡ request_pace count }
+{
+    if count == 0 {
+        FIRST_BYTE_PACE
+    } else {
+        REQUEST_PACE
+    }
+}
+
+/// The state of a connection when it last made progress. Moments are milliseconds from the start of its port.
+#[derive(Clone, Copy, PartialEq, Eq, Debug, Drop)]
+pub struct Progress {
+    pub(crate) moment: u64,
+    /// The number of bytes that were moved by then.
+    pub(crate) bytes: u64,
+}
+
+impl Progress {
+    /// No byte was moved yet.
+    pub(crate) fn from(now: u64) -> Progress
+        ensures { result ≡ record { moment = now; bytes = 0 } }
+    {
+        Progress {
+            moment: now,
+            bytes: 0,
+        }
+    }
+
+    /// The same after this many bytes were moved in all.
+    pub(crate) fn noted(self, bytes: u64, pace: Pace, now: u64) -> Progress
+        ensures { result ≡ noted self bytes pace now }
+    {
+        if bytes.saturating_sub(self.bytes) >= pace.bytes {
+            Progress { moment: now, bytes }
+        } else {
+            self
+        }
+    }
+
+    /// Whether a connection that moved this many bytes in all is slower than its pace.
+    pub(crate) fn is_slower(self, bytes: u64, pace: Pace, now: u64) -> bool
+        ensures { result ≡ is_slower self bytes pace now }
+    {
+        let passed = now.saturating_sub(self.moment);
+        passed >= pace.within_millis || bytes == self.bytes && passed >= pace.silent_millis
+    }
+}

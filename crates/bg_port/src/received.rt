@@ -1,0 +1,42 @@
+//! What a worker is given of a connection: its request, or why there is none.
+ghost use Rattle.std.specs.Prelude.{◌≡◌};
+ghost use Rattle.bg_port.specs.Received.{unread};
+
+use bg_http::{Request, RequestFault};
+
+/// What ended a request.
+#[derive(Clone, Copy, PartialEq, Eq, Debug, Drop)]
+pub enum Ending {
+    /// It is complete or faulty. Further bytes change nothing.
+    Decided,
+    /// The client ended its input.
+    Ended,
+    /// A read failed.
+    Failed,
+    /// The client took too long, its connection had to make room for others, or the port shuts down.
+    GivenUp,
+}
+
+/// What a worker is given of a connection.
+#[derive(Drop)]
+pub struct ReceivedRequest {
+    /// The request, or its fault: `ReadFailed` if a read failed, or if the port gave the request up.
+    pub answer: Result<Request, RequestFault>,
+    /// What ended the request.
+    pub ending: Ending,
+    /// The number of bytes that came; 0 if the port gave the request up.
+    pub bytes: usize,
+}
+
+impl ReceivedRequest {
+    /// A request whose rest could not be read.
+    pub(crate) fn unread(ending: Ending, bytes: usize) -> ReceivedRequest
+        ensures { result ≡ unread ending bytes }
+    {
+        ReceivedRequest {
+            answer: Err(RequestFault::ReadFailed),
+            ending,
+            bytes,
+        }
+    }
+}
