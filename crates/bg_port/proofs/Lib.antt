@@ -1,2 +1,5 @@
+pub mod IncomingLemmas
+pub mod OutgoingLemmas
 pub mod RegisterLemmas
 pub mod Sums
+pub mod TotalLemmas

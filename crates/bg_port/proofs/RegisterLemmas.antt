@@ -1,14 +1,16 @@
 -- The changes of a register keep what holds of it.
-use Rattle.std.proofs.Common.{◌≡◌, ◌==◌, ℕ, ◌+◌, ◌<◌, ◌≤◌, suc, zero, cond, Bool, true, false, List, [], ◌∷◌, ◌++◌, length}
-use Rattle.std.proofs.Common.{get_or, set, replicate, sum_by, count_by, Option, Some, None, inl, inr, refl, sym, ap, subst, ◌∙◌, arith, length-set}
+use Rattle.std.proofs.Common.{◌≡◌, ◌==◌, ℕ, ◌+◌, ◌<◌, ◌≤◌, cond, true, false, List, [], ◌∷◌, ◌++◌, length}
+use Rattle.std.proofs.Common.{set, replicate, sum_by, Option, Some, None, inl, inr, refl, sym, ap, subst, ◌∙◌, arith, append-nil, length-set, set-set}
 use Rattle.std.proofs.Common.{eq-eqb, ne_eqb, get_or-set_same, get_or-set_other}
-use Rattle.std.proofs.lemmas.Bool.{cases_eq, cases_lt}
+use Rattle.std.proofs.lemmas.Bool.{cases_Bool, cases_eq, cases_lt}
 use Rattle.std.proofs.lemmas.List.{get_or_past, get_or-replicate, length-replicate, length_push}
 use Rattle.std.proofs.lemmas.List.Sums.{sum_by-set, sum_by-cons, sum_by_push}
 use Rattle.bg_port.proofs.Sums.{sum_by-lt-length}
-use Rattle.bg_port.specs.Registers.{Holds, IsMissing, Register, accepted_at, at, count_of, has_number, waits}
+use Rattle.bg_port.proofs.TotalLemmas.{none_sum}
+use Rattle.bg_port.specs.Registers.{Holds, IsMissing, Register, at, count_of, has_number, waits, with_connection}
 use Rattle.bg_port.specs.Stages.{is_waiting}
 use Rattle.bg_port.specs.declared.connection.Connection.{Connection}
+use Rattle.bg_port.specs.declared.stage.Stage.TheVariants as stage
 
 abbrev Places : Type 0
 Places = List (Option Connection)
@@ -38,17 +40,21 @@ waits-le : (p : Option Connection) → waits p ≤ 1
 waits-le None = omega arith
 waits-le (Some c) = elim (is_waiting c.stage) as (λ b. cond b 1 0 ≤ 1) [ true ↦ omega arith | false ↦ omega arith ]
 
+-- 1 if the keys are the same, and otherwise 0
+abbrev one_if_same : ℕ → ℕ → ℕ
+one_if_same other key = cond (other == key) 1 0
+
 -- how often a key is in a queue with one more at its end, or its front
-count-push : (key other : ℕ) (queue : List ℕ) → count_of key (queue ++ other ∷ []) ≡ count_of key queue + cond (other == key) 1 0
+count-push : (key other : ℕ) (queue : List ℕ) → count_of key (queue ++ other ∷ []) ≡ count_of key queue + one_if_same other key
 count-push key other queue = sum_by_push (λ x. cond (x == key) 1 0) queue other
 
-count-cons : (key other : ℕ) (queue : List ℕ) → count_of key (other ∷ queue) ≡ cond (other == key) 1 0 + count_of key queue
+count-cons : (key other : ℕ) (queue : List ℕ) → count_of key (other ∷ queue) ≡ one_if_same other key + count_of key queue
 count-cons key other queue = sum_by-cons (λ x. cond (x == key) 1 0) other queue
 
-same_key : (key : ℕ) → cond (key == key) 1 0 ≡ 1
+same_key : (key : ℕ) → one_if_same key key ≡ 1
 same_key key = ap (λ b. cond b 1 0) (eq-eqb key key refl)
 
-other_key : (key other : ℕ) → (other ≡ key → ⊥) → cond (other == key) 1 0 ≡ 0
+other_key : (key other : ℕ) → (other ≡ key → ⊥) → one_if_same other key ≡ 0
 other_key key other ne = ap (λ b. cond b 1 0) (ne_eqb other key ne)
 
 module _ (places : Places) (queue : List ℕ) (next : ℕ) where
@@ -226,12 +232,7 @@ popped places key queue next holds =
       size = let change = sum_by-set waits places key None None less in let before = holds.size in omega arith;
     }
 
--- the sum over free places
-none_sum : (f : Option Connection → ℕ) → f None ≡ 0 → (room : ℕ) → sum_by f (replicate room None) ≡ 0
-none_sum f e zero = refl
-none_sum f e (suc room) =
-    let first = sum_by-cons f None (replicate room None) in let rest = none_sum f e room in omega arith
-
+-- each place is free
 none_at : (room key : ℕ) → at (replicate room None) key ≡ None
 none_at room key =
     elim (cases_lt key room) [
@@ -245,7 +246,26 @@ none_at room key =
 pub empty_holds : (room : ℕ) → Holds (replicate room None) [] 0
 empty_holds room = record {
   once = λ number. let none = none_sum (has_number number) refl room in omega arith;
-  fresh = λ number above. none_sum (has_number number) refl room;
+  fresh = λ number above. sym (none_sum (has_number number) refl room);
   queued = λ key. ap waits (sym (none_at room key));
-  size = sym (none_sum waits refl room);
+  size = none_sum waits refl room;
 }
+
+-- a place that is 1 by `waits` has a connection that waits
+pub waits_true : (c : Connection) → waits (Some c) ≡ 1 → is_waiting c.stage ≡ true
+waits_true c one =
+    elim (cases_Bool (is_waiting c.stage)) [
+      | inl waiting ↦ waiting
+      | inr idle ↦ let none : waits (Some c) ≡ 0 = ap (λ b. cond b 1 0) idle in absurd (omega arith)
+    ]
+
+-- a connection that was given has the place of one that was taken off the queue
+pub put_given : (old mid : Register) (key number accepted : ℕ)
+    → mid ≡ record old { places = set old.places key None; queue = mid.queue }
+    → with_connection mid key (record { number = number; accepted = accepted; stage = stage.Given })
+    ≡ record old { places = set old.places key (Some (record { number = number; accepted = accepted; stage = stage.Given })); queue = mid.queue }
+put_given old mid key number accepted is =
+    let given : Connection = record { number = number; accepted = accepted; stage = stage.Given } in
+    ap (λ (r : Register). record { places = set r.places key (Some given); queue = mid.queue ++ []; next = r.next }) is
+    ∙ ap (λ ps. record { places = ps; queue = mid.queue ++ []; next = old.next }) (set-set old.places key None (Some given))
+    ∙ ap (λ q. record { places = set old.places key (Some given); queue = q; next = old.next }) (append-nil mid.queue)

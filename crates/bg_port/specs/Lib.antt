@@ -1,3 +1,4 @@
+pub mod Closing
 pub mod Feeding
 pub mod Incoming
 pub mod Outgoing
@@ -6,4 +7,5 @@ pub mod Ports
 pub mod Received
 pub mod Registers
 pub mod Stages
+pub mod Timeouts
 pub mod Totals

@@ -1,13 +1,19 @@
 -- The events of a port.
-use Rattle.std.specs.Prelude.{◌≡◌, ◌==◌, ◌&&◌, if◌then◌else◌, ℕ, ◌+◌, Bool, false, List, min, slice_set, Option, Some, None}
+use Rattle.std.specs.Prelude.{◌≡◌, ◌==◌, ◌&&◌, if◌then◌else◌, ℕ, ◌+◌, Bool, false, not, List, ◌∷◌, min, is_some, slice_set, Option, Some, None}
+use Rattle.bg_port.specs.Incoming.{Incoming, counted}
 use Rattle.bg_port.specs.Outgoing.{Outgoing}
 use Rattle.bg_port.specs.Registers.{Register, at, takeable, with_connection}
-use Rattle.bg_port.specs.Stages.{EndsInput, Feeds, as_lingering, as_reading, as_writing, discards, is_with_worker, shut, wrote}
+use Rattle.bg_port.specs.Stages.{EndsInput, Feeds, as_lingering, as_reading, as_writing, discards, is_just_accepted, is_with_worker, shut, wrote}
+use Rattle.bg_port.specs.Timeouts.{is_shutdown_over}
 use Rattle.bg_port.specs.declared.connection.Connection.{Connection}
 use Rattle.bg_port.specs.declared.connection.ConnectionId.{ConnectionId}
+use Rattle.bg_port.specs.declared.port.Port.{Port}
+use Rattle.bg_port.specs.declared.port.workers.Given.{Given}
 use Rattle.bg_port.specs.declared.stage.ReadStep.{ReadStep}
 use Rattle.bg_port.specs.declared.stage.ReadStep.TheVariants as step
+use Rattle.bg_port.specs.declared.stage.Reading.{Reading}
 use Rattle.bg_port.specs.declared.stage.Stage.{Stage}
+use Rattle.bg_port.specs.declared.stage.Stage.TheVariants as stage
 use Rattle.bg_port.specs.declared.stage.Writing.{Writing}
 
 -- the connection of a key goes to a stage, or leaves
@@ -76,5 +82,43 @@ writing_from response was_whole now = record {
   was_whole = was_whole;
   last = min (now + 600000) 18446744073709551615;
   until = min (now + 30000) 18446744073709551615;
+  progress = record { moment = now; bytes = 0 };
+}
+
+-- the connection that has waited longest is given to a worker, as it was received
+pub record Gives (old new : Register) (given : Given) : Type 0 where
+  pub was : at old.places given.id.key ≡ Some (record {
+    number = given.id.number;
+    accepted = given.accepted;
+    stage = stage.Waiting given.received;
+  })
+  pub first : old.queue ≡ given.id.key ∷ new.queue
+  pub now : new ≡ record old {
+    places = slice_set old.places given.id.key (Some (record {
+      number = given.id.number;
+      accepted = given.accepted;
+      stage = stage.Given;
+    }));
+    queue = new.queue;
+  }
+
+-- a worker has just accepted the connection of this name
+abbrev pub is_accepted : ConnectionId → Option Connection → Bool
+is_accepted id None = false
+is_accepted id (Some c) = (c.number == id.number) && is_just_accepted c.stage
+
+-- a connection may be left to the port: a worker has just accepted it, and if the port shuts down, a byte came, and the
+-- timeout of the shutdown has not passed
+abbrev pub may_leave : Port → ConnectionId → Incoming → ℕ → Bool
+may_leave port id request now =
+    is_accepted id (at port.connections.places id.key)
+    && not (is_some port.closing_until && (counted request.came == 0))
+    && not (is_shutdown_over now port.closing_until)
+
+-- a request that is left to the port
+abbrev pub reading_from : Port → Incoming → ℕ → Reading
+reading_from port request now = record {
+  request = request;
+  until = min (now + port.settings.request_millis) 18446744073709551615;
   progress = record { moment = now; bytes = 0 };
 }

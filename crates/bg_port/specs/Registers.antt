@@ -1,10 +1,9 @@
 -- The connections of a port: each at its key, and those that wait for a worker in order.
 use Rattle.std.specs.Prelude.{◌≡◌, ◌==◌, if◌then◌else◌, ℕ, ◌+◌, ◌<◌, ◌≤◌, Bool, true, false, List, [], ◌∷◌, ◌++◌}
-use Rattle.std.specs.Prelude.{count_by, length, slice_index_or, slice_set, sum_by, Option, Some, None, ⊤}
+use Rattle.std.specs.Prelude.{count_by, length, slice_index_or, slice_set, sum_by, Option, Some, None}
 use Rattle.bg_port.specs.Stages.{is_waiting}
 use Rattle.bg_port.specs.declared.connection.Connection.{Connection}
 use Rattle.bg_port.specs.declared.connection.ConnectionId.{ConnectionId}
-use Rattle.bg_port.specs.declared.stage.Stage.{Stage}
 use Rattle.bg_port.specs.declared.stage.Stage.TheVariants as stage
 
 -- the place of each key, the keys of the connections that wait for a worker, oldest first, and the number of the next

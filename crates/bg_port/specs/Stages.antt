@@ -1,9 +1,9 @@
 -- The stages of a connection, and what leads from one to the next.
-use Rattle.std.specs.Prelude.{◌≡◌, ℕ, ◌+◌, ◌≤◌, Bool, true, false, List, [], ◌∷◌, ◌++◌, length, min, Option, Some, None, ⊤}
-use Rattle.std.specs.Prelude.{if◌then◌else◌, nat_lt, nat_le, ◌==◌}
+use Rattle.std.specs.Prelude.{◌≡◌, ℕ, ◌+◌, Bool, true, false, List, [], ◌∷◌, ◌++◌, length, min, Option, Some, None}
+use Rattle.std.specs.Prelude.{if◌then◌else◌, nat_lt, ◌==◌}
 use Rattle.bg_http_read.specs.RequestStates.{LacksRequest, OwesContinue}
 use Rattle.bg_port.specs.Incoming.{Incoming, counted, with_bytes}
-use Rattle.bg_port.specs.Outgoing.{Outgoing, with_written}
+use Rattle.bg_port.specs.Outgoing.{with_written}
 use Rattle.bg_port.specs.Paces.{noted, request_pace, response_pace}
 use Rattle.bg_port.specs.Received.{IsReceived, StaysAnswer, unread}
 use Rattle.bg_port.specs.declared.progress.Progress.{Progress}
@@ -49,6 +49,15 @@ is_waiting (stage.Waiting w) = true
 is_waiting stage.Given = false
 is_waiting (stage.Writing w) = false
 is_waiting (stage.Lingering l) = false
+
+-- a worker accepted the connection, and it was at no other stage
+abbrev pub is_just_accepted : Stage → Bool
+is_just_accepted stage.Accepted = true
+is_just_accepted (stage.Reading r) = false
+is_just_accepted (stage.Waiting w) = false
+is_just_accepted stage.Given = false
+is_just_accepted (stage.Writing w) = false
+is_just_accepted (stage.Lingering l) = false
 
 -- a worker has the connection
 abbrev pub is_with_worker : Stage → Bool

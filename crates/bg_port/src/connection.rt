@@ -2,6 +2,7 @@
 
 ghost use Rattle.std.specs.Prelude.{◌≡◌};
 ghost use Rattle.bg_port.specs.Registers.{accepted_at};
+ghost use Rattle.bg_port.specs.Timeouts.{has_passed, until_of};
 
 use crate::stage::Stage;
 
@@ -24,6 +25,16 @@ impl Connection {
             number,
             accepted: moment,
             stage: Stage::Accepted,
+        }
+    }
+
+    /// Whether its timeout has passed, or that of the shutdown.
+    pub(crate) fn is_late(&self, now: u64, is_over: bool) -> bool
+        ensures { result ≡ has_passed now is_over (until_of self.now.stage) }
+    {
+        match self.stage.until() {
+            Some(until) => is_over || until <= now,
+            None => false,
         }
     }
 }

@@ -1,7 +1,9 @@
 //! The places of connections, with their totals.
-ghost use Rattle.std.specs.Prelude.{◌≡◌, ◌<◌, EachIndex, IfNone, IfOk, IfSome, None, length, min, replicate};
+ghost use Rattle.std.specs.Prelude.{◌≡◌, ◌<◌, EachIndex, IfNone, IfOk, IfSome, None, Some, false, length, min, replicate, true};
 ghost use Rattle.std.specs.Prelude.{slice_index_or, slice_set};
 ghost use Rattle.std.specs.Option.{option_copied};
+ghost use Rattle.bg_port.specs.Closing.{is_silent};
+ghost use Rattle.bg_port.specs.Timeouts.{is_late};
 ghost use Rattle.bg_port.specs.Totals.{AreSums};
 
 use crate::connection::Connection;
@@ -21,7 +23,7 @@ pub(crate) struct ConnectionTable {
 }
 
 impl Model for ConnectionTable {
-    ghost use Rattle.std.specs.Prelude.{◌≤◌, List, Option, vec_len};
+    ghost use Rattle.std.specs.Prelude.{◌≤◌, List, Option, length};
     ghost use Rattle.bg_port.specs.declared.connection.Connection.{Connection};
 
     ghost Value = { List (Option Connection) };
@@ -30,7 +32,7 @@ impl Model for ConnectionTable {
 
     ghost view = { λ t. t.places.items };
 
-    ghost invariant = { λ t. AreSums t.totals t.places.items × (vec_len t.places ≤ 1048576) };
+    ghost invariant = { λ t. AreSums t.totals t.places.items × (length t.places.items ≤ 1048576) };
 }
 
 impl ConnectionTable {
@@ -73,8 +75,25 @@ impl ConnectionTable {
         }
     }
 
+    /// Puts a connection into the place of a key. What was there is dropped.
+    pub(crate) fn put(&mut self, key: usize, connection: Connection)
+        requires { key < length self.old }
+        ensures { self.new ≡ slice_set self.old key (Some connection) }
+    {
+        self.replace(key, Some(connection));
+    }
+
+    /// Takes the connection of a key out of its place.
+    pub(crate) fn take(&mut self, key: usize) -> Option<Connection>
+        requires { key < length self.old }
+        ensures places { self.new ≡ slice_set self.old key None }
+        ensures before { result ≡ slice_index_or self.old key None }
+    {
+        self.replace(key, None)
+    }
+
     /// Puts this into the place of a key, and gives what was there.
-    pub(crate) fn set(&mut self, key: usize, place: Option<Connection>) -> Option<Connection>
+    fn replace(&mut self, key: usize, place: Option<Connection>) -> Option<Connection>
         requires { key < length self.old }
         ensures places { self.new ≡ slice_set self.old key place }
         ensures before { result ≡ slice_index_or self.old key None }
@@ -92,6 +111,39 @@ impl ConnectionTable {
     {
         for (key, place) in self.places.iter().enumerate() {
             if place.is_none() {
+                return Some(key);
+            }
+        }
+        None
+    }
+
+    /// The key of the first connection whose timeout has passed, or that of the shutdown; `None` if there is none.
+    pub(crate) fn first_late(&self, now: u64, is_over: bool) -> Option<usize>
+        ensures late { IfSome result (λ key.
+            is_late now is_over (slice_index_or self.now key None) ≡ true) }
+        ensures none { IfNone result (EachIndex self.now (λ key.
+            is_late now is_over (slice_index_or self.now key None) ≡ false)) }
+    {
+        for (key, place) in self.places.iter().enumerate() {
+            if let Some(connection) = place
+                && connection.is_late(now, is_over)
+            {
+                return Some(key);
+            }
+        }
+        None
+    }
+
+    /// The key of the first connection whose request is arriving and of which no byte came; `None` if there is none.
+    pub(crate) fn first_silent(&self) -> Option<usize>
+        ensures silent { IfSome result (λ key. is_silent (slice_index_or self.now key None) ≡ true) }
+        ensures none { IfNone result (EachIndex self.now (λ key.
+            is_silent (slice_index_or self.now key None) ≡ false)) }
+    {
+        for (key, place) in self.places.iter().enumerate() {
+            if let Some(connection) = place
+                && connection.stage.is_silent()
+            {
                 return Some(key);
             }
         }

@@ -1,6 +1,9 @@
 //! The connections of a port: each at its key, and those that wait for a worker in order.
-ghost use Rattle.std.specs.Prelude.{◌≡◌, ◌<◌, [], IfNone, IfOk, IfSome, None, length, min, replicate};
+ghost use Rattle.std.specs.Prelude.{◌≡◌, [], EachIndex, IfNone, IfOk, IfSome, None, false, length, min, replicate, true};
 ghost use Rattle.std.specs.Option.{option_copied};
+ghost use Rattle.bg_port.specs.Closing.{is_silent};
+ghost use Rattle.bg_port.specs.Stages.{is_waiting};
+ghost use Rattle.bg_port.specs.Timeouts.{is_late};
 ghost use Rattle.bg_port.specs.Totals.{AreSums};
 ghost use Rattle.bg_port.specs.Registers.{Enters, IsMissing, TakesFirst, TakesOut, at, takeable, with_connection};
 
@@ -74,6 +77,24 @@ impl Connections {
         self.table.get(key)
     }
 
+    /// The key of the first connection whose timeout has passed, or that of the shutdown; `None` if there is none.
+    pub(crate) fn first_late(&self, now: u64, is_over: bool) -> Option<usize>
+        ensures late { IfSome result (λ key. is_late now is_over (at self.now.places key) ≡ true) }
+        ensures none { IfNone result (EachIndex self.now.places (λ key.
+            is_late now is_over (at self.now.places key) ≡ false)) }
+    {
+        self.table.first_late(now, is_over)
+    }
+
+    /// The key of the first connection whose request is arriving and of which no byte came; `None` if there is none.
+    pub(crate) fn first_silent(&self) -> Option<usize>
+        ensures silent { IfSome result (λ key. is_silent (at self.now.places key) ≡ true) }
+        ensures none { IfNone result (EachIndex self.now.places (λ key.
+            is_silent (at self.now.places key) ≡ false)) }
+    {
+        self.table.first_silent()
+    }
+
     /// Adds a connection that was accepted at a moment. `None` if no place is free.
     pub(crate) fn enter(&mut self, moment: u64) -> Option<ConnectionId>
         ensures enters { IfSome result (λ id. Enters self.old self.new id moment) }
@@ -82,7 +103,7 @@ impl Connections {
         let key = self.table.first_free()?;
         let number = self.next;
         self.next = number.checked_add(1)?;
-        self.table.set(key, Some(Connection::new(number, moment)));
+        self.table.put(key, Connection::new(number, moment));
         Some(ConnectionId { key, number })
     }
 
@@ -95,7 +116,8 @@ impl Connections {
         if self.table.get(key)?.stage.is_waiting() {
             return None;
         }
-        self.table.set(key, None)
+        let connection = self.table.take(key)?;
+        Some(connection)
     }
 
     /// Puts a connection into its place. If it waits for a worker now, it is the last to do so.
@@ -104,9 +126,20 @@ impl Connections {
         ensures { self.new ≡ with_connection self.old key connection }
     {
         if connection.stage.is_waiting() {
-            self.queue.push_back_reserved(key);
+            self.put_last(key, connection);
+        } else {
+            self.table.put(key, connection);
         }
-        self.table.set(key, Some(connection));
+    }
+
+    /// Puts a connection into its place that waits for a worker now.
+    fn put_last(&mut self, key: usize, connection: Connection)
+        requires missing { IsMissing self.old key connection.number }
+        requires waits { is_waiting connection.stage ≡ true }
+        ensures { self.new ≡ with_connection self.old key connection }
+    {
+        self.queue.push_back_reserved(key);
+        self.table.put(key, connection);
     }
 
     /// Takes the connection that has waited for a worker longest out of its place, and gives it with its key.
@@ -116,7 +149,7 @@ impl Connections {
         ensures empty { IfNone result (self.old.queue ≡ []) }
     {
         let key = self.queue.pop_front()?;
-        let connection = self.table.set(key, None)?;
+        let connection = self.table.take(key)?;
         Some((key, connection))
     }
 }

@@ -1,9 +1,14 @@
 //! The state of a client port.
-ghost use Rattle.std.specs.Prelude.{◌≡◌, IfNone, IfOk, IfSome, None, min, replicate, ◌+◌, []};
+ghost use Rattle.std.specs.Prelude.{◌≡◌, IfNone, IfOk, IfSome, None, is_some, min, replicate, ◌+◌, []};
 ghost use Rattle.bg_port.specs.Registers.{Enters};
 
+mod closing;
 mod reading;
+mod timeouts;
+mod workers;
 mod writing;
+
+pub use workers::Given;
 
 use crate::connection::ConnectionId;
 use crate::connections::Connections;
@@ -61,5 +66,12 @@ impl Port {
         ensures rest { self.new ≡ record self.old { connections = self.new.connections } }
     {
         self.connections.enter(now)
+    }
+
+    /// Whether the port shuts down.
+    pub fn is_closing(&self) -> bool
+        ensures { result ≡ is_some self.now.closing_until }
+    {
+        self.closing_until.is_some()
     }
 }

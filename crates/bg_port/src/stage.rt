@@ -1,10 +1,12 @@
 //! The stages of a connection, and what leads from one to the next.
-ghost use Rattle.std.specs.Prelude.{◌≡◌, IfErr, IfOk, None, OnErr};
+ghost use Rattle.std.specs.Prelude.{◌≡◌, IfErr, IfOk, None, OnErr, true};
+ghost use Rattle.bg_port.specs.Closing.{is_silent_stage};
 ghost use Rattle.bg_port.specs.Incoming.{counted};
 ghost use Rattle.bg_port.specs.Paces.{noted};
 ghost use Rattle.bg_port.specs.Stages.{EndsInput, Feeds, ReadsOn, as_lingering, as_reading, as_writing};
-ghost use Rattle.bg_port.specs.Stages.{discarded, discarded_on, discards, is_waiting, is_with_worker};
+ghost use Rattle.bg_port.specs.Stages.{discarded, discarded_on, discards, is_just_accepted, is_waiting, is_with_worker};
 ghost use Rattle.bg_port.specs.Stages.{lingering_from, shut, stopped, told_of, written_on, wrote};
+ghost use Rattle.bg_port.specs.Timeouts.{stopped_stage, until_of};
 ghost use Rattle.bg_port.specs.declared.stage.Stage.TheVariants as stage;
 
 use crate::incoming::{Fed, IncomingRequest};
@@ -86,6 +88,17 @@ pub enum ReadStep {
     OwesContinue,
     /// The request is over, and waits for a worker.
     Over,
+}
+
+/// What became of a connection that was stopped.
+#[derive(Clone, Copy, PartialEq, Eq, Debug, Drop)]
+pub enum Stopped {
+    /// Nothing: there is no such connection, it waits for a worker, or a worker has it.
+    Nothing,
+    /// Its request is unread, and it waits for a worker. Its client is to see the end at once.
+    Received,
+    /// It has left, and is to be closed. So many bytes of its response were not written.
+    Left(usize),
 }
 
 /// A request that is arriving, after more of it came.
@@ -222,6 +235,17 @@ impl Stage {
         }
     }
 
+    /// What was received, of a connection that waits for a worker.
+    pub(crate) fn into_received(self) -> ReceivedRequest
+        requires { is_waiting self ≡ true }
+        ensures { self ≡ stage.Waiting result }
+    {
+        match self {
+            Stage::Waiting(received) => received,
+            _ => unreachable!(),
+        }
+    }
+
     /// Adds bytes that came.
     pub(crate) fn feed(self, bytes: &[u8], now: u64) -> (Stage, ReadStep)
         ensures { Feeds (as_reading self) self bytes.now now result.1 result.0 }
@@ -290,11 +314,52 @@ impl Stage {
         }
     }
 
+    /// When its timeout ends, if it has one.
+    pub(crate) fn until(&self) -> Option<u64>
+        ensures { result ≡ until_of self.now }
+    {
+        match self {
+            Stage::Reading(reading) => Some(reading.until),
+            Stage::Writing(writing) => Some(writing.until),
+            Stage::Lingering(lingering) => Some(lingering.until),
+            Stage::Accepted | Stage::Waiting(_) | Stage::Given => None,
+        }
+    }
+
+    /// What becomes of a connection that is stopped at this stage.
+    pub(crate) fn stopped(&self) -> Stopped
+        ensures { result ≡ stopped_stage self.now }
+    {
+        match self {
+            Stage::Reading(_) => Stopped::Received,
+            Stage::Writing(writing) => Stopped::Left(writing.response.rest().len()),
+            Stage::Lingering(_) => Stopped::Left(0),
+            Stage::Accepted | Stage::Waiting(_) | Stage::Given => Stopped::Nothing,
+        }
+    }
+
+    /// Whether a request is arriving, and no byte of it came.
+    pub(crate) fn is_silent(&self) -> bool
+        ensures { result ≡ is_silent_stage self.now }
+    {
+        match self {
+            Stage::Reading(reading) => reading.request.count() == 0,
+            _ => false,
+        }
+    }
+
     /// Whether it waits for a worker.
     pub(crate) fn is_waiting(&self) -> bool
         ensures { result ≡ is_waiting self.now }
     {
         matches!(self, Stage::Waiting(_))
+    }
+
+    /// Whether a worker accepted the connection, and it was at no other stage.
+    pub(crate) fn is_accepted(&self) -> bool
+        ensures { result ≡ is_just_accepted self.now }
+    {
+        matches!(self, Stage::Accepted)
     }
 
     /// Whether a worker has the connection.

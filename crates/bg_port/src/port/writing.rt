@@ -1,15 +1,11 @@
 //! How a port writes responses, and ends connections.
-ghost use Rattle.std.specs.Prelude.{◌≡◌, IfNone, IfSome, IsSomeAnd, None, Some};
-ghost use Rattle.bg_port.specs.Ports.{answering, changed_by, discard_by, handed, lingering_by, stop_by, write_by, writing_at};
-ghost use Rattle.bg_port.specs.Ports.{is_held, shut_by};
+ghost use Rattle.std.specs.Prelude.{◌≡◌, IfNone, IfSome, IsSomeAnd, None};
+ghost use Rattle.bg_port.specs.Ports.{changed_by, discard_by, shut_by, write_by, writing_at};
 ghost use Rattle.bg_port.specs.Registers.{at};
 
-use crate::connection::{Connection, ConnectionId};
-use crate::outgoing::OutgoingResponse;
+use crate::connection::Connection;
 use crate::port::Port;
-use crate::progress::Progress;
-use crate::received::Ending;
-use crate::stage::{Lingering, Stage, Writing};
+use crate::stage::Stage;
 
 impl Port {
     /// What is still to be written on a connection. `None` if no response is written on it.
@@ -63,5 +59,26 @@ impl Port {
                 stage,
             },
         );
+    }
+
+    /// Notes that so many bytes were discarded on a connection. It leaves once they are 16 MiB.
+    pub fn discarded(&mut self, key: usize, count: u64, now: u64)
+        ensures { self.new ≡ record self.old {
+          connections = changed_by (discard_by count now) self.old.connections key;
+        } }
+    {
+        let Some(connection) = self.connections.take(key) else {
+            return;
+        };
+        if let Some(stage) = connection.stage.discard(count, now) {
+            self.connections.put(
+                key,
+                Connection {
+                    number: connection.number,
+                    accepted: connection.accepted,
+                    stage,
+                },
+            );
+        }
     }
 }
