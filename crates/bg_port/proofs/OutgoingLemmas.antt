@@ -15,7 +15,7 @@ more_written bytes written count weight =
     let rest = drop written bytes in
     let most = min count (length rest) in
     let sent : take (written + most) bytes ≡ take written bytes ++ take count rest =
-        take-add written most bytes ∙ ap (λ t. take written bytes ++ t) (take_min count rest) in
+    take-add written most bytes ∙ ap (λ t. take written bytes ++ t) (take_min count rest) in
     let left : drop (written + most) bytes ≡ drop count rest = sym (drop-drop most written bytes) ∙ drop_min count rest in
     ap (λ s. record { sent = s; rest = drop (written + most) bytes; weight = weight }) sent
     ∙ ap (λ r. record { sent = take written bytes ++ take count rest; rest = r; weight = weight }) left

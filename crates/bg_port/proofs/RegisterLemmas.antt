@@ -23,14 +23,14 @@ within places key c was =
       | inr past ↦ let none = get_or_past places key None past in absurd (cc)
     ]
 
-at-same : (places : Places) (key : ℕ) (p : Option Connection) → key < length places → at (set places key p) key ≡ p
+pub at-same : (places : Places) (key : ℕ) (p : Option Connection) → key < length places → at (set places key p) key ≡ p
 at-same places key p less = get_or-set_same places key p None less
 
-at-other : (places : Places) (key other : ℕ) (p : Option Connection) → (other ≡ key → ⊥)
+pub at-other : (places : Places) (key other : ℕ) (p : Option Connection) → (other ≡ key → ⊥)
     → at (set places key p) other ≡ at places other
 at-other places key other p ne = get_or-set_other places key other p None ne
 
-number_is : (c : Connection) → has_number c.number (Some c) ≡ 1
+pub number_is : (c : Connection) → has_number c.number (Some c) ≡ 1
 number_is c = ap (λ b. cond b 1 0) (eq-eqb c.number c.number refl)
 
 number_other : (number : ℕ) (c : Connection) → (c.number ≡ number → ⊥) → has_number number (Some c) ≡ 0
@@ -66,8 +66,8 @@ module _ (places : Places) (queue : List ℕ) (next : ℕ) where
   queued-set key p after holds less others here other =
       elim (cases_eq other key) [
         | inl same ↦
-          subst (λ o. count_of o after ≡ waits (at (set places key p) o)) (sym same)
-          (here ∙ ap waits (sym (at-same places key p less)))
+            subst (λ o. count_of o after ≡ waits (at (set places key p) o)) (sym same)
+            (here ∙ ap waits (sym (at-same places key p less)))
         | inr ne ↦ others other ne ∙ holds.queued other ∙ ap waits (sym (at-other places key other p ne))
       ]
 
@@ -99,11 +99,11 @@ module _ (places : Places) (queue : List ℕ) (next : ℕ) where
       elim (cases_lt c.number next) [
         | inl less ↦ less
         | inr above ↦
-          let inside = within places key c was in
-          let change = sum_by-set (has_number c.number) places key None None inside in
-          let none = holds.fresh c.number above in
-          let own : has_number c.number (at places key) ≡ 1 = ap (has_number c.number) was ∙ number_is c in
-          absurd (omega arith)
+            let inside = within places key c was in
+            let change = sum_by-set (has_number c.number) places key None None inside in
+            let none = holds.fresh c.number above in
+            let own : has_number c.number (at places key) ≡ 1 = ap (has_number c.number) was ∙ number_is c in
+            absurd (omega arith)
       ]
 
   -- what is said of a connection that was freed
@@ -126,14 +126,14 @@ module _ (places : Places) (queue : List ℕ) (next : ℕ) where
       let change = sum_by-set (has_number number) places key (Some c) None less in
       elim (cases_eq c.number number) [
         | inl same ↦
-          let before : sum_by (has_number number) places ≡ 0 =
-              subst (λ n. sum_by (has_number n) places ≡ 0) same none in
-          let own : has_number number (Some c) ≡ 1 = subst (λ n. has_number n (Some c) ≡ 1) same (number_is c) in
-          omega arith
+            let before : sum_by (has_number number) places ≡ 0 =
+            subst (λ n. sum_by (has_number n) places ≡ 0) same none in
+            let own : has_number number (Some c) ≡ 1 = subst (λ n. has_number n (Some c) ≡ 1) same (number_is c) in
+            omega arith
         | inr ne ↦
-          let own = number_other number c ne in
-          let one = holds.once number in
-          omega arith
+            let own = number_other number c ne in
+            let one = holds.once number in
+            omega arith
       ]
 
   fresh-put : (key : ℕ) (c : Connection) (after : ℕ) → Holds places queue next → key < length places
@@ -204,7 +204,7 @@ waiting_within places key waiting =
     elim (cases_lt key (length places)) [
       | inl less ↦ less
       | inr past ↦
-        let none : waits (at places key) ≡ 0 = ap waits (get_or_past places key None past) in absurd (omega arith)
+          let none : waits (at places key) ≡ 0 = ap waits (get_or_past places key None past) in absurd (omega arith)
     ]
 
 -- the place of the front of the queue is freed, and its key taken off the queue
@@ -220,14 +220,14 @@ popped places key queue next holds =
           let none = holds.fresh number above in omega arith;
       queued = λ other. elim (cases_eq other key) [
         | inl same ↦
-          subst (λ o. count_of o queue ≡ waits (at (set places key None) o)) (sym same)
-          (front.1 ∙ ap waits (sym (at-same places key None less)))
+            subst (λ o. count_of o queue ≡ waits (at (set places key None) o)) (sym same)
+            (front.1 ∙ ap waits (sym (at-same places key None less)))
         | inr ne ↦
-          let step = count-cons other key queue in
-          let not_here = other_key other key (λ same. ne (sym same)) in
-          let before = holds.queued other in
-          let after : waits (at (set places key None) other) ≡ waits (at places other) = ap waits (at-other places key other None ne) in
-          omega arith
+            let step = count-cons other key queue in
+            let not_here = other_key other key (λ same. ne (sym same)) in
+            let before = holds.queued other in
+            let after : waits (at (set places key None) other) ≡ waits (at places other) = ap waits (at-other places key other None ne) in
+            omega arith
       ];
       size = let change = sum_by-set waits places key None None less in let before = holds.size in omega arith;
     }
@@ -238,8 +238,8 @@ none_at room key =
     elim (cases_lt key room) [
       | inl less ↦ get_or-replicate room key None None less
       | inr past ↦
-        let size = length-replicate room (let none : Option Connection = None in none) in
-        get_or_past (replicate room None) key None (omega arith)
+          let size = length-replicate room (let none : Option Connection = None in none) in
+          get_or_past (replicate room None) key None (omega arith)
     ]
 
 -- free places hold

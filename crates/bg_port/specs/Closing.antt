@@ -1,8 +1,12 @@
 -- The shutdown of a port, and what a port may still do.
-use Rattle.std.specs.Prelude.{◌==◌, ◌&&◌, ◌||◌, not, ℕ, ◌+◌, ◌-◌, ◌/◌, Bool, false}
-use Rattle.std.specs.Prelude.{length, min, nat_le, nat_lt, sum_by, Option, Some, None}
+use Rattle.std.specs.Prelude.{◌≡◌, ◌==◌, ◌&&◌, ◌||◌, not, if◌then◌else◌, ℕ, ◌+◌, ◌-◌, ◌/◌, ◌≤◌, Bool, true, false}
+use Rattle.std.specs.Prelude.{EachIndex, length, min, nat_le, nat_lt, sum_by, Option, Some, None}
 use Rattle.bg_port.specs.Incoming.{counted}
-use Rattle.bg_port.specs.Registers.{Register}
+use Rattle.bg_port.specs.Ports.{changed_by}
+use Rattle.bg_port.specs.Registers.{Holds, Register, at}
+use Rattle.bg_port.specs.Stages.{stopped}
+use Rattle.bg_port.specs.Timeouts.{is_late}
+use Rattle.bg_port.specs.declared.received.Ending.TheVariants as ending
 use Rattle.bg_port.specs.Totals.{arriving_of, held_of, response_bytes_of, used_of}
 use Rattle.bg_port.specs.declared.connection.Connection.{Connection}
 use Rattle.bg_port.specs.declared.port.PortSettings.{PortSettings}
@@ -52,3 +56,25 @@ abbrev pub is_over : Option ℕ → Register → ℕ → Bool
 is_over None r now = false
 is_over (Some until) r now =
     (sum_by used_of r.places == 0) || (nat_le until now && (attended r == 0))
+
+-- how many connections are late
+abbrev pub late_of : ℕ → Bool → Option Connection → ℕ
+late_of now is_over p = if is_late now is_over p then 1 else 0
+
+abbrev pub late_count : ℕ → Bool → Register → ℕ
+late_count now is_over r = sum_by (late_of now is_over) r.places
+
+-- THE LAWS
+
+-- a late connection that is given up is late no more, and no other one becomes late by that
+abbrev pub LateIsEnded : ℕ → Bool → Register → ℕ → Type 0
+LateIsEnded now is_over old key =
+    is_late now is_over (at old.places key) ≡ true
+    → late_count now is_over (changed_by (stopped ending.GivenUp) old key) + 1 ≡ late_count now is_over old
+
+-- once the timeout of a shutdown has passed and no connection is late, the port is over
+abbrev pub ShutdownEnds : ℕ → ℕ → Register → Type 0
+ShutdownEnds until now register =
+    Holds register.places register.queue register.next → until ≤ now
+    → EachIndex register.places (λ key. is_late now true (at register.places key) ≡ false)
+    → is_over (Some until) register now ≡ true

@@ -1,4 +1,5 @@
 pub mod Closing
+pub mod Events
 pub mod Feeding
 pub mod Incoming
 pub mod Outgoing

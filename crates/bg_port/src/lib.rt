@@ -5,6 +5,7 @@ mod connection;
 mod connection_table;
 mod connections;
 mod incoming;
+pub mod laws;
 mod outgoing;
 mod port;
 mod progress;

@@ -8,11 +8,10 @@ mod timeouts;
 mod workers;
 mod writing;
 
-pub use workers::Given;
-
 use crate::connection::ConnectionId;
 use crate::connections::Connections;
 use std::alloc::{AllocError, Global};
+pub use workers::Given;
 
 /// The settings of a client port.
 #[derive(Clone, Copy, PartialEq, Eq, Debug, Drop)]

@@ -102,7 +102,13 @@ pub enum Stopped {
 }
 
 /// A request that is arriving, after more of it came.
-fn read_on(request: IncomingRequest, until: u64, progress: Progress, pace: Pace, now: u64) -> Reading
+fn read_on(
+    request: IncomingRequest,
+    until: u64,
+    progress: Progress,
+    pace: Pace,
+    now: u64,
+) -> Reading
     ensures { result ≡ record {
       request = request;
       until = until;

@@ -57,8 +57,14 @@ impl Totals {
 
     /// What one connection adds.
     fn of_one() -> Totals
-        ensures { result ≡ record { used = 1; held = 0; arriving = 0; request_bytes = 0; waiting_bytes = 0;
-            response_bytes = 0 } }
+        ensures { result ≡ record {
+          used = 1;
+          held = 0;
+          arriving = 0;
+          request_bytes = 0;
+          waiting_bytes = 0;
+          response_bytes = 0;
+        } }
     {
         Totals {
             used: 1,
@@ -119,9 +125,21 @@ impl Totals {
             used: changed(self.used, before.used, after.used),
             held: changed(self.held, before.held, after.held),
             arriving: changed(self.arriving, before.arriving, after.arriving),
-            request_bytes: changed(self.request_bytes, before.request_bytes, after.request_bytes),
-            waiting_bytes: changed(self.waiting_bytes, before.waiting_bytes, after.waiting_bytes),
-            response_bytes: changed(self.response_bytes, before.response_bytes, after.response_bytes),
+            request_bytes: changed(
+                self.request_bytes,
+                before.request_bytes,
+                after.request_bytes,
+            ),
+            waiting_bytes: changed(
+                self.waiting_bytes,
+                before.waiting_bytes,
+                after.waiting_bytes,
+            ),
+            response_bytes: changed(
+                self.response_bytes,
+                before.response_bytes,
+                after.response_bytes,
+            ),
         }
     }
 }

@@ -57,7 +57,8 @@ impl Port {
     fn attended(&self) -> u64
         ensures { result ≡ attended self.now.connections }
     {
-        self.pending().saturating_sub(self.connections.waiting() as u64)
+        self.pending()
+            .saturating_sub(self.connections.waiting() as u64)
     }
 
     /// Whether the port accepts no further connection for now: as many as the settings allow have no worker, or their

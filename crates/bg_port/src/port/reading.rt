@@ -19,9 +19,8 @@ impl Port {
         self.connections.put(
             key,
             Connection {
-                number: connection.number,
-                accepted: connection.accepted,
                 stage,
+                ..connection
             },
         );
         step
@@ -39,9 +38,8 @@ impl Port {
         self.connections.put(
             key,
             Connection {
-                number: connection.number,
-                accepted: connection.accepted,
                 stage,
+                ..connection
             },
         );
     }

@@ -77,9 +77,8 @@ impl Port {
             self.connections.put(
                 key,
                 Connection {
-                    number: connection.number,
-                    accepted: connection.accepted,
                     stage,
+                    ..connection
                 },
             );
         }

@@ -157,9 +157,8 @@ impl Port {
             self.connections.put(
                 key,
                 Connection {
-                    number: connection.number,
-                    accepted: connection.accepted,
                     stage,
+                    ..connection
                 },
             );
         }
@@ -181,7 +180,9 @@ impl Port {
     fn may_leave(&self, id: ConnectionId, request: &IncomingRequest, now: u64) -> bool
         ensures { result ≡ may_leave self.now id request.now now }
     {
-        self.is_accepted(id) && !(self.is_closing() && request.count() == 0) && !self.is_shutdown_over(now)
+        self.is_accepted(id)
+            && !(self.is_closing() && request.count() == 0)
+            && !self.is_shutdown_over(now)
     }
 
     /// Whether a worker has just accepted the connection of this name.

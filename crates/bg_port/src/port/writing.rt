@@ -33,9 +33,8 @@ impl Port {
         self.connections.put(
             key,
             Connection {
-                number: connection.number,
-                accepted: connection.accepted,
                 stage,
+                ..connection
             },
         );
     }
@@ -54,9 +53,8 @@ impl Port {
         self.connections.put(
             key,
             Connection {
-                number: connection.number,
-                accepted: connection.accepted,
                 stage,
+                ..connection
             },
         );
     }
@@ -74,9 +72,8 @@ impl Port {
             self.connections.put(
                 key,
                 Connection {
-                    number: connection.number,
-                    accepted: connection.accepted,
                     stage,
+                    ..connection
                 },
             );
         }

@@ -19,6 +19,7 @@ invariant_of-self c =
     let less : c.args.key < length places = omega (arith, ap length c.self.view_is, c.requires) in
     let read : c.index.result.now ≡ at places c.args.key = get_or_read places _ _ less c.index.ensures None in
     let change : IsChanged c.self.inside.totals (place_totals (at places c.args.key)) (place_totals c.args.place) c.replaced-self-inside.result =
-        rw (← read, ← c.of_place-before.ensures, ← c.of_place.ensures) c.replaced-self-inside.ensures in
-    (rw c.replace.ensures.after (changed_sums c.self.inside.totals _ places c.args.key c.args.place c.self.invariant.0 less change),
-    rw length-set c.self.invariant.1)
+    rw (← read, ← c.of_place-before.ensures, ← c.of_place.ensures) c.replaced-self-inside.ensures in (
+      rw c.replace.ensures.after (changed_sums c.self.inside.totals _ places c.args.key c.args.place c.self.invariant.0 less change),
+      rw length-set c.self.invariant.1,
+    )

@@ -6,8 +6,9 @@ pub invariant_of-self : goal.invariant_of-self
 invariant_of-self c =
     let inside = c.self.inside in
     let next = inside.next in
-    let more = c.in_ok-self-inside.ensures.1 in
-    (rw (c.put.ensures, c.new.ensures) (put_idle inside.table inside.queue.items next c.in_ok-key.key _ c.in_ok-self-inside.field-0
-    c.self.invariant.0 c.in_ok-key.ensures.within c.in_ok-key.ensures.free (c.self.invariant.0.fresh next (omega arith))
-    (omega arith) (omega arith) refl),
-    rw (c.put.ensures, length-set) c.self.invariant.1)
+    let more = c.in_ok-self-inside.ensures.1 in (
+      rw (c.put.ensures, c.new.ensures) (put_idle inside.table inside.queue.items next c.in_ok-key.key _ c.in_ok-self-inside.field-0
+          c.self.invariant.0 c.in_ok-key.ensures.within c.in_ok-key.ensures.free (c.self.invariant.0.fresh next (omega arith))
+          (omega arith) (omega arith) refl),
+      rw (c.put.ensures, length-set) c.self.invariant.1,
+    )

@@ -13,8 +13,9 @@ push_back_reserved-requires c =
 pub invariant_of-self : goal.invariant_of-self
 invariant_of-self c =
     let inside = c.self.inside in
-    let miss = subst (λ r. IsMissing r c.args.key c.args.connection.number) (sym c.self.view_is) c.requires.missing in
-    (rw (c.put.ensures, c.push_back_reserved.ensures.items)
-    (put_waiting inside.table inside.queue.items inside.next c.args.key c.args.connection c.self.invariant.0
-    miss.within miss.vacant miss.unused miss.known c.requires.waits),
-    rw (c.put.ensures, length-set, c.push_back_reserved.ensures.capacity) c.self.invariant.1)
+    let miss = subst (λ r. IsMissing r c.args.key c.args.connection.number) (sym c.self.view_is) c.requires.missing in (
+      rw (c.put.ensures, c.push_back_reserved.ensures.items)
+          (put_waiting inside.table inside.queue.items inside.next c.args.key c.args.connection c.self.invariant.0
+          miss.within miss.vacant miss.unused miss.known c.requires.waits),
+      rw (c.put.ensures, length-set, c.push_back_reserved.ensures.capacity) c.self.invariant.1,
+    )

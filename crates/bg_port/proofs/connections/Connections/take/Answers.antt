@@ -8,20 +8,22 @@ invariant_of-self c =
     let inside = c.self.inside in
     let was : at inside.table c.args.key ≡ Some c.in_ok-get.field-0.now = sym c.in_ok-get.ensures in
     let idle : waits (at inside.table c.args.key) ≡ 0 =
-        ap waits was ∙ ap (λ b. cond b 1 0) (sym c.is_waiting.ensures ∙ c.if-is_waiting.false) in
-    (rw c.take.ensures.places (freed inside.table inside.queue.items inside.next c.args.key c.self.invariant.0
-    (within inside.table c.args.key _ was) idle),
-    rw (c.take.ensures.places, length-set) c.self.invariant.1)
+    ap waits was ∙ ap (λ b. cond b 1 0) (sym c.is_waiting.ensures ∙ c.if-is_waiting.false) in (
+      rw c.take.ensures.places (freed inside.table inside.queue.items inside.next c.args.key c.self.invariant.0
+          (within inside.table c.args.key _ was) idle),
+      rw (c.take.ensures.places, length-set) c.self.invariant.1,
+    )
 
 pub invariant_of-self-2 : goal.invariant_of-self-2
 invariant_of-self-2 c =
     let inside = c.self.inside in
     let was : at inside.table c.args.key ≡ Some c.in_ok-get.field-0.now = sym c.in_ok-get.ensures in
     let idle : waits (at inside.table c.args.key) ≡ 0 =
-        ap waits was ∙ ap (λ b. cond b 1 0) (sym c.is_waiting.ensures ∙ c.if-is_waiting.false) in
-    (rw c.take.ensures.places (freed inside.table inside.queue.items inside.next c.args.key c.self.invariant.0
-    (within inside.table c.args.key _ was) idle),
-    rw (c.take.ensures.places, length-set) c.self.invariant.1)
+    ap waits was ∙ ap (λ b. cond b 1 0) (sym c.is_waiting.ensures ∙ c.if-is_waiting.false) in (
+      rw c.take.ensures.places (freed inside.table inside.queue.items inside.next c.args.key c.self.invariant.0
+          (within inside.table c.args.key _ was) idle),
+      rw (c.take.ensures.places, length-set) c.self.invariant.1,
+    )
 
 pub returns-clause-taken : goal.returns-clause-taken
 returns-clause-taken c =

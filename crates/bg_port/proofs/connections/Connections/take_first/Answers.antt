@@ -12,9 +12,10 @@ take-requires c =
 pub invariant_of-self-2 : goal.invariant_of-self-2
 invariant_of-self-2 c =
     let inside = c.self.inside in
-    let holds = subst (λ queue. Holds inside.table queue inside.next) c.in_ok-key.ensures.items c.self.invariant.0 in
-    (rw c.take.ensures.places (popped inside.table c.in_ok-key.key _ inside.next holds),
-    rw (c.take.ensures.places, length-set, c.in_ok-key.ensures.capacity) c.self.invariant.1)
+    let holds = subst (λ queue. Holds inside.table queue inside.next) c.in_ok-key.ensures.items c.self.invariant.0 in (
+      rw c.take.ensures.places (popped inside.table c.in_ok-key.key _ inside.next holds),
+      rw (c.take.ensures.places, length-set, c.in_ok-key.ensures.capacity) c.self.invariant.1,
+    )
 
 pub returns-clause-first : goal.returns-clause-first
 returns-clause-first c =

@@ -11,7 +11,7 @@ returns c =
     let size = ap length rest in
     let left = length-drop written bytes in
     let sum : c.saturating_add-self-inside.result ≡ written + min c.args.count (length (drop written bytes)) =
-        omega (arith, c.self.inside.bytes.ok.0, c.self.inside.bytes.ok.1, c.self.inside.bytes.small) in
+    omega (arith, c.self.inside.bytes.ok.0, c.self.inside.bytes.ok.1, c.self.inside.bytes.small) in
     ap (λ w. outgoing_at bytes w (vec_capacity c.self.inside.bytes)) sum
     ∙ more_written bytes written c.args.count (vec_capacity c.self.inside.bytes)
     ∙ ap (λ o. with_written o c.args.count) c.self.view_is
