@@ -3,12 +3,13 @@ use Rattle.std.specs.Prelude.{◌≡◌, ◌==◌, ◌&&◌, if◌then◌else◌
 use Rattle.bg_port.specs.Incoming.{Incoming, counted}
 use Rattle.bg_port.specs.Outgoing.{Outgoing}
 use Rattle.bg_port.specs.Registers.{Register, at, takeable, with_connection}
-use Rattle.bg_port.specs.Stages.{EndsInput, Feeds, as_lingering, as_reading, as_writing, discards, is_just_accepted, is_with_worker, shut, wrote}
+use Rattle.bg_port.specs.Stages.{EndsInput, Feeds, as_lingering, as_reading, as_writing, discards, interest_of, is_just_accepted, is_with_worker, shut, wrote}
 use Rattle.bg_port.specs.Timeouts.{is_shutdown_over}
 use Rattle.bg_port.specs.declared.connection.Connection.{Connection}
 use Rattle.bg_port.specs.declared.connection.ConnectionId.{ConnectionId}
 use Rattle.bg_port.specs.declared.port.Port.{Port}
 use Rattle.bg_port.specs.declared.port.workers.Given.{Given}
+use Rattle.bg_port.specs.declared.stage.Interest.{Interest}
 use Rattle.bg_port.specs.declared.stage.ReadStep.{ReadStep}
 use Rattle.bg_port.specs.declared.stage.ReadStep.TheVariants as step
 use Rattle.bg_port.specs.declared.stage.Reading.{Reading}
@@ -53,6 +54,19 @@ EndsAt old new key = EndsFrom (takeable (at old.places key)) old new key
 abbrev pub writing_at : Option Connection → Option Writing
 writing_at None = None
 writing_at (Some c) = as_writing c.stage
+
+-- the whole request was read before the response that is written at a place
+abbrev pub was_whole_from : Option Writing → Bool
+was_whole_from None = false
+was_whole_from (Some w) = w.was_whole
+
+abbrev pub was_whole_at : Option Connection → Bool
+was_whole_at p = was_whole_from (writing_at p)
+
+-- what the connection of a place waits for
+abbrev pub interest_at : Option Connection → Option Interest
+interest_at None = None
+interest_at (Some c) = interest_of c.stage
 
 -- so many bytes of a response were written
 abbrev pub write_by : ℕ → ℕ → Stage → Option Stage

@@ -10,6 +10,8 @@ use Rattle.bg_port.specs.declared.progress.Progress.{Progress}
 use Rattle.bg_port.specs.declared.received.Ending.{Ending}
 use Rattle.bg_port.specs.declared.received.Ending.TheVariants as ending
 use Rattle.bg_port.specs.declared.received.ReceivedRequest.{ReceivedRequest}
+use Rattle.bg_port.specs.declared.stage.Interest.{Interest}
+use Rattle.bg_port.specs.declared.stage.Interest.TheVariants as interest
 use Rattle.bg_port.specs.declared.stage.Lingering.{Lingering}
 use Rattle.bg_port.specs.declared.stage.ReadStep.{ReadStep}
 use Rattle.bg_port.specs.declared.stage.ReadStep.TheVariants as step
@@ -67,6 +69,15 @@ is_with_worker (stage.Waiting w) = false
 is_with_worker stage.Given = true
 is_with_worker (stage.Writing w) = false
 is_with_worker (stage.Lingering l) = false
+
+-- what a stage waits for, if the port attends to it
+abbrev pub interest_of : Stage → Option Interest
+interest_of stage.Accepted = None
+interest_of (stage.Reading r) = Some interest.Input
+interest_of (stage.Waiting w) = None
+interest_of stage.Given = None
+interest_of (stage.Writing w) = Some interest.Output
+interest_of (stage.Lingering l) = Some interest.Input
 
 -- the request that is arriving, after the bytes that make it this one came
 abbrev pub read_on : Reading → Incoming → ℕ → Reading

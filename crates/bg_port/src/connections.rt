@@ -1,5 +1,5 @@
 //! The connections of a port: each at its key, and those that wait for a worker in order.
-ghost use Rattle.std.specs.Prelude.{◌≡◌, [], EachIndex, IfNone, IfOk, IfSome, None, false, length, min, replicate, true};
+ghost use Rattle.std.specs.Prelude.{◌≡◌, ◌<◌, [], EachIndex, IfNone, IfOk, IfSome, None, false, length, min, replicate, true};
 ghost use Rattle.std.specs.Option.{option_copied};
 ghost use Rattle.bg_port.specs.Closing.{is_silent};
 ghost use Rattle.bg_port.specs.Stages.{is_waiting};
@@ -95,10 +95,12 @@ impl Connections {
         self.table.first_silent()
     }
 
-    /// Adds a connection that was accepted at a moment. `None` if no place is free.
+    /// Adds a connection that was accepted at a moment. `None` only if no place or no number is free.
     pub(crate) fn enter(&mut self, moment: u64) -> Option<ConnectionId>
         ensures enters { IfSome result (λ id. Enters self.old self.new id moment) }
         ensures none { IfNone result (self.new ≡ self.old) }
+        ensures full { IfNone result (self.old.next < u64.MAX
+            → EachIndex self.old.places (λ key. ¬ (at self.old.places key ≡ None))) }
     {
         let key = self.table.first_free()?;
         let number = self.next;

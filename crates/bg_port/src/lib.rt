@@ -19,5 +19,5 @@ pub use outgoing::OutgoingResponse;
 pub use port::{Given, Port, PortSettings};
 pub use progress::Pace;
 pub use received::{Ending, ReceivedRequest};
-pub use stage::{ReadStep, Stopped};
+pub use stage::{Interest, ReadStep, Stopped};
 pub use totals::Totals;

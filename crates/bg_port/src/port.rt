@@ -1,6 +1,6 @@
 //! The state of a client port.
-ghost use Rattle.std.specs.Prelude.{◌≡◌, IfNone, IfOk, IfSome, None, is_some, min, replicate, ◌+◌, []};
-ghost use Rattle.bg_port.specs.Registers.{Enters};
+ghost use Rattle.std.specs.Prelude.{◌≡◌, ◌+◌, ◌<◌, [], EachIndex, IfNone, IfOk, IfSome, None, is_some, min, replicate};
+ghost use Rattle.bg_port.specs.Registers.{Enters, at};
 
 mod closing;
 mod reading;
@@ -58,10 +58,13 @@ impl Port {
         })
     }
 
-    /// Notes that a worker accepted a connection, and gives it a number and a place. `None` if no place is free.
+    /// Notes that a worker accepted a connection, and gives it a number and a place. `None` only if no place is
+    /// free, or no number: there are 2 to the power of 64, less one.
     pub fn accept(&mut self, now: u64) -> Option<ConnectionId>
         ensures enters { IfSome result (λ id. Enters self.old.connections self.new.connections id now) }
         ensures none { IfNone result (self.new ≡ self.old) }
+        ensures full { IfNone result (self.old.connections.next < u64.MAX
+            → EachIndex self.old.connections.places (λ key. ¬ (at self.old.connections.places key ≡ None))) }
         ensures rest { self.new ≡ record self.old { connections = self.new.connections } }
     {
         self.connections.enter(now)

@@ -3,9 +3,10 @@ ghost use Rattle.std.specs.Prelude.{◌≡◌, IfErr, IfOk, None, OnErr, true};
 ghost use Rattle.bg_port.specs.Closing.{is_silent_stage};
 ghost use Rattle.bg_port.specs.Incoming.{counted};
 ghost use Rattle.bg_port.specs.Paces.{noted};
+ghost use Rattle.bg_port.specs.Ports.{was_whole_from};
 ghost use Rattle.bg_port.specs.Stages.{EndsInput, Feeds, ReadsOn, as_lingering, as_reading, as_writing};
 ghost use Rattle.bg_port.specs.Stages.{discarded, discarded_on, discards, is_just_accepted, is_waiting, is_with_worker};
-ghost use Rattle.bg_port.specs.Stages.{lingering_from, shut, stopped, told_of, written_on, wrote};
+ghost use Rattle.bg_port.specs.Stages.{interest_of, lingering_from, shut, stopped, told_of, written_on, wrote};
 ghost use Rattle.bg_port.specs.Timeouts.{stopped_stage, until_of};
 ghost use Rattle.bg_port.specs.declared.stage.Stage.TheVariants as stage;
 
@@ -88,6 +89,15 @@ pub enum ReadStep {
     OwesContinue,
     /// The request is over, and waits for a worker.
     Over,
+}
+
+/// What a connection waits for. A reset is reported in any case.
+#[derive(Clone, Copy, PartialEq, Eq, Debug, Drop)]
+pub enum Interest {
+    /// Bytes can be read.
+    Input,
+    /// Bytes can be written.
+    Output,
 }
 
 /// What became of a connection that was stopped.
@@ -328,6 +338,27 @@ impl Stage {
             Stage::Reading(reading) => Some(reading.until),
             Stage::Writing(writing) => Some(writing.until),
             Stage::Lingering(lingering) => Some(lingering.until),
+            Stage::Accepted | Stage::Waiting(_) | Stage::Given => None,
+        }
+    }
+
+    /// Whether the whole request was read before the response that is written. False if none is written.
+    pub(crate) fn was_whole(&self) -> bool
+        ensures { result ≡ was_whole_from (as_writing self.now) }
+    {
+        match self {
+            Stage::Writing(writing) => writing.was_whole,
+            _ => false,
+        }
+    }
+
+    /// What it waits for, if the port attends to it.
+    pub(crate) fn interest(&self) -> Option<Interest>
+        ensures { result ≡ interest_of self.now }
+    {
+        match self {
+            Stage::Reading(_) | Stage::Lingering(_) => Some(Interest::Input),
+            Stage::Writing(_) => Some(Interest::Output),
             Stage::Accepted | Stage::Waiting(_) | Stage::Given => None,
         }
     }

@@ -1,11 +1,11 @@
 //! How a port writes responses, and ends connections.
 ghost use Rattle.std.specs.Prelude.{◌≡◌, IfNone, IfSome, IsSomeAnd, None};
-ghost use Rattle.bg_port.specs.Ports.{changed_by, discard_by, shut_by, write_by, writing_at};
+ghost use Rattle.bg_port.specs.Ports.{changed_by, discard_by, interest_at, shut_by, was_whole_at, write_by, writing_at};
 ghost use Rattle.bg_port.specs.Registers.{at};
 
 use crate::connection::Connection;
 use crate::port::Port;
-use crate::stage::Stage;
+use crate::stage::{Interest, Stage};
 
 impl Port {
     /// What is still to be written on a connection. `None` if no response is written on it.
@@ -17,6 +17,26 @@ impl Port {
         match &self.connections.get(key)?.stage {
             Stage::Writing(writing) => Some(writing.response.rest()),
             _ => None,
+        }
+    }
+
+    /// Whether the whole request was read before the response that is written on a connection. False if none is written.
+    pub fn was_whole(&self, key: usize) -> bool
+        ensures { result ≡ was_whole_at (at self.now.connections.places key) }
+    {
+        match self.connections.get(key) {
+            Some(connection) => connection.stage.was_whole(),
+            None => false,
+        }
+    }
+
+    /// What a connection waits for; `None` if the port does not attend to it.
+    pub fn interest(&self, key: usize) -> Option<Interest>
+        ensures { result ≡ interest_at (at self.now.connections.places key) }
+    {
+        match self.connections.get(key) {
+            Some(connection) => connection.stage.interest(),
+            None => None,
         }
     }
 
