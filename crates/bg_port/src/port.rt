@@ -1,6 +1,7 @@
 //! The state of a client port.
 ghost use Rattle.std.specs.Prelude.{◌≡◌, ◌+◌, ◌<◌, [], EachIndex, IfNone, IfOk, IfSome, None, is_some, min, replicate};
 ghost use Rattle.bg_port.specs.Registers.{Enters, at};
+ghost use Rattle.bg_port.specs.Totals.{AreSums};
 
 mod closing;
 mod reading;
@@ -10,6 +11,7 @@ mod writing;
 
 use crate::connection::ConnectionId;
 use crate::connections::Connections;
+use crate::totals::Totals;
 use std::alloc::{AllocError, Global};
 pub use workers::Given;
 
@@ -75,5 +77,12 @@ impl Port {
         ensures { result ≡ is_some self.now.closing_until }
     {
         self.closing_until.is_some()
+    }
+
+    /// What the connections come to.
+    pub fn totals(&self) -> Totals
+        ensures { AreSums result self.now.connections.places }
+    {
+        self.connections.totals()
     }
 }
