@@ -4,5 +4,6 @@ pub mod OutgoingLemmas
 pub mod RegisterLemmas
 pub mod Running
 pub mod Shutdowns
+pub mod Slowest
 pub mod Sums
 pub mod TotalLemmas

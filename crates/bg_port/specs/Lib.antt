@@ -7,6 +7,7 @@ pub mod Paces
 pub mod Ports
 pub mod Received
 pub mod Registers
+pub mod Slowness
 pub mod Stages
 pub mod Timeouts
 pub mod Totals

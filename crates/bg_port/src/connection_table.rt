@@ -1,12 +1,14 @@
 //! The places of connections, with their totals.
-ghost use Rattle.std.specs.Prelude.{◌≡◌, ◌<◌, EachIndex, IfNone, IfOk, IfSome, None, Some, false, length, min, replicate, true};
+ghost use Rattle.std.specs.Prelude.{◌≡◌, ◌<◌, EachIndex, IfNone, IfOk, IfSome, IsSome, None, Some, false, length, min, replicate, true};
 ghost use Rattle.std.specs.Prelude.{slice_index_or, slice_set};
 ghost use Rattle.std.specs.Option.{option_copied};
 ghost use Rattle.bg_port.specs.Closing.{is_silent};
+ghost use Rattle.bg_port.specs.Slowness.{IsNoLater, slow_at, slower};
 ghost use Rattle.bg_port.specs.Timeouts.{is_late};
 ghost use Rattle.bg_port.specs.Totals.{AreSums};
 
 use crate::connection::Connection;
+use crate::slowness::{Among, slow_at};
 use crate::totals::Totals;
 use std::alloc::{AllocError, Global};
 use std::marker::Model;
@@ -148,5 +150,39 @@ impl ConnectionTable {
             }
         }
         None
+    }
+
+    /// The key of the connection that is slow and has made no progress for the longest time, among these; `None` if none is
+    /// slow.
+    pub(crate) fn slowest(&self, among: Among, now: u64) -> Option<usize>
+        ensures slow { IfSome result (λ key. IsSome (slow_at among now (slice_index_or self.now key None))) }
+        ensures least { IfSome result (λ key. EachIndex self.now (λ other.
+            IsNoLater (slow_at among now (slice_index_or self.now key None))
+            (slow_at among now (slice_index_or self.now other None)))) }
+        ensures none { IfNone result (EachIndex self.now (λ other.
+            slow_at among now (slice_index_or self.now other None) ≡ None)) }
+    {
+        let mut slowest: Option<(usize, u64)> = None;
+        for (key, place) in self.places.iter().enumerate() {
+            slowest = slower(slowest, key, slow_at(place, among, now));
+        }
+        slowest.map(|(key, _since)| key)
+    }
+}
+
+/// Of the slowest connection so far and another one, the one that has made no progress for the longer time.
+fn slower(slowest: Option<(usize, u64)>, key: usize, since: Option<u64>) -> Option<(usize, u64)>
+    ensures { result ≡ slower slowest key since }
+{
+    match (slowest, since) {
+        (Some((other, least)), Some(moment)) => {
+            if moment < least {
+                Some((key, moment))
+            } else {
+                Some((other, least))
+            }
+        }
+        (None, Some(moment)) => Some((key, moment)),
+        (slowest, None) => slowest,
     }
 }

@@ -1,7 +1,8 @@
 //! The connections of a port: each at its key, and those that wait for a worker in order.
-ghost use Rattle.std.specs.Prelude.{◌≡◌, ◌<◌, [], EachIndex, IfNone, IfOk, IfSome, None, false, length, min, replicate, true};
+ghost use Rattle.std.specs.Prelude.{◌≡◌, ◌<◌, [], EachIndex, IfNone, IfOk, IfSome, IsSome, None, false, length, min, replicate, true};
 ghost use Rattle.std.specs.Option.{option_copied};
 ghost use Rattle.bg_port.specs.Closing.{is_silent};
+ghost use Rattle.bg_port.specs.Slowness.{IsNoLater, slow_at};
 ghost use Rattle.bg_port.specs.Stages.{is_waiting};
 ghost use Rattle.bg_port.specs.Timeouts.{is_late};
 ghost use Rattle.bg_port.specs.Totals.{AreSums};
@@ -9,7 +10,7 @@ ghost use Rattle.bg_port.specs.Registers.{Enters, IsMissing, TakesFirst, TakesOu
 
 use crate::connection::{Connection, ConnectionId};
 use crate::connection_table::ConnectionTable;
-use crate::stage::Stage;
+use crate::slowness::Among;
 use crate::totals::Totals;
 use std::alloc::{AllocError, Global};
 use std::collections::VecDeque;
@@ -93,6 +94,18 @@ impl Connections {
             is_silent (at self.now.places key) ≡ false)) }
     {
         self.table.first_silent()
+    }
+
+    /// The key of the connection that is slow and has made no progress for the longest time, among these; `None` if none is
+    /// slow.
+    pub(crate) fn slowest(&self, among: Among, now: u64) -> Option<usize>
+        ensures slow { IfSome result (λ key. IsSome (slow_at among now (at self.now.places key))) }
+        ensures least { IfSome result (λ key. EachIndex self.now.places (λ other.
+            IsNoLater (slow_at among now (at self.now.places key)) (slow_at among now (at self.now.places other)))) }
+        ensures none { IfNone result (EachIndex self.now.places (λ other.
+            slow_at among now (at self.now.places other) ≡ None)) }
+    {
+        self.table.slowest(among, now)
     }
 
     /// Adds a connection that was accepted at a moment. `None` only if no place or no number is free.

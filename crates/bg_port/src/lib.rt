@@ -10,6 +10,7 @@ mod outgoing;
 mod port;
 mod progress;
 mod received;
+mod slowness;
 mod stage;
 mod totals;
 
@@ -19,5 +20,6 @@ pub use outgoing::OutgoingResponse;
 pub use port::{Given, Port, PortSettings};
 pub use progress::Pace;
 pub use received::{Ending, ReceivedRequest};
+pub use slowness::Among;
 pub use stage::{Interest, ReadStep, Stopped};
 pub use totals::Totals;

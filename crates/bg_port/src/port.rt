@@ -5,6 +5,7 @@ ghost use Rattle.bg_port.specs.Totals.{AreSums};
 
 mod closing;
 mod reading;
+mod room;
 mod timeouts;
 mod workers;
 mod writing;
