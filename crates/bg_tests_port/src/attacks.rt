@@ -62,7 +62,7 @@ fn wrong_at_end(trial: &Trial, ends: &[Whereabouts]) -> Option<Wrong> {
     None
 }
 
-fn wrong(alloc: Global, attack: &Attack) -> Option<Wrong> {
+fn wrong_of(alloc: Global, attack: &Attack) -> Option<Wrong> {
     let Some(mut trial) = Trial::new(alloc) else {
         return Some(Wrong::Broken(Rule::Memory));
     };
@@ -75,7 +75,7 @@ fn wrong(alloc: Global, attack: &Attack) -> Option<Wrong> {
 /// The name of the first attack that does not end as it should, and why.
 fn first_wrong(alloc: Global, attacks: &[Attack]) -> Option<(&'static str, Wrong)> {
     for attack in attacks {
-        if let Some(wrong) = wrong(alloc, attack) {
+        if let Some(wrong) = wrong_of(alloc, attack) {
             return Some((attack.name, wrong));
         }
     }

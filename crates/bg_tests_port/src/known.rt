@@ -48,6 +48,8 @@ pub struct Known {
     /// What its client sends, and how many bytes of it came.
     pub text: &'static [u8],
     pub came: usize,
+    /// Whether `100 Continue` was owed to it.
+    pub was_asked: bool,
     /// When its timeout ends.
     pub until: u64,
     /// Its place in the order in which connections began to wait, and what ended its request.
@@ -69,6 +71,7 @@ impl Known {
             at: Whereabouts::Accepted,
             text,
             came: 0,
+            was_asked: false,
             until: 0,
             turn: 0,
             ending: Ending::Decided,

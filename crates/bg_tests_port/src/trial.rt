@@ -1,9 +1,11 @@
 //! A port beside what its rules know of its connections.
 use crate::known::{Known, Rule, Whereabouts, check, front};
 use crate::random::Random;
-use bg_http::RequestFault;
 use bg_http_read::request_in;
-use bg_port::{ConnectionId, Ending, Given, IncomingRequest, OutgoingResponse, Port, PortSettings, ReadStep, Stopped};
+use bg_port::{
+    ConnectionId, Ending, Given, IncomingRequest, OutgoingResponse, Port, PortSettings, ReadStep,
+    Stopped,
+};
 use std::alloc::Global;
 
 pub const REQUEST_MILLIS: u64 = 60_000;
@@ -102,9 +104,7 @@ impl Trial {
 
     /// Whether a connection that has not left has this key.
     fn has_key(&self, key: usize) -> bool {
-        self.known
-            .iter()
-            .any(|known| known.at != Whereabouts::Gone && known.id.key == key)
+        self.known.iter().any(|known| known.at != Whereabouts::Gone && known.id.key == key)
     }
 
     /// Leaves a connection to the port, of which no byte came yet.
@@ -134,19 +134,25 @@ impl Trial {
             return check(step == ReadStep::NotReading, Rule::OneStage);
         }
         known.came = after;
-        let is_cut = matches!(
-            request_in(self.alloc, known.bytes()),
-            Err(RequestFault::Closed)
-        );
         match step {
             ReadStep::NotReading => Err(Rule::OneStage),
-            ReadStep::More | ReadStep::OwesContinue => {
+            ReadStep::More => {
                 self.note(known);
-                check(is_cut, Rule::Answers)
+                check(
+                    request_in(self.alloc, known.bytes()).is_err(),
+                    Rule::Answers,
+                )
             }
+            ReadStep::OwesContinue => {
+                let is_first = !known.was_asked;
+                known.was_asked = true;
+                self.note(known);
+                check(is_first, Rule::Answers)
+            }
+            // what was received is compared when a worker is given it
             ReadStep::Over => {
                 self.wait(known, Ending::Decided);
-                check(!is_cut, Rule::Answers)
+                Ok(())
             }
         }
     }
@@ -179,7 +185,12 @@ impl Trial {
     }
 
     /// What the port says of a connection that it stopped is what the rules say.
-    fn note_stopped(&mut self, mut known: Known, stopped: Stopped, why: Ending) -> Result<(), Rule> {
+    fn note_stopped(
+        &mut self,
+        mut known: Known,
+        stopped: Stopped,
+        why: Ending,
+    ) -> Result<(), Rule> {
         match known.at {
             Whereabouts::Reading => {
                 self.wait(known, why);
@@ -207,7 +218,10 @@ impl Trial {
 
     fn note_given(&mut self, given: &Given, mut known: Known) -> Result<(), Rule> {
         check(given.id == known.id, Rule::Order)?;
-        check(known.is_answered_by(self.alloc, &given.received), Rule::Answers)?;
+        check(
+            known.is_answered_by(self.alloc, &given.received),
+            Rule::Answers,
+        )?;
         known.at = Whereabouts::Given;
         self.note(known);
         Ok(())
@@ -339,13 +353,14 @@ impl Trial {
             let Some(known) = self.at_key(key) else {
                 return Err(Rule::OneStage);
             };
-            check(known.at == Whereabouts::Reading && known.came == 0, Rule::OneStage)?;
+            check(
+                known.at == Whereabouts::Reading && known.came == 0,
+                Rule::OneStage,
+            )?;
             self.wait(known, Ending::GivenUp);
         }
-        let is_silent = self
-            .known
-            .iter()
-            .any(|known| known.at == Whereabouts::Reading && known.came == 0);
+        let is_silent = self.known.iter().any(|known| known.at == Whereabouts::Reading
+            && known.came == 0);
         check(!is_silent, Rule::OneStage)
     }
 
@@ -392,7 +407,8 @@ impl Trial {
         check(self.port.has_requests() == has_requests, Rule::Totals)?;
         let pending = used.saturating_sub(held);
         let attended = pending.saturating_sub(waiting);
-        let is_over = self.closing_until.is_some() && (used == 0 || self.is_over() && attended == 0);
+        let is_over = self.closing_until.is_some()
+            && (used == 0 || self.is_over() && attended == 0);
         check(self.port.is_over(self.now) == is_over, Rule::Totals)?;
         if pending as u64 >= MOST_PENDING {
             check(self.port.is_full(), Rule::Totals)?;

@@ -72,10 +72,6 @@ pub static SHUTDOWNS: [Attack; 3] = [
                 Event::Pass(1_000),
             ],
         }],
-        ends: &[
-            Whereabouts::Gone,
-            Whereabouts::Gone,
-            Whereabouts::Accepted,
-        ],
+        ends: &[Whereabouts::Gone, Whereabouts::Gone, Whereabouts::Accepted],
     },
 ];
