@@ -26,16 +26,19 @@ answer-le (Err named) count = omega arith
 response-le : (weight : ℕ) → response_weight weight ≤ most
 response-le weight = omega arith
 
-used-le : (p : Option Connection) → used_of p ≤ most
-used-le None = omega arith
-used-le (Some c) = used-at c.stage where
-  used-at : (s : Stage) → (stage_totals s).used ≤ most
+pub used-le-one : (p : Option Connection) → used_of p ≤ 1
+used-le-one None = omega arith
+used-le-one (Some c) = used-at c.stage where
+  used-at : (s : Stage) → (stage_totals s).used ≤ 1
   used-at stage.Accepted = omega arith
   used-at (stage.Reading r) = omega arith
   used-at (stage.Waiting w) = omega arith
   used-at stage.Given = omega arith
   used-at (stage.Writing w) = omega arith
   used-at (stage.Lingering l) = omega arith
+
+used-le : (p : Option Connection) → used_of p ≤ most
+used-le p = let one = used-le-one p in omega arith
 
 held-le : (p : Option Connection) → held_of p ≤ most
 held-le None = omega arith

@@ -1,14 +1,16 @@
 -- The events of a port, one after the other.
-use Rattle.std.specs.Prelude.{◌≡◌, ℕ, ◌<◌, ◌≤◌, Bool, true, false, List, [], ◌∷◌, ◌++◌, Option, Some, None, ⊤}
+use Rattle.std.specs.Prelude.{◌≡◌, ◌==◌, if◌then◌else◌, ℕ, ◌<◌, ◌≤◌, Bool, true, false, List, [], ◌∷◌, ◌++◌, Option, Some, None, ⊤}
 use Rattle.bg_port.specs.Outgoing.{whole}
 use Rattle.bg_port.specs.Ports.{EndsAt, FeedsAt, Gives, changed_by, discard_by, handed, is_accepted, shut_by, write_by}
-use Rattle.bg_port.specs.Received.{IsAnswer}
+use Rattle.bg_port.specs.Received.{IsAnswer, StaysAnswer}
 use Rattle.bg_port.specs.Registers.{Enters, Holds, Register, at}
 use Rattle.bg_port.specs.Stages.{stopped}
 use Rattle.bg_port.specs.declared.connection.Connection.{Connection}
 use Rattle.bg_port.specs.declared.connection.ConnectionId.{ConnectionId}
 use Rattle.bg_port.specs.declared.port.workers.Given.{Given}
 use Rattle.bg_port.specs.declared.received.Ending.{Ending}
+use Rattle.bg_port.specs.declared.received.Ending.TheVariants as ending
+use Rattle.bg_port.specs.declared.received.ReceivedRequest.{ReceivedRequest}
 use Rattle.bg_port.specs.declared.stage.Lingering.{Lingering}
 use Rattle.bg_port.specs.declared.stage.ReadStep.{ReadStep}
 use Rattle.bg_port.specs.declared.stage.Reading.{Reading}
@@ -83,33 +85,52 @@ may_end stage.Given = true
 may_end (stage.Writing w) = true
 may_end (stage.Lingering l) = true
 
--- what a stage leaves of an earlier one: a request that is arriving only gets longer; what is received is the answer to
--- its bytes and those that came later; it stays the same until a worker is given it; and a response stays the same, however
--- much of it was written
-abbrev pub Continues : Stage → Stage → Type 0
-Continues (stage.Reading r) (stage.Reading s) = (bytes : List ℕ) × (s.request.came ≡ r.request.came ++ bytes)
-Continues (stage.Reading r) (stage.Waiting w) = (bytes : List ℕ) × IsAnswer (r.request.came ++ bytes) w.answer
-Continues (stage.Waiting v) (stage.Waiting w) = w ≡ v
-Continues (stage.Writing v) (stage.Writing w) = whole w.response ≡ whole v.response
-Continues old new = ⊤
+-- the bytes that an event brings for a key
+abbrev pub bytes_of : ℕ → Event → List ℕ
+bytes_of key (fed other bytes now taken) = if other == key then bytes else []
+bytes_of key event = []
+
+-- the bytes that events bring for a key, in their order
+abbrev pub bytes_for : ℕ → List Event → List ℕ
+bytes_for key [] = []
+bytes_for key (event ∷ events) = bytes_of key event ++ bytes_for key events
+
+-- what waits is the answer to the bytes that a request had and to the first of those that came later, and whatever
+-- follows if the request is decided
+pub record IsAnswerTo (before came : List ℕ) (received : ReceivedRequest) : Type 0 where
+  pub first : List ℕ
+  pub rest : List ℕ
+  pub parts : came ≡ first ++ rest
+  pub answers : IsAnswer (before ++ first) received.answer
+  pub stays : received.ending ≡ ending.Decided → StaysAnswer (before ++ first) received.answer
+
+-- what a stage leaves of an earlier one, where these bytes came meanwhile: a request that is arriving has them at its end;
+-- what waits is the answer to its bytes and these, and stays the same until a worker is given it; and a response stays the
+-- same, however much of it was written
+abbrev pub Continues : List ℕ → Stage → Stage → Type 0
+Continues bytes (stage.Reading r) (stage.Reading s) = s.request.came ≡ r.request.came ++ bytes
+Continues bytes (stage.Reading r) (stage.Waiting w) = IsAnswerTo r.request.came bytes w
+Continues bytes (stage.Waiting v) (stage.Waiting w) = w ≡ v
+Continues bytes (stage.Writing v) (stage.Writing w) = whole w.response ≡ whole v.response
+Continues bytes old new = ⊤
 
 -- a stage comes no later than another one, and leaves that of it; or the connection may leave
-abbrev pub Advances : Stage → Option Stage → Type 0
-Advances old None = may_end old ≡ true
-Advances old (Some new) = (rank old ≤ rank new) × Continues old new
+abbrev pub Advances : List ℕ → Stage → Option Stage → Type 0
+Advances bytes old None = may_end old ≡ true
+Advances bytes old (Some new) = (rank old ≤ rank new) × Continues bytes old new
 
 -- what becomes of a place: a free one takes the next number; a connection keeps its number and the moment of its accept,
 -- and its stage advances
-abbrev pub PlaceAdvances : ℕ → Option Connection → Option Connection → Type 0
-PlaceAdvances next None None = ⊤
-PlaceAdvances next None (Some new) = new.number ≡ next
-PlaceAdvances next (Some old) None = may_end old.stage ≡ true
-PlaceAdvances next (Some old) (Some new) =
-    (new.number ≡ old.number) × (new.accepted ≡ old.accepted) × Advances old.stage (Some new.stage)
+abbrev pub PlaceAdvances : List ℕ → ℕ → Option Connection → Option Connection → Type 0
+PlaceAdvances bytes next None None = ⊤
+PlaceAdvances bytes next None (Some new) = new.number ≡ next
+PlaceAdvances bytes next (Some old) None = may_end old.stage ≡ true
+PlaceAdvances bytes next (Some old) (Some new) =
+    (new.number ≡ old.number) × (new.accepted ≡ old.accepted) × Advances bytes old.stage (Some new.stage)
 
--- each place advances, and no number is used twice
-pub record AllAdvance (old new : Register) : Type 0 where
-  pub places : (key : ℕ) → PlaceAdvances old.next (at old.places key) (at new.places key)
+-- each place advances by an event, and no number is used twice
+pub record AllAdvance (event : Event) (old new : Register) : Type 0 where
+  pub places : (key : ℕ) → PlaceAdvances (bytes_of key event) old.next (at old.places key) (at new.places key)
   pub next : old.next ≤ new.next
 
 -- no place has the connection of a number
@@ -124,7 +145,7 @@ IsGone number register = (key : ℕ) → IsGoneAt number (at register.places key
 
 -- each event lets each place advance
 abbrev pub EventsAdvance : Event → Register → Register → Type 0
-EventsAdvance event old new = Steps event old new → AllAdvance old new
+EventsAdvance event old new = Steps event old new → AllAdvance event old new
 
 -- a connection that has left never comes back
 abbrev pub StaysGone : ℕ → List Event → Register → Register → Type 0
@@ -142,4 +163,4 @@ abbrev pub StagesContinue : List Event → Register → Register → ℕ → Con
 StagesContinue events old new key before after =
     Holds old.places old.queue old.next → Runs events old new
     → at old.places key ≡ Some before → at new.places key ≡ Some after → after.number ≡ before.number
-    → (after.accepted ≡ before.accepted) × Advances before.stage (Some after.stage)
+    → (after.accepted ≡ before.accepted) × Advances (bytes_for key events) before.stage (Some after.stage)

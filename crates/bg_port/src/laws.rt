@@ -23,9 +23,9 @@ pub fn a_connection_is_given_once()
         (new : Register) → IsGivenOnce old first events mid later second new }
 {}
 
-/// At any two moments, a connection has gone from an earlier stage to a later one. A request that is arriving only gets
-/// longer; what a worker is given is the answer to its bytes; and a response stays the same, in what was written of it
-/// and what is left together.
+/// At any two moments, a connection has gone from an earlier stage to a later one. A request that is arriving has the bytes
+/// that came for its key meanwhile, and no others; what waits for a worker is the answer to these bytes, and whatever
+/// follows if they decide it; and a response stays the same, in what was written of it and what is left together.
 pub fn stages_continue()
     ensures { (events : List Event) (old new : Register) (key : ℕ) (before after : Connection)
         → StagesContinue events old new key before after }

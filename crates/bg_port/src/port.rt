@@ -1,5 +1,5 @@
 //! The state of a client port.
-ghost use Rattle.std.specs.Prelude.{◌≡◌, ◌+◌, ◌<◌, [], EachIndex, IfNone, IfOk, IfSome, None, is_some, min, replicate};
+ghost use Rattle.std.specs.Prelude.{◌≡◌, ◌+◌, ◌<◌, ◌≤◌, [], EachIndex, IfNone, IfOk, IfSome, None, is_some, length, min, replicate};
 ghost use Rattle.bg_port.specs.Registers.{Enters, at};
 ghost use Rattle.bg_port.specs.Totals.{AreSums};
 
@@ -80,9 +80,10 @@ impl Port {
         self.closing_until.is_some()
     }
 
-    /// What the connections come to.
+    /// What the connections come to. There are at most as many as places.
     pub fn totals(&self) -> Totals
-        ensures { AreSums result self.now.connections.places }
+        ensures sums { AreSums result self.now.connections.places }
+        ensures most { result.used ≤ length self.now.connections.places }
     {
         self.connections.totals()
     }
