@@ -14,7 +14,7 @@ pub enum Rule {
     /// A worker is given what reading the bytes of this connection gives.
     Answers,
     /// The connection that has waited longest is given first.
-    Order,
+    Queue,
     /// What was written and what is left are what was handed over.
     Response,
     /// The totals are those of the connections.

@@ -212,12 +212,12 @@ impl Trial {
         match (given, self.first_waiting()) {
             (Some(given), Some(known)) => self.note_given(&given, known),
             (None, None) => Ok(()),
-            _ => Err(Rule::Order),
+            _ => Err(Rule::Queue),
         }
     }
 
     fn note_given(&mut self, given: &Given, mut known: Known) -> Result<(), Rule> {
-        check(given.id == known.id, Rule::Order)?;
+        check(given.id == known.id, Rule::Queue)?;
         check(
             known.is_answered_by(self.alloc, &given.received),
             Rule::Answers,
