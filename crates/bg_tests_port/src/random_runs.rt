@@ -17,7 +17,7 @@ static TEXTS: [&[u8]; 8] = [
 ];
 
 /// The number of runs, and of events of each of them.
-const RUNS: u64 = 300;
+const RUNS: u64 = 3_000;
 
 const EVENTS: u64 = 200;
 
