@@ -25,8 +25,6 @@ pub struct PortSettings {
     pub workers: u64,
     /// The timeout of a request from the moment at which it is left to the port, in milliseconds.
     pub request_millis: u64,
-    /// The memory, in bytes, that requests may take before large ones are paused.
-    pub request_bytes: u64,
     /// The memory, in bytes, that responses may take before slow clients are closed.
     pub response_bytes: u64,
 }

@@ -37,7 +37,6 @@ impl Trial {
             connections: MOST_PENDING,
             workers: ROOM as u64 - MOST_PENDING,
             request_millis: REQUEST_MILLIS,
-            request_bytes: 1 << 20,
             response_bytes: RESPONSE_BYTES,
         };
         match Port::new(alloc, settings) {
