@@ -21,9 +21,10 @@ PORTS = ("2379", "2380", "8180", "8181", "8182", "8280", "8281", "8282", "8380",
          "9302")
 LEAST_BLOCKS = 16
 # By the variable, etcd does not wait for the disk, which others may use much.
-LIMITS = Limits(150.0, {"ETCD_UNSAFE_NO_FSYNC": "true"})
+LIMITS = Limits(300.0, {"ETCD_UNSAFE_NO_FSYNC": "true"})
 OF_THE_SESSION = ("etcd", "etcdctl", "openssl", "curl")
 DEMONSTRATION = TOP / "examples" / "fleet" / "fleet_demo.py"
+LONGEST_RUN = 360  # seconds for the script
 LONGEST_END = 20.0  # seconds for the demonstration to end after ctrl-C
 # What the demonstration prints, in this order.
 STEPS = ("# Three machines are members", "of web-v1: successful", "# A good revision", "of web-v2: successful", "# web-v3 is promoted by hand",
@@ -116,4 +117,4 @@ def interrupted_demonstration() -> None:
 
 
 if __name__ == "__main__":
-    checks.run("live_fleet_pages", [session, whole_demonstration, interrupted_demonstration], at_once=2)
+    checks.run("live_fleet_pages", [session, whole_demonstration, interrupted_demonstration], at_once=2, longest=LONGEST_RUN)

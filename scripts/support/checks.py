@@ -77,10 +77,11 @@ def run_part(part: Part) -> None:
         fail(part.__name__, "".join(traceback.format_exception(error)))
 
 
-def run(name: str, parts: Sequence[Part], at_once: int = 1, by_hand: Sequence[Part] = ()) -> NoReturn:
+def run(name: str, parts: Sequence[Part], at_once: int = 1, by_hand: Sequence[Part] = (), longest: int = LONGEST_RUN) -> NoReturn:
     """Runs the parts in turn, or so many at once, and prints the counts; status 0 where no check has failed. The words
-    name parts that are run alone; with `--by-hand` those are run that take too long for the gate."""
-    faulthandler.dump_traceback_later(LONGEST_BY_HAND if sys.argv[1:] else LONGEST_RUN, exit=True)
+    name parts that are run alone; with `--by-hand` those are run that take too long for the gate. The script may take
+    `longest` seconds."""
+    faulthandler.dump_traceback_later(LONGEST_BY_HAND if sys.argv[1:] else longest, exit=True)
     os.chdir(TOP)
     if sys.argv[1:] == ["--by-hand"]:
         parts = by_hand
