@@ -178,8 +178,9 @@ class Ends(unittest.TestCase):
 @unittest.skipIf(MISSING, f"not installed: {', '.join(MISSING)}")
 class EndsWithItsScript(unittest.TestCase):
     def test_by_a_signal(self) -> None:
-        text = ("import sys, time\nfrom support.fleet.hosts import OneHost\nfrom tests.test_fleet_lab import lab_in, HOSTS\n"
-                "with lab_in(sys.argv[1], OneHost(HOSTS)):\n    print('up', flush=True)\n    time.sleep(60)\n")
+        # a shell without job control lets what it starts behind it ignore SIGINT
+        text = ("import signal, sys, time\nfrom support.fleet.hosts import OneHost\nfrom tests.test_fleet_lab import lab_in, HOSTS\n"
+                "signal.signal(signal.SIGINT, signal.default_int_handler)\nwith lab_in(sys.argv[1], OneHost(HOSTS)):\n    print('up', flush=True)\n    time.sleep(60)\n")
         for number in (signal.SIGTERM, signal.SIGINT):
             with self.subTest(number), tempfile.TemporaryDirectory() as folder:
                 script = subprocess.Popen([sys.executable, "-B", "-c", text, folder], cwd=TOP, env={**os.environ, **PATHS},
