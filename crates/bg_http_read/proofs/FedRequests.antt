@@ -83,7 +83,7 @@ fed_behind (part.Body p) waits seen more h = record {
   follows = follows_behind h.start p.body h.after waits more h.follows;
   limit = h.limit;
 }
-fed_behind part.Done waits seen more h = h
+fed_behind (part.Done told) waits seen more h = h
 
 pub fed_added : (s : RequestStage) (waits now seen bytes : List ℕ) → IsFedStage s waits seen
     → now ≡ waits ++ bytes → IsFedStage s now (seen ++ bytes)
@@ -211,7 +211,7 @@ memory_refused (part.Body p) waits seen h more =
   where
     unsaid : (named : Framing) → RequestBodyFails named (h.after ++ more) fault.OutOfMemory
     unsaid named = tt
-memory_refused part.Done waits seen h more = absurd h
+memory_refused (part.Done told) waits seen h more = absurd h
 
 -- `100 Continue` is owed to the head
 pub owes : (seen after : List ℕ) (head : RequestHead) (named : Framing)
@@ -258,7 +258,7 @@ awaits_more (part.Head end) waits seen h sees awaits = (
     none : HasNoRequest waits
     none = no_request_yet waits (ap is_over (sym sees) ∙ awaits)
 awaits_more (part.Body p) waits seen h sees awaits = absurd awaits
-awaits_more part.Done waits seen h sees awaits = absurd awaits
+awaits_more (part.Done told) waits seen h sees awaits = absurd awaits
 
 -- more bytes were fed, and they wait
 pub seen_behind : (s : RequestStage) (waits now bytes : List ℕ) → IsSeen s waits
@@ -267,24 +267,24 @@ seen_behind (part.Head end) waits now bytes sees added =
     ap (λ e. after_bytes e bytes) sees ∙ sym (after_bytes-append head_end.Blank waits bytes)
     ∙ ap (after_bytes head_end.Blank) (sym added)
 seen_behind (part.Body p) waits now bytes sees added = tt
-seen_behind part.Done waits now bytes sees added = tt
+seen_behind (part.Done told) waits now bytes sees added = tt
 
 pub fed_seen : (s : RequestStage) (waits seen bytes : List ℕ) → IsFedStage s waits seen
     → IsFedStage (stage_seen s bytes) waits seen
 fed_seen (part.Head end) waits seen bytes h = h
 fed_seen (part.Body p) waits seen bytes h = h
-fed_seen part.Done waits seen bytes h = h
+fed_seen (part.Done told) waits seen bytes h = h
 
 pub open_seen : (s : RequestStage) (bytes : List ℕ) → IsOpenStage s
     → IsOpenStage (stage_seen s bytes)
 open_seen (part.Head end) bytes h = h
 open_seen (part.Body p) bytes h = h
-open_seen part.Done bytes h = h
+open_seen (part.Done told) bytes h = h
 
 pub asked_seen : (s : RequestStage) (bytes : List ℕ) → was_asked (stage_seen s bytes) ≡ was_asked s
 asked_seen (part.Head end) bytes = refl
 asked_seen (part.Body p) bytes = refl
-asked_seen part.Done bytes = refl
+asked_seen (part.Done told) bytes = refl
 
 -- nothing was fed
 pub nothing_fed : (s : RequestStage) → s ≡ part.Head head_end.Blank → IsAt s [] []
@@ -311,7 +311,7 @@ no_continue_here (part.Head end) waits seen h head owed =
     let reads = subst (λ l. ReadsRequestHead l found.head found.after) (append-nil seen ∙ h.fed) found.begins.reads in
     h.lacks reads.tree found.after reads.reads
 no_continue_here (part.Body p) waits seen h head owed = cc
-no_continue_here part.Done waits seen h head owed = cc
+no_continue_here (part.Done told) waits seen h head owed = cc
 
 -- no body of a request goes to the end of the input
 never_to_the_end : (named : Framing) → first_stage named ≡ stage.ToTheEnd → ⊥

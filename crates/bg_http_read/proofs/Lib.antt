@@ -16,6 +16,7 @@ pub mod LineSteps
 pub mod OneFailure
 pub mod OneFault
 pub mod OneResponseFault
+pub mod RefusedHeads
 pub mod RequestHeadsFound
 pub mod RequestOrFault
 pub mod RequestPieces

@@ -1,10 +1,10 @@
 -- The steps of a request's parser.
-use Rattle.std.proofs.Common.{◌≡◌, Bool, true, false, List, ℕ, [], refl, subst, sym, ◌∙◌, Result, Ok, Err, IsErrAnd, IfErr, IfOk}
+use Rattle.std.proofs.Common.{◌≡◌, Bool, true, false, List, ℕ, [], refl, ap, subst, sym, ◌∙◌, None, Result, Ok, Err, IsErrAnd, IfErr, IfOk}
 use Rattle.std.proofs.lemmas.List.{append-nil}
 use Rattle.bg_http.specs.declared.request.Request.{Request}
 use Rattle.bg_http.specs.declared.request_fault.RequestFault.{RequestFault}
 use Rattle.bg_http_read.specs.RequestStates.{FailsAsked, IfWhole, IsReadAsked, IsRefusedAsked, LacksRequest, OnMore, ReadsAsked, RequestState, goes_on, is_whole}
-use Rattle.bg_http_read.specs.RequestsFed.{AdvancesTo, EndsTo, FedTo, IsAt, is_head, was_asked}
+use Rattle.bg_http_read.specs.RequestsFed.{AdvancesTo, EndsTo, FedTo, IsAt, head_after, is_head, was_asked}
 use Rattle.bg_http_read.specs.Streams.{waiting}
 use Rattle.bg_http_read.specs.declared.request_feed.RequestFeed.{RequestFeed}
 use Rattle.bg_http_read.specs.declared.request_progress.RequestStage.{RequestStage}
@@ -31,7 +31,7 @@ fed_asked one other seen r feed same h = subst (λ asked. FedTo asked seen r fee
 head_unasked : (old : RequestStage) → is_head old ≡ true → was_asked old ≡ false
 head_unasked (part.Head end) h = refl
 head_unasked (part.Body p) h = cc
-head_unasked part.Done h = cc
+head_unasked (part.Done told) h = cc
 
 -- the result of the bytes that wait is the result of all bytes that were fed
 pub advanced : (old : RequestStage) (seen left : List ℕ) (at : RequestStep) (feed : RequestFeed)
@@ -96,14 +96,17 @@ fed_whole asked seen (Err e) feed h = tt
 -- if more bytes are needed, only the bytes that came have changed
 pub fed_more : (state : RequestState) (seen came : List ℕ) (r : Result RequestStep RequestFault)
     (feed : RequestFeed) (is_open : Bool) → came ≡ seen → is_open ≡ goes_on r
-    → state.is_open ≡ true → FedTo state.asked seen r feed
+    → state.is_open ≡ true → state.refused ≡ None → FedTo state.asked seen r feed
     → IfOk r (λ at. OnMore at
-    ((request_state came (was_asked feed.progress.stage) is_open ≡ record state { seen = seen })
+    ((request_state came (was_asked feed.progress.stage) is_open (head_after is_open feed.progress.stage)
+    ≡ record state { seen = seen })
     × LacksRequest seen))
-fed_more state seen came (Ok step.More) feed is_open same goes was h = (
-  same_request came seen (was_asked feed.progress.stage) state.asked is_open state.is_open same h.2 (goes ∙ sym was),
+fed_more state seen came (Ok step.More) feed is_open same goes was none h = (
+  same_request came seen (was_asked feed.progress.stage) state.asked is_open state.is_open
+      (head_after is_open feed.progress.stage) state.refused same h.2 (goes ∙ sym was)
+      (ap (λ o. head_after o feed.progress.stage) goes ∙ sym none),
   h.0,
 )
-fed_more state seen came (Ok step.Continue) feed is_open same goes was h = tt
-fed_more state seen came (Ok (step.Whole request)) feed is_open same goes was h = tt
-fed_more state seen came (Err e) feed is_open same goes was h = tt
+fed_more state seen came (Ok step.Continue) feed is_open same goes was none h = tt
+fed_more state seen came (Ok (step.Whole request)) feed is_open same goes was none h = tt
+fed_more state seen came (Err e) feed is_open same goes was none h = tt

@@ -1,9 +1,10 @@
 -- The states of the parsers, by their parts.
-use Rattle.std.proofs.Common.{◌≡◌, Bool, ℕ, List, [], ◌++◌, refl}
+use Rattle.std.proofs.Common.{◌≡◌, Bool, ℕ, List, [], ◌++◌, Option, refl}
 use Rattle.std.proofs.lemmas.List.{append-nil}
 use Rattle.bg_http.specs.declared.request.Request.{Request}
 use Rattle.bg_http_read.specs.RequestStates.{RequestState}
 use Rattle.bg_http_read.specs.ResponseStates.{ResponseState}
+use Rattle.bg_http_read.specs.declared.refused_head.RefusedHead.{RefusedHead}
 
 abbrev pub response_state : Request → List ℕ → Bool → ResponseState
 response_state request seen is_open =
@@ -14,17 +15,18 @@ pub same_response : (request asked : Request) (seen came : List ℕ) (is_open wa
     → response_state request seen is_open ≡ response_state asked came was
 same_response request asked seen came is_open was h k e = cc
 
-abbrev pub request_state : List ℕ → Bool → Bool → RequestState
-request_state seen asked is_open = record { seen = seen; asked = asked; is_open = is_open }
+abbrev pub request_state : List ℕ → Bool → Bool → Option RefusedHead → RequestState
+request_state seen asked is_open refused =
+    record { seen = seen; asked = asked; is_open = is_open; refused = refused }
 
-pub same_request : (seen came : List ℕ) (asked owed : Bool) (is_open was : Bool) → seen ≡ came
-    → asked ≡ owed → is_open ≡ was
-    → request_state seen asked is_open ≡ request_state came owed was
-same_request seen came asked owed is_open was h k e = cc
+pub same_request : (seen came : List ℕ) (asked owed : Bool) (is_open was : Bool)
+    (head refused : Option RefusedHead) → seen ≡ came → asked ≡ owed → is_open ≡ was
+    → head ≡ refused → request_state seen asked is_open head ≡ request_state came owed was refused
+same_request seen came asked owed is_open was head refused h k e r = cc
 
 -- if no byte came, nothing changes
 pub request_as_it_was : (state : RequestState)
-    → request_state (state.seen ++ []) state.asked state.is_open ≡ state
+    → request_state (state.seen ++ []) state.asked state.is_open state.refused ≡ state
 request_as_it_was state =
     same_request (state.seen ++ []) state.seen state.asked state.asked state.is_open state.is_open
-    (append-nil state.seen) refl refl
+    state.refused state.refused (append-nil state.seen) refl refl refl

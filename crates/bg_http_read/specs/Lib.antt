@@ -5,6 +5,7 @@ pub mod HeadEnds
 pub mod HeadFaults
 pub mod Laws
 pub mod MessageFaults
+pub mod RefusedHeads
 pub mod RequestHeads
 pub mod RequestPieces
 pub mod RequestStates

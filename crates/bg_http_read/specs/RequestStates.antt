@@ -1,19 +1,21 @@
 -- The state of the parser of a request, and its answers.
-use Rattle.std.specs.Prelude.{◌≡◌, ◌⊎◌, Bool, true, false, List, ℕ, ◌++◌, Result, Ok, Err, ⊤}
+use Rattle.std.specs.Prelude.{◌≡◌, ◌⊎◌, Bool, true, false, List, ℕ, ◌++◌, Option, Result, Ok, Err, ⊤}
 use Rattle.bg_http.specs.RequestRules.{owes_continue}
 use Rattle.bg_http.specs.declared.request.Request.{Request}
 use Rattle.bg_http.specs.declared.request_fault.RequestFault.{RequestFault}
 use Rattle.bg_http.specs.declared.request_fault.RequestFault.TheVariants as fault
 use Rattle.bg_http_read.specs.Requests.{AfterHead, HeadRefused, ReadsRequest, RequestBodyFails}
+use Rattle.bg_http_read.specs.declared.refused_head.RefusedHead.{RefusedHead}
 use Rattle.bg_http_read.specs.declared.request_step.RequestStep.{RequestStep}
 use Rattle.bg_http_read.specs.declared.request_step.RequestStep.TheVariants as step
 
--- all bytes that came, whether `100 Continue` was asked for, and whether more of the input, or its
--- end, may come
+-- all bytes that came, whether `100 Continue` was asked for, whether more of the input, or its end,
+-- may come, and the head of a request that was refused
 pub record RequestState : Type 0 where
   pub seen : List ℕ
   pub asked : Bool
   pub is_open : Bool
+  pub refused : Option RefusedHead
 
 -- the input begins with the request, and `100 Continue` is owed or not, as the first argument says
 abbrev pub ReadsAsked : Bool → Request → List ℕ → Type 0

@@ -16,6 +16,7 @@ use Rattle.bg_http_read.specs.declared.head_end.HeadEnd.TheVariants as head_end
 use Rattle.bg_http_read.specs.declared.body.Body.{Body}
 use Rattle.bg_http_read.specs.declared.body.BodyStage.{BodyStage}
 use Rattle.bg_http_read.specs.declared.body.BodyStage.TheVariants as stage
+use Rattle.bg_http_read.specs.declared.refused_head.RefusedHead.{RefusedHead}
 use Rattle.bg_http_read.specs.declared.request_body.RequestBody.{RequestBody}
 use Rattle.bg_http_read.specs.declared.request_feed.RequestFeed.{RequestFeed}
 use Rattle.bg_http_read.specs.declared.request_progress.RequestAdvance.{RequestAdvance}
@@ -55,24 +56,24 @@ pub record IsFedBody (request : RequestBody) (waits seen : List ℕ) : Type 0 wh
 abbrev pub IsFedStage : RequestStage → List ℕ → List ℕ → Type 0
 IsFedStage (part.Head end) waits seen = seen ≡ waits
 IsFedStage (part.Body request) waits seen = IsFedBody request waits seen
-IsFedStage part.Done waits seen = ⊥
+IsFedStage (part.Done told) waits seen = ⊥
 
 abbrev pub IsOpenStage : RequestStage → Type 0
 IsOpenStage (part.Head end) = ⊤
 IsOpenStage (part.Body request) = KeepsLimit request.body
-IsOpenStage part.Done = ⊥
+IsOpenStage (part.Done told) = ⊥
 
 -- the bytes that wait for the end of the head were seen
 abbrev pub IsSeen : RequestStage → List ℕ → Type 0
 IsSeen (part.Head end) waits = end ≡ after_bytes head_end.Blank waits
 IsSeen (part.Body request) waits = ⊤
-IsSeen part.Done waits = ⊤
+IsSeen (part.Done told) waits = ⊤
 
 -- there is no complete head at a stage that waits for one
 abbrev pub LacksHead : RequestStage → List ℕ → Type 0
 LacksHead (part.Head end) waits = HasNoRequest waits
 LacksHead (part.Body request) waits = ⊤
-LacksHead part.Done waits = ⊤
+LacksHead (part.Done told) waits = ⊤
 
 -- the bytes `seen` were fed, and the bytes `waits` of them wait
 pub record IsAt (at : RequestStage) (waits seen : List ℕ) : Type 0 where
@@ -85,24 +86,35 @@ pub record IsAt (at : RequestStage) (waits seen : List ℕ) : Type 0 where
 abbrev pub stage_seen : RequestStage → List ℕ → RequestStage
 stage_seen (part.Head end) bytes = part.Head (after_bytes end bytes)
 stage_seen (part.Body request) bytes = part.Body request
-stage_seen part.Done bytes = part.Done
+stage_seen (part.Done told) bytes = part.Done told
 
 -- the stage waits for the head, and no empty line that may end it has come
 abbrev pub AwaitsHead : RequestStage → Type 0
 AwaitsHead (part.Head end) = is_over end ≡ false
 AwaitsHead (part.Body request) = ⊥
-AwaitsHead part.Done = ⊥
+AwaitsHead (part.Done told) = ⊥
 
 abbrev pub is_head : RequestStage → Bool
 is_head (part.Head end) = true
 is_head (part.Body request) = false
-is_head part.Done = false
+is_head (part.Done told) = false
 
 -- `100 Continue` was asked for, if it is owed
 abbrev pub was_asked : RequestStage → Bool
 was_asked (part.Head end) = false
 was_asked (part.Body request) = owes_continue request.head request.framing
-was_asked part.Done = false
+was_asked (part.Done told) = false
+
+-- the head, if it was parsed; a head with a body passes all rules
+abbrev pub known_head : RequestStage → Option RefusedHead
+known_head (part.Head end) = None
+known_head (part.Body request) = Some (record { head = request.head; is_sound = true })
+known_head (part.Done told) = told
+
+-- the head of a refused request is told once the parser is closed
+abbrev pub head_after : Bool → RequestStage → Option RefusedHead
+head_after true at = None
+head_after false at = known_head at
 
 -- these bytes were fed, one piece after the other
 abbrev pub IsFed : RequestFeed → List ℕ → Type 0

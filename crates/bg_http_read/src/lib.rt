@@ -13,6 +13,7 @@ mod intake;
 pub mod laws;
 mod message_fault;
 mod one_way;
+mod refused_head;
 mod request_body;
 mod request_feed;
 mod request_head;
@@ -30,6 +31,7 @@ mod seen;
 mod trailers;
 
 pub use in_memory::request_in;
+pub use refused_head::RefusedHead;
 pub use request_parser::RequestParser;
 pub use request_read::read_request;
 pub use request_step::RequestStep;

@@ -1,9 +1,10 @@
 //! A request whose head is known and whose body is being fed.
-ghost use Rattle.std.specs.Prelude.{◌≡◌, IfOk};
+ghost use Rattle.std.specs.Prelude.{◌≡◌, IfErr, IfOk, true};
 ghost use Rattle.bg_http.specs.RequestRules.{owes_continue as owed};
 ghost use Rattle.bg_http_read.specs.RequestsFed.{HasParts, StartsBody};
 
 use crate::body::Body;
+use crate::refused_head::RefusedHead;
 use bg_http::{Framing, MOST_REQUEST_BODY, Request, RequestHead, owes_continue};
 use std::alloc::{AllocError, Global};
 
@@ -27,22 +28,25 @@ fn body_of(alloc: Global, framing: Framing) -> Result<Body, AllocError>
 }
 
 impl RequestBody {
-    /// The state before the first byte of the body. The only error is an allocation failure.
+    /// The state before the first byte of the body. Gives the head back if an allocation fails.
     pub(crate) fn new(
         alloc: Global,
         head: RequestHead,
         framing: Framing,
-    ) -> Result<RequestBody, AllocError>
+    ) -> Result<RequestBody, RequestHead>
         ensures head { IfOk result (λ part. part.head ≡ head) }
         ensures framing { IfOk result (λ part. part.framing ≡ framing) }
         ensures body { IfOk result (λ part. StartsBody framing part.body) }
+        ensures back { IfErr result (λ back. back ≡ head) }
     {
-        let body = body_of(alloc, framing)?;
-        Ok(RequestBody {
-            head,
-            framing,
-            body,
-        })
+        match body_of(alloc, framing) {
+            Ok(body) => Ok(RequestBody {
+                head,
+                framing,
+                body,
+            }),
+            Err(_) => Err(head),
+        }
     }
 
     /// Whether `100 Continue` is owed before the body is read.
@@ -50,6 +54,16 @@ impl RequestBody {
         ensures { result ≡ owed self.now.head self.now.framing }
     {
         owes_continue(&self.head, self.framing)
+    }
+
+    /// The head of a request whose body failed.
+    pub(crate) fn into_refused_head(self) -> RefusedHead
+        ensures { result ≡ record { head = self.head; is_sound = true } }
+    {
+        RefusedHead {
+            head: self.head,
+            is_sound: true,
+        }
     }
 
     /// The request, with the bytes of its body that were fed.

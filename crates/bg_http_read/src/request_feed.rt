@@ -1,14 +1,16 @@
 //! The progress of reading a request, with the bytes that wait.
-ghost use Rattle.std.specs.Prelude.{◌≡◌, ◌++◌, [], false, List, ℕ, IfErr, IsFalse};
+ghost use Rattle.std.specs.Prelude.{◌≡◌, ◌++◌, [], false, List, ℕ, IfErr, IfOk, IsFalse, None};
 ghost use Rattle.std.specs.Io.KnownBytes.{Keeps};
 ghost use Rattle.bg_http.specs.declared.request_fault.RequestFault.TheVariants as request_fault;
-ghost use Rattle.bg_http_read.specs.RequestStates.{is_of_stream};
+ghost use Rattle.bg_http_read.specs.RefusedHeads.{TellsHead};
+ghost use Rattle.bg_http_read.specs.RequestStates.{IfWhole, is_of_stream};
 ghost use Rattle.bg_http_read.specs.RequestsFed.{EndsTo, FedTo, IsFed, IsFedStage, IsOpenStage};
-ghost use Rattle.bg_http_read.specs.RequestsFed.{IsSeen, was_asked};
+ghost use Rattle.bg_http_read.specs.RequestsFed.{IsSeen, known_head, was_asked};
 ghost use Rattle.bg_http_read.specs.Streams.{SeesStraight, waiting};
 
 use crate::arrival::Straight;
 use crate::intake::{Intake, behind};
+use crate::refused_head::RefusedHead;
 use crate::request_progress::{RequestAdvance, RequestProgress};
 use crate::request_step::RequestStep;
 use crate::seen::Seen;
@@ -41,6 +43,11 @@ impl RequestFeed {
         requires { IsOpenStage self.old.progress.stage }
         ensures answer { (seen : List ℕ) → IsFed self.old seen
             → FedTo (was_asked self.old.progress.stage) (seen ++ bytes.now) result self.new }
+        ensures head { (seen : List ℕ) → IsFed self.old seen
+            → IfErr result (λ fault. TellsHead (seen ++ bytes.now) fault
+            (known_head self.new.progress.stage)) }
+        ensures whole { IfOk result (λ step. IfWhole step (λ request.
+            known_head self.new.progress.stage ≡ None)) }
         ensures fault { IfErr result (λ fault. IsFalse (is_of_stream fault)) }
     {
         if self.intake.is_empty() {
@@ -84,6 +91,11 @@ impl RequestFeed {
         requires empty { waiting self.old.intake ≡ [] }
         ensures answer { (seen : List ℕ) → IsFed self.old seen
             → FedTo (was_asked self.old.progress.stage) (seen ++ bytes.now) result self.new }
+        ensures head { (seen : List ℕ) → IsFed self.old seen
+            → IfErr result (λ fault. TellsHead (seen ++ bytes.now) fault
+            (known_head self.new.progress.stage)) }
+        ensures whole { IfOk result (λ step. IfWhole step (λ request.
+            known_head self.new.progress.stage ≡ None)) }
         ensures fault { IfErr result (λ fault. IsFalse (is_of_stream fault)) }
     {
         let RequestAdvance { step, taken } = self.progress.advance(bytes)?;
@@ -103,6 +115,11 @@ impl RequestFeed {
             → waiting self.old.intake ≡ before ++ bytes.now
             → IsFedStage self.old.progress.stage (waiting self.old.intake) seen
             → FedTo (was_asked self.old.progress.stage) seen result self.new }
+        ensures head { (seen : List ℕ)
+            → IsFedStage self.old.progress.stage (waiting self.old.intake) seen
+            → IfErr result (λ fault. TellsHead seen fault (known_head self.new.progress.stage)) }
+        ensures whole { IfOk result (λ step. IfWhole step (λ request.
+            known_head self.new.progress.stage ≡ None)) }
         ensures fault { IfErr result (λ fault. IsFalse (is_of_stream fault)) }
     {
         self.progress.see(bytes);
@@ -119,6 +136,9 @@ impl RequestFeed {
         requires { IsOpenStage self.old.progress.stage }
         ensures answer { (seen : List ℕ) → IsFed self.old seen
             → EndsTo (was_asked self.old.progress.stage) seen result }
+        ensures head { (seen : List ℕ) → IsFed self.old seen
+            → IfErr result (λ fault. TellsHead seen fault (known_head self.new.progress.stage)) }
+        ensures whole { IfOk result (λ request. known_head self.new.progress.stage ≡ None) }
         ensures read { IfErr result (λ fault. ¬ (fault ≡ request_fault.ReadFailed)) }
         ensures write { IfErr result (λ fault. ¬ (fault ≡ request_fault.WriteFailed)) }
     {
@@ -127,5 +147,12 @@ impl RequestFeed {
             RequestStep::Whole(request) => Ok(request),
             RequestStep::More | RequestStep::Continue => Err(RequestFault::Closed),
         }
+    }
+
+    /// The head, if it is known.
+    pub(crate) fn into_refused_head(self) -> Option<RefusedHead>
+        ensures { result ≡ known_head self.progress.stage }
+    {
+        self.progress.into_refused_head()
     }
 }

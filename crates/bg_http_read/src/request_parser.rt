@@ -1,8 +1,9 @@
 //! A parser of a request that is fed the bytes of the input as they arrive.
 ghost use Rattle.std.specs.Prelude.{◌≡◌, ◌<◌, ◌++◌, [], true, false, IfErr, IfOk, IfSome, IsFalse, IsTrue};
-ghost use Rattle.std.specs.Prelude.{List, ℕ, length};
+ghost use Rattle.std.specs.Prelude.{List, ℕ, None, length};
 ghost use Rattle.std.specs.Io.KnownBytes.{Keeps};
 ghost use Rattle.bg_http.specs.declared.request_fault.RequestFault.TheVariants as request_fault;
+ghost use Rattle.bg_http_read.specs.RefusedHeads.{TellsHead};
 ghost use Rattle.bg_http_read.specs.RequestStates.{FailsAsked, IfWhole, IsReadAsked, IsRefusedAsked};
 ghost use Rattle.bg_http_read.specs.RequestStates.{LacksRequest, OnContinue, OnMore, OwesContinue};
 ghost use Rattle.bg_http_read.specs.RequestStates.{ReadsAsked, goes_on, is_of_stream};
@@ -10,6 +11,7 @@ ghost use Rattle.bg_http_read.specs.Streams.{Arrives};
 
 use crate::arrival::{Arrival, Straight};
 use crate::intake::read_line_piece;
+use crate::refused_head::RefusedHead;
 use crate::request_feed::RequestFeed;
 use crate::request_step::RequestStep;
 use crate::seen::Seen;
@@ -42,12 +44,13 @@ impl Model for RequestParser {
 
     ghost Value = { RequestState };
 
-    ghost use Rattle.bg_http_read.specs.RequestsFed.{IsFed, was_asked};
+    ghost use Rattle.bg_http_read.specs.RequestsFed.{IsFed, head_after, was_asked};
 
     ghost view = { λ parser. record {
       seen = parser.seen.bytes;
       asked = was_asked parser.feed.progress.stage;
       is_open = parser.is_open;
+      refused = head_after parser.is_open parser.feed.progress.stage;
     } };
 
     ghost invariant = { λ parser. IsTrue parser.is_open → IsFed parser.feed parser.seen.bytes };
@@ -56,7 +59,7 @@ impl Model for RequestParser {
 impl RequestParser {
     /// A parser before the first byte of a request.
     pub fn new(alloc: Global) -> RequestParser
-        ensures { result ≡ record { seen = []; asked = false; is_open = true } }
+        ensures { result ≡ record { seen = []; asked = false; is_open = true; refused = None } }
     {
         RequestParser {
             feed: RequestFeed::new(alloc),
@@ -86,6 +89,9 @@ impl RequestParser {
             IsRefusedAsked self.old.asked fault (self.old.seen ++ bytes.now)) }
         ensures fault { IfErr result (λ fault. IsFalse (is_of_stream fault)) }
         ensures goes_on { self.new.is_open ≡ goes_on result }
+        ensures head { IfErr result (λ fault.
+            TellsHead (self.old.seen ++ bytes.now) fault self.new.refused) }
+        ensures no_head { IfOk result (λ step. IfWhole step (λ request. self.new.refused ≡ None)) }
     {
         self.seen.add(bytes);
         let answer = self.feed.feed(bytes);
@@ -135,8 +141,9 @@ impl RequestParser {
         self.finish()
     }
 
-    /// As `end`, for a caller that keeps the parser. It neither feeds nor ends the parser again.
-    pub(crate) fn finish(&mut self) -> Result<Request, RequestFault>
+    /// As `end`, for a caller that keeps the parser, such as one that needs the head of a refused
+    /// request. It neither feeds nor ends the parser again.
+    pub fn finish(&mut self) -> Result<Request, RequestFault>
         requires { IsTrue self.old.is_open }
         ensures request { IfOk result (λ request.
             ReadsAsked self.old.asked request self.old.seen) }
@@ -144,8 +151,22 @@ impl RequestParser {
             FailsAsked self.old.asked self.old.seen fault) }
         ensures read { IfErr result (λ fault. ¬ (fault ≡ request_fault.ReadFailed)) }
         ensures write { IfErr result (λ fault. ¬ (fault ≡ request_fault.WriteFailed)) }
+        ensures head { IfErr result (λ fault. TellsHead self.old.seen fault self.new.refused) }
+        ensures no_head { IfOk result (λ request. self.new.refused ≡ None) }
     {
         self.is_open = false;
         self.feed.end()
+    }
+
+    /// After `feed` or `finish` gave a fault: the head of the request. `None` if no head was parsed,
+    /// because it is malformed, too large or cut off, or because an allocation failed; and `None` if
+    /// the parser has given no fault.
+    pub fn into_refused_head(self) -> Option<RefusedHead>
+        ensures { result ≡ self.refused }
+    {
+        if self.is_open {
+            return None;
+        }
+        self.feed.into_refused_head()
     }
 }

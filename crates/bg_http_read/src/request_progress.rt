@@ -1,10 +1,12 @@
 //! The progress of reading a request.
-ghost use Rattle.std.specs.Prelude.{◌≡◌, ◌≤◌, [], false, List, ℕ, IfErr, IfOk, IsFalse, drop, length};
+ghost use Rattle.std.specs.Prelude.{◌≡◌, ◌≤◌, [], false, true, List, ℕ, IfErr, IfOk, IsFalse, drop, length};
+ghost use Rattle.std.specs.Prelude.{None, Some};
 ghost use Rattle.std.specs.Io.KnownBytes.{Keeps};
 ghost use Rattle.bg_http_read.specs.Bodies.{KeepsLimit};
-ghost use Rattle.bg_http_read.specs.RequestStates.{is_of_stream};
+ghost use Rattle.bg_http_read.specs.RefusedHeads.{TellsHead};
+ghost use Rattle.bg_http_read.specs.RequestStates.{IfWhole, is_of_stream};
 ghost use Rattle.bg_http_read.specs.RequestsFed.{Advances, AwaitsHead, IsAt, IsFedBody, IsFedStage};
-ghost use Rattle.bg_http_read.specs.RequestsFed.{IsOpenStage, stage_seen, was_asked};
+ghost use Rattle.bg_http_read.specs.RequestsFed.{IsOpenStage, known_head, stage_seen, was_asked};
 ghost use Rattle.bg_http_read.specs.Streams.{SeesStraight};
 ghost use Rattle.bg_http.specs.RequestRules.{owes_continue as owed};
 ghost use Rattle.bg_http_read.specs.declared.head_end.HeadEnd.TheVariants as end;
@@ -15,6 +17,7 @@ use crate::arrival::Straight;
 use crate::head_end::HeadEnd;
 use crate::head_limits::MOST_HEAD;
 use crate::intake::behind;
+use crate::refused_head::RefusedHead;
 use crate::request_body::RequestBody;
 use crate::request_head::find_request_head;
 use crate::request_step::RequestStep;
@@ -30,8 +33,9 @@ pub(crate) enum RequestStage {
     Head(HeadEnd),
     /// The body.
     Body(RequestBody),
-    /// Nothing: the parser has given an answer or a fault.
-    Done,
+    /// Nothing: the parser has given an answer or a fault. Has the head, if it was parsed before the
+    /// fault.
+    Done(Option<RefusedHead>),
 }
 
 /// The step that bytes lead to, and the number of bytes that were taken.
@@ -75,7 +79,7 @@ impl RequestProgress {
     {
         match &self.stage {
             RequestStage::Head(end) => end.is_over() || count >= MOST_HEAD,
-            RequestStage::Body(_) | RequestStage::Done => true,
+            RequestStage::Body(_) | RequestStage::Done(_) => true,
         }
     }
 
@@ -84,7 +88,7 @@ impl RequestProgress {
     pub(crate) fn line_limit(&self) -> usize {
         match &self.stage {
             RequestStage::Head(end) if !end.is_over() => MOST_HEAD,
-            RequestStage::Head(_) | RequestStage::Body(_) | RequestStage::Done => 0,
+            RequestStage::Head(_) | RequestStage::Body(_) | RequestStage::Done(_) => 0,
         }
     }
 
@@ -100,7 +104,7 @@ impl RequestProgress {
     {
         match &mut self.stage {
             RequestStage::Body(part) => part.body.read_from(stream, seen),
-            RequestStage::Head(_) | RequestStage::Done => Straight::Unread,
+            RequestStage::Head(_) | RequestStage::Done(_) => Straight::Unread,
         }
     }
 
@@ -110,12 +114,27 @@ impl RequestProgress {
         ensures fits { IfOk result (λ advance. advance.taken ≤ length bytes.now) }
         ensures answer { (seen : List ℕ) → IsFedStage self.old.stage bytes.now seen
             → Advances self.old.stage seen bytes.now result self.new.stage }
+        ensures head { (seen : List ℕ) → IsFedStage self.old.stage bytes.now seen
+            → IfErr result (λ fault. TellsHead seen fault (known_head self.new.stage)) }
+        ensures whole { IfOk result (λ advance. IfWhole advance.step (λ request.
+            known_head self.new.stage ≡ None)) }
         ensures fault { IfErr result (λ fault. IsFalse (is_of_stream fault)) }
     {
-        match mem::replace(&mut self.stage, RequestStage::Done) {
+        match mem::replace(&mut self.stage, RequestStage::Done(None)) {
             RequestStage::Head(_) => self.advance_head(bytes),
             RequestStage::Body(part) => self.advance_body(part, bytes, 0),
-            RequestStage::Done => Err(RequestFault::Bad),
+            RequestStage::Done(_) => Err(RequestFault::Bad),
+        }
+    }
+
+    /// The head, if it is known.
+    pub(crate) fn into_refused_head(self) -> Option<RefusedHead>
+        ensures { result ≡ known_head self.stage }
+    {
+        match self.stage {
+            RequestStage::Head(_) => None,
+            RequestStage::Body(part) => Some(part.into_refused_head()),
+            RequestStage::Done(refused) => refused,
         }
     }
 
@@ -124,6 +143,10 @@ impl RequestProgress {
     fn advance_head(&mut self, bytes: &[u8]) -> Result<RequestAdvance, RequestFault>
         ensures fits { IfOk result (λ advance. advance.taken ≤ length bytes.now) }
         ensures answer { Advances (part.Head end.Blank) bytes.now bytes.now result self.new.stage }
+        ensures head { known_head self.old.stage ≡ None
+            → IfErr result (λ fault. TellsHead bytes.now fault (known_head self.new.stage)) }
+        ensures whole { IfOk result (λ advance. IfWhole advance.step (λ request.
+            self.new.stage ≡ self.old.stage)) }
         ensures fault { IfErr result (λ fault. IsFalse (is_of_stream fault)) }
     {
         let Some((head, taken)) = find_request_head(self.alloc, bytes)? else {
@@ -133,9 +156,21 @@ impl RequestProgress {
                 taken: 0,
             });
         };
-        let framing = judge_request(&head)?;
-        let Ok(part) = RequestBody::new(self.alloc, head, framing) else {
-            return Err(RequestFault::OutOfMemory);
+        let framing = match judge_request(&head) {
+            Ok(framing) => framing,
+            Err(fault) => {
+                let is_sound = false;
+                self.stage = RequestStage::Done(Some(RefusedHead { head, is_sound }));
+                return Err(fault);
+            }
+        };
+        let part = match RequestBody::new(self.alloc, head, framing) {
+            Ok(part) => part,
+            Err(head) => {
+                let is_sound = true;
+                self.stage = RequestStage::Done(Some(RefusedHead { head, is_sound }));
+                return Err(RequestFault::OutOfMemory);
+            }
         };
         if part.owes_continue() {
             self.stage = RequestStage::Body(part);
@@ -161,9 +196,19 @@ impl RequestProgress {
             → owed part.head part.framing ≡ was_asked old
             → IsFedBody part (drop at bytes.now) seen
             → Advances old seen bytes.now result self.new.stage }
+        ensures head { IfErr result (λ fault. known_head self.new.stage
+            ≡ Some (record { head = part.head; is_sound = true })) }
+        ensures whole { IfOk result (λ advance. IfWhole advance.step (λ request.
+            self.new.stage ≡ self.old.stage)) }
         ensures fault { IfErr result (λ fault. IsFalse (is_of_stream fault)) }
     {
-        let taken = at + part.body.take_from(behind(bytes, at))?;
+        let taken = match part.body.take_from(behind(bytes, at)) {
+            Ok(count) => at + count,
+            Err(fault) => {
+                self.stage = RequestStage::Done(Some(part.into_refused_head()));
+                return Err(RequestFault::from(fault));
+            }
+        };
         if part.body.is_whole() {
             return Ok(RequestAdvance {
                 step: RequestStep::Whole(part.into_request()),

@@ -1,5 +1,5 @@
 //! A request, read from a stream.
-ghost use Rattle.std.specs.Prelude.{◌≡◌, ◌++◌, [], false, true, List, ℕ, Option, IfErr, IfNone, IfOk, IfSome, IsTrue, OnOk};
+ghost use Rattle.std.specs.Prelude.{◌≡◌, ◌++◌, [], false, true, List, ℕ, None, Option, IfErr, IfNone, IfOk, IfSome, IsTrue, OnOk};
 ghost use Rattle.std.specs.Io.KnownBytes.{Appends, Keeps};
 ghost use Rattle.bg_http_read.specs.Requests.{ReadsRequest, RequestFails, WritesContinue, WroteFor};
 ghost use Rattle.bg_http_read.specs.Requests.{continue_text};
@@ -73,7 +73,7 @@ fn feed_piece<S: Duplex>(
 
 /// Reads a request as `read_request` does, with a parser that was fed nothing.
 fn read_with<S: Duplex>(parser: &mut RequestParser, stream: &mut S) -> Result<Request, RequestFault>
-    requires { parser.old ≡ record { seen = []; asked = false; is_open = true } }
+    requires { parser.old ≡ record { seen = []; asked = false; is_open = true; refused = None } }
     ensures request { IfOk result (λ request. IfSome (S.remaining stream.old)
         (λ input. (rest : List ℕ) × ReadsRequest input request rest)) }
     ensures fault { IfErr result (λ fault. IfSome (S.remaining stream.old)

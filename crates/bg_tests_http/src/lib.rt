@@ -16,6 +16,8 @@ mod paced_stream;
 #[cfg(test)]
 mod passing;
 #[cfg(test)]
+mod refused_heads;
+#[cfg(test)]
 mod requests;
 #[cfg(test)]
 mod responses;

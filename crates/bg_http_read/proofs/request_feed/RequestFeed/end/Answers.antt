@@ -1,5 +1,6 @@
-use Rattle.std.proofs.Common.{subst, sym}
+use Rattle.std.proofs.Common.{drop, subst, sym}
 use Rattle.bg_http_read.specs.RequestsFed.{IsFedStage}
+use Rattle.bg_http_read.proofs.RefusedHeads.{tells_ended}
 use Rattle.bg_http_read.proofs.RequestSteps.{ends_err, read_here}
 use Rattle.bg_http_read.proofs.request_feed.RequestFeed.end.Goals as goal
 
@@ -13,3 +14,10 @@ pub returns-in-Whole-clause-answer : goal.returns-in-Whole-clause-answer
 returns-in-Whole-clause-answer c seen fed =
     let waits = subst (λ w. IsFedStage c.args.self.now.progress.stage w seen) (sym c.get.ensures) fed.fed in
     read_here _ c.in-Whole.request seen (rw c.in-Whole.is at c.in_ok-step.ensures.answer seen waits)
+
+pub returns-in-More-clause-head : goal.returns-in-More-clause-head
+returns-in-More-clause-head c seen fed =
+    let old = c.args.self.now.progress.stage in
+    let waits = subst (λ w. IsFedStage old w seen) (sym c.get.ensures) fed.fed in
+    tells_ended old c.advance.new.self.stage seen (drop c.in_ok-step.field-0.taken c.get.result.now) c.in_ok-step.field-0.step
+    (c.in_ok-step.ensures.answer seen waits) c.in-More.is

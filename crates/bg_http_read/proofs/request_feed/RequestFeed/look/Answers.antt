@@ -1,8 +1,9 @@
 use Rattle.std.proofs.Common.{Ok, drop, ap, subst, sym, ◌∙◌}
-use Rattle.bg_http_read.specs.RequestsFed.{IsFedStage, IsOpenStage, IsSeen, was_asked}
+use Rattle.bg_http_read.specs.RequestsFed.{IsFedStage, IsOpenStage, IsSeen, known_head, was_asked}
 use Rattle.bg_http_read.specs.Streams.{waiting}
 use Rattle.bg_http_read.specs.declared.request_feed.RequestFeed.{RequestFeed}
 use Rattle.bg_http_read.proofs.FedRequests.{asked_seen, awaits_more, fed_seen, open_seen, seen_behind}
+use Rattle.bg_http_read.proofs.RefusedHeads.{tells_err}
 use Rattle.bg_http_read.proofs.RequestSteps.{advanced, fed_asked, fed_err}
 use Rattle.bg_http_read.proofs.request_feed.RequestFeed.look.Goals as goal
 
@@ -50,3 +51,11 @@ returns-clause-answer c before seen sees is fed =
     (advanced c.see.new.self.stage seen (drop c.in_ok-step.field-0.taken c.get-2.result.now) at now
     (c.skip.ensures ∙ ap (drop c.in_ok-step.field-0.taken) (sym c.get-2.ensures))
     (c.in_ok-step.ensures.answer seen (subst (λ w. IsFedStage c.see.new.self.stage w seen) (sym c.get-2.ensures) stage)))
+
+pub returns-in_err-step-clause-head : goal.returns-in_err-step-clause-head
+returns-in_err-step-clause-head c seen fed =
+    let old = c.args.self.now.progress.stage in
+    let waits = waiting c.args.self.now.intake in
+    let stage = subst (λ s. IsFedStage s waits seen) (sym c.see.ensures) (fed_seen old waits seen c.args.bytes.now fed) in
+    tells_err _ _ seen c.in_err-step.field-0.0 (known_head c.advance.new.self.stage) c.from_residual.ensures.1
+    (c.in_err-step.ensures.head seen (subst (λ w. IsFedStage c.see.new.self.stage w seen) (sym c.get-2.ensures) stage))
