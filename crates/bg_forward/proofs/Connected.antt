@@ -1,6 +1,6 @@
 -- Lemmas on the bytes that were written to a client: first while its request was read, then at the
 -- end.
-use Rattle.std.proofs.Common.{ℕ, Bool, true, false, if◌then◌else◌, IfSome, List, [], Option}
+use Rattle.std.proofs.Common.{ℕ, Bool, true, false, if◌then◌else◌, IfErr, IfOk, IfSome, List, [], Option}
 use Rattle.std.proofs.Common.{Some, None, Ok, Err, inl, inr, refl, sym, ◌∙◌, append-nil}
 use Rattle.std.specs.Io.KnownBytes.{Appends, Keeps}
 use Rattle.std.proofs.KnownBytes.{Appends-trans}
@@ -10,12 +10,19 @@ use Rattle.bg_http.specs.Statuses.{request_status}
 use Rattle.bg_http.specs.declared.request.Request.{Request}
 use Rattle.bg_http.specs.declared.request_fault.RequestFault.{RequestFault}
 use Rattle.bg_http.specs.declared.request_fault.RequestFault.TheVariants as fault
-use Rattle.bg_http_read.specs.Requests.{AnswersHead, RequestFails, WritesContinue, WroteFor}
-use Rattle.bg_http_read.specs.Requests.{WroteOnFault, continue_text}
+use Rattle.bg_http_read.specs.Requests.{AnswersHead, ReadsRequest, RequestFails, WritesContinue}
+use Rattle.bg_http_read.specs.Requests.{WroteFor, WroteOnFault, continue_text}
 use Rattle.bg_forward.specs.Connections.{Connection, EndsBy, IsInterim, IsLastText, IsOwed, MayEnd}
 use Rattle.bg_forward.specs.Connections.{ReadOutcome, ReadsAs, Wrote, WroteLast, WroteUnlessFailed}
 use Rattle.bg_forward.specs.declared.serving.End.{End}
 use Rattle.bg_forward.specs.declared.serving.End.TheVariants as end
+
+-- the outcome of a read is what its clauses say of the request and of the fault
+pub reads_as : (input : Option (List ℕ)) (read : ReadOutcome)
+    → IfOk read (λ request. IfSome input (λ bytes. (rest : List ℕ) × ReadsRequest bytes request rest))
+    → IfErr read (λ fault. IfSome input (λ bytes. RequestFails bytes fault)) → ReadsAs input read
+reads_as input (Ok request) reads fails = reads
+reads_as input (Err f) reads fails = fails
 
 kept : (old new : Option (List ℕ)) → Keeps old new → Appends old new []
 kept None new k = tt
@@ -82,7 +89,7 @@ module _ (input old mid new : Option (List ℕ)) (read : ReadOutcome) (b : Began
 
 module _ (input old mid new : Option (List ℕ)) where
   -- a request was read
-  pub served : (request : Request) (entered : Option Ticket) (e : End) → ReadsAs input (Ok request)
+  served : (request : Request) (entered : Option Ticket) (e : End) → ReadsAs input (Ok request)
       → AnswersHead input old mid → MayEnd (Ok request) entered e → WroteLast mid new (Ok request) e
       → Connection input old new entered e
   served request entered e reads head may_end last =
@@ -108,7 +115,7 @@ module _ (input old mid new : Option (List ℕ)) where
   }
 
   -- no request was read
-  pub turned_away : (f : RequestFault) (e : End) → IfSome input (λ bytes. RequestFails bytes f)
+  turned_away : (f : RequestFault) (e : End) → IfSome input (λ bytes. RequestFails bytes f)
       → WroteFor input old mid (Err f) → EndsBy (request_status f) f e → WroteLast mid new (Err f) e
       → Connection input old new None e
   turned_away fault.WriteFailed e fails wrote ends last = record {
@@ -124,3 +131,11 @@ module _ (input old mid new : Option (List ℕ)) where
   turned_away fault.NotDone e fails wrote ends last = refused fault.NotDone e fails wrote ends last
   turned_away fault.TooLarge e fails wrote ends last = refused fault.TooLarge e fails wrote ends last
   turned_away fault.OutOfMemory e fails wrote ends last = refused fault.OutOfMemory e fails wrote ends last
+
+  -- the request or its fault was received, and then the connection ended
+  pub connected : (read : ReadOutcome) (entered : Option Ticket) (e : End) → ReadsAs input read
+      → WroteFor input old mid read → MayEnd read entered e → WroteLast mid new read e
+      → Connection input old new entered e
+  connected (Ok request) entered e reads wrote may_end last = served request entered e reads wrote may_end last
+  connected (Err f) None e reads wrote may_end last = turned_away f e reads wrote may_end last
+  connected (Err f) (Some t) e reads wrote may_end last = absurd may_end

@@ -1,8 +1,8 @@
 //! Serves a connection from its request to its answer, and runs workers that do so in parallel.
 //!
 //! Each worker has its own seat. A request enters at a [`Gate`] before it is forwarded, and leaves
-//! there after the answer, on every path. [`Accept`] gives the connections of clients and [`Dial`]
-//! those to endpoints, so all of it also runs over memory.
+//! there after the answer, on every path. [`Accept`] gives the clients whose requests were received, and
+//! [`Dial`] the connections to endpoints, so all of it also runs over memory.
 #![tactic(auto)]
 
 mod buffered;
@@ -20,6 +20,6 @@ pub use desk_gate::DeskGate;
 pub use gate::Gate;
 pub use in_memory::{InMemoryResult, serve_in_memory};
 pub use reason::Reason;
-pub use serving::{End, Served, Worker, serve_one};
-pub use streams::{Accept, ClientStream, Dial, Dialled, Route};
+pub use serving::{End, Served, Worker, serve_one, serve_received};
+pub use streams::{Accept, Arrived, ClientStream, Dial, Dialled, Route};
 pub use workers::{WorkerContext, run_workers};

@@ -1,9 +1,10 @@
 //! One connection, from its request to its answer.
-ghost use Rattle.std.specs.Prelude.{◌≡◌, ◌+◌, ◌<◌, [], IfSome, Ok, Err};
+ghost use Rattle.std.specs.Prelude.{◌≡◌, ◌+◌, ◌<◌, [], ℕ, List, Option, IfSome, Ok, Err};
 ghost use Rattle.bg_forward.specs.Routes.{IsRouted};
 ghost use Rattle.bg_http.specs.Statuses.{request_status};
+ghost use Rattle.bg_http_read.specs.Requests.{WroteFor};
 ghost use Rattle.bg_forward.specs.Buffers.{held, stream_of};
-ghost use Rattle.bg_forward.specs.Connections.{Connection, EndsBy, MayEnd, WroteLast};
+ghost use Rattle.bg_forward.specs.Connections.{Connection, EndsBy, MayEnd, ReadsAs, WroteLast};
 ghost use Rattle.bg_forward.specs.Reasons.{TellsWhy};
 ghost use Rattle.bg_forward.specs.Seats.{calls_made, seat_after};
 
@@ -13,7 +14,7 @@ use crate::gate::Gate;
 use crate::reason::Reason;
 use crate::streams::{ClientStream, Dial, Route};
 use bg_book::Ticket;
-use bg_http::{Request, RequestFault};
+use bg_http::{Duplex, Request, RequestFault};
 use bg_http_read::read_request;
 use bg_ledger::{Names, Seat};
 use bg_revisions::Service;
@@ -60,24 +61,9 @@ pub struct Worker<'a, G, D> {
     pub service: Service,
 }
 
-/// Serves one client on a seat that is out: reads its whole request, enters, dials for the ticket's
-/// port, forwards the request, reads the response, writes it, and leaves. The seat is out at the
-/// end, also after a failure.
-///
-/// A request that cannot be read does not enter. It is answered with its fault's status
-/// (`RequestFault::status`), or not at all if the fault has none. If the gate refuses the request,
-/// the answer is 503. If the endpoint cannot be dialled or written to, or its response cannot be
-/// read, the answer is 502; it is 503 if an allocation failed while the response was read. The gate
-/// is asked once after the dial and before each read of the response. If it gives the request up,
-/// the connection to the endpoint is closed, and the answer is 503. The client's stream is asked too
-/// before each read of the response. If the client has gone, the request ends in the same way, and
-/// writing the 503 usually fails. So a client that has gone does not hold a seat and an endpoint
-/// (nginx's `proxy_ignore_client_abort off`). The request leaves after its answer or refusal was
-/// written or the write failed.
-///
-/// The writes to the client and to the endpoint go through a buffer, which is flushed before the
-/// next step. A failed flush counts as a failed write.
-pub fn serve_one<N: Names, G: Gate<N>, S: ClientStream, D: Dial>(
+/// Serves one client on a seat that is out: reads its whole request, and then serves it as
+/// `serve_received` does. The seat is out at the end, also after a failure.
+pub fn serve_one<N: Names, G: Gate<N>, S: ClientStream + Duplex, D: Dial>(
     worker: &Worker<G, D>,
     seat: &mut Seat<N>,
     client: &mut Buffered<S>,
@@ -97,10 +83,59 @@ pub fn serve_one<N: Names, G: Gate<N>, S: ClientStream, D: Dial>(
         (S.contents (stream_of client.old)) (S.contents (stream_of client.new))
         result.entered result.end }
 {
-    match read_request(worker.alloc, &mut client.stream) {
-        Ok(request) => serve_request(worker, seat, &request, client),
+    let received = read_request(worker.alloc, &mut client.stream);
+    serve_received(worker, seat, &received, client)
+}
+
+/// Serves one client whose request was received, on a seat that is out: enters, dials for the
+/// ticket's port, forwards the request, reads the response, writes it, and leaves. The seat is out at
+/// the end, also after a failure. Nothing is read from the client.
+///
+/// `received` is the request or its fault. The last clause says what follows if it is what
+/// `read_request` gives for some bytes of the client: then the whole connection is one of these bytes,
+/// with what was written to the client while its request was read.
+///
+/// A request that cannot be read does not enter. It is answered with its fault's status
+/// (`RequestFault::status`), or not at all if the fault has none. If the gate refuses the request,
+/// the answer is 503. If the endpoint cannot be dialled or written to, or its response cannot be
+/// read, the answer is 502; it is 503 if an allocation failed while the response was read. The gate
+/// is asked once after the dial and before each read of the response. If it gives the request up,
+/// the connection to the endpoint is closed, and the answer is 503. The client's stream is asked too
+/// before each read of the response. If the client has gone, the request ends in the same way, and
+/// writing the 503 usually fails. So a client that has gone does not hold a seat and an endpoint
+/// (nginx's `proxy_ignore_client_abort off`). The request leaves after its answer or refusal was
+/// written or the write failed.
+///
+/// The writes to the client and to the endpoint go through a buffer, which is flushed before the
+/// next step. A failed flush counts as a failed write.
+pub fn serve_received<N: Names, G: Gate<N>, S: ClientStream, D: Dial>(
+    worker: &Worker<G, D>,
+    seat: &mut Seat<N>,
+    received: &Result<Request, RequestFault>,
+    client: &mut Buffered<S>,
+) -> Served
+    requires out { seat.old.number ≡ 0 }
+    requires empty { held client.old ≡ [] }
+    ensures out { seat.new.number ≡ 0 }
+    ensures index { seat.new.index ≡ seat.old.index }
+    ensures calls { seat.new.calls ≡ seat.old.calls + calls_made result.entered }
+    ensures seat { seat.new ≡ seat_after seat.old result.entered }
+    ensures number { IfSome result.entered (λ t. 0 < t.number) }
+    ensures gives { IfSome result.entered
+        (λ t. G.gives worker.now.gate.now worker.now.service seat.old t) }
+    ensures route { IsRouted (D.routes worker.now.dial.now) result.entered result.route }
+    ensures why { TellsWhy result.end result.reason }
+    ensures may_end { MayEnd received.now result.entered result.end }
+    ensures wrote { WroteLast (S.contents (stream_of client.old))
+        (S.contents (stream_of client.new)) received.now result.end }
+    ensures client { (input before : Option (List ℕ)) → ReadsAs input received.now
+        → WroteFor input before (S.contents (stream_of client.old)) received.now
+        → Connection input before (S.contents (stream_of client.new)) result.entered result.end }
+{
+    match received {
+        Ok(request) => serve_request(worker, seat, request, client),
         Err(fault) => {
-            let outcome = refuse_fault(fault, client);
+            let outcome = refuse_fault(*fault, client);
             Served {
                 entered: None,
                 route: None,

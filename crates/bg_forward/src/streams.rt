@@ -4,7 +4,7 @@ ghost use Rattle.std.specs.Io.KnownBytes.{Keeps};
 ghost use Rattle.bg_forward.specs.declared.streams.Route.{Route};
 
 use crate::serving::Served;
-use bg_http::{Duplex, MemoryStream};
+use bg_http::{MemoryStream, Request, RequestFault};
 use bg_revisions::Service;
 use std::io;
 use std::io::{Read, Write};
@@ -51,17 +51,16 @@ pub trait Dial {
         ensures { Self.routes self.now port result.route };
 }
 
-/// A connection of a client. It says whether the client still waits for its answer.
-pub trait ClientStream: Duplex {
+/// A connection of a client whose request was received. Its answer is written to it, and it says whether
+/// the client still waits for the answer.
+pub trait ClientStream: Write {
     /// Whether the client has closed or reset its connection, so that no answer can reach it. A
     /// client that has only shut its writing side has not gone: it still reads (RFC 9112 section
     /// 9.6).
     ///
-    /// It changes neither the bytes that are left to read nor those that were written. It is called
-    /// before each read of an endpoint's response, so it must not wait. The implementation decides
-    /// how often it asks the system.
+    /// It does not change the bytes that were written. It is called before each read of an endpoint's
+    /// response, so it must not wait. The implementation decides how often it asks the system.
     fn has_gone(&mut self) -> bool
-        ensures left { Keeps (Self.remaining self.old) (Self.remaining self.new) }
         ensures kept { Keeps (Self.contents self.old) (Self.contents self.new) };
 }
 
@@ -76,16 +75,27 @@ impl ClientStream for MemoryStream<'_> {
     }
 }
 
-/// Gives the connections of clients, and ends them. All workers share it.
+/// A client whose request is over.
+#[derive(Drop)]
+pub struct Arrived<S> {
+    /// The client's connection.
+    pub stream: S,
+    /// The request, or its fault.
+    pub received: Result<Request, RequestFault>,
+}
+
+/// Gives the clients whose requests are over, and ends their connections. All workers share it.
 pub trait Accept {
     /// A connection of a client.
     type Stream: ClientStream + Drop;
 
-    /// Waits for the next client of a service. `None` means that no further connection comes; the
-    /// worker that gets it asks no more. An error counts as one connection.
-    fn accept(&self, service: Service) -> io::Result<Option<Self::Stream>>;
+    /// Waits for the next client of a service whose request is over: it was received whole, it has a
+    /// fault, or the client ended it. `None` means that no further client comes; the worker that gets
+    /// it asks no more. An error counts as one connection.
+    fn accept(&self, service: Service) -> io::Result<Option<Arrived<Self::Stream>>>;
 
-    /// Ends the connection of a client after its seat is out. `served` is the outcome of the
-    /// connection. If no request entered, the client may still be sending it.
-    fn close(&self, client: Self::Stream, served: &Served);
+    /// Ends the connection of a client after its seat is out. `client` is what `accept` gave, after
+    /// its answer was written, and `served` is the outcome of the connection. If no request entered,
+    /// the client may still be sending it.
+    fn close(&self, client: Arrived<Self::Stream>, served: &Served);
 }

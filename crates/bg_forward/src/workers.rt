@@ -4,8 +4,8 @@ ghost use Rattle.bg_forward.specs.Seats.{AllOut, AllWorked, Worked};
 
 use crate::buffered::Buffered;
 use crate::gate::Gate;
-use crate::serving::{Worker, serve_one};
-use crate::streams::{Accept, Dial};
+use crate::serving::{Worker, serve_received};
+use crate::streams::{Accept, Arrived, Dial};
 use bg_ledger::{Names, Seat};
 use bg_revisions::Service;
 use std::alloc::Global;
@@ -18,7 +18,7 @@ pub struct WorkerContext<'a, G, A, D> {
     pub alloc: Global,
     /// Where their requests enter and leave.
     pub gate: &'a G,
-    /// Gives them the connections of clients.
+    /// Gives them the clients whose requests are over.
     pub accept: &'a A,
     /// Opens their connections to endpoints.
     pub dial: &'a D,
@@ -77,13 +77,14 @@ fn work<N: Names, G: Gate<N>, A: Accept, D: Dial>(
         service,
     };
     for _ in 0..count {
-        let stream = match context.accept.accept(service) {
-            Ok(Some(stream)) => stream,
+        let Arrived { stream, received } = match context.accept.accept(service) {
+            Ok(Some(arrived)) => arrived,
             Ok(None) => break,
             Err(_) => continue,
         };
         let mut client = Buffered::new(context.alloc, stream);
-        let served = serve_one(&worker, seat, &mut client);
-        context.accept.close(client.into_inner(), &served);
+        let served = serve_received(&worker, seat, &received, &mut client);
+        let stream = client.into_inner();
+        context.accept.close(Arrived { stream, received }, &served);
     }
 }

@@ -1,7 +1,7 @@
 //! Connections with an expected end, a row each: what is forwarded and answered byte for byte, and what is refused, is
 //! interrupted or fails. The refusals have one row for each status: bg_tests_http has the messages.
 
-use crate::connections::{SOUND, Setting};
+use crate::connections::{Outcome, Receiving, SOUND, Setting};
 use crate::fakes::{Interruptions, Pace, STEADY};
 use crate::messages::{
     CHUNKS_ON, EXPECTS, EXPECTS_ANSWERED, EXPECTS_ON, EXPECTS_REFUSED, Expected, GET_ON, expect,
@@ -15,8 +15,8 @@ use std::sync::Wait;
 use std::test::Fail;
 
 /// A connection, and its expected outcome.
-struct Case {
-    setting: Setting<'static>,
+pub struct Case {
+    pub setting: Setting<'static>,
     end: End,
     /// The bytes that are written to the client. With the end `Refused` and no bytes it is the refusal with that status.
     written: &'static str,
@@ -97,7 +97,7 @@ const WAITING: Setting<'static> = Setting {
     ..SOUND
 };
 
-static CASES: [Case; 31] = [
+pub static CASES: [Case; 33] = [
     ANSWERED,
     Case {
         setting: Setting {
@@ -208,6 +208,24 @@ static CASES: [Case; 31] = [
             ..SOUND
         },
         end: End::Closed,
+        ..NOT_ENTERED
+    },
+    Case {
+        setting: Setting {
+            name: "the first read of the client",
+            client: FAILS_TO_BE_READ,
+            ..SOUND
+        },
+        end: End::ReadFailed,
+        ..NOT_ENTERED
+    },
+    Case {
+        setting: Setting {
+            name: "100 Continue that cannot be written",
+            client: FAILS_TO_BE_WRITTEN,
+            ..WAITING
+        },
+        end: End::WriteFailed,
         ..NOT_ENTERED
     },
     // requests that the gate does not admit
@@ -425,20 +443,35 @@ fn written(case: &Case) -> &'static str {
     }
 }
 
-/// Serves the connections of cases.
+/// Serves the connection of a case, whose request is received in this way.
+pub fn check_case<R: Abort + Wait>(
+    rt: &R,
+    alloc: Global,
+    case: &Case,
+    receiving: Receiving,
+) -> Result<Outcome, Fail> {
+    let name = case.setting.name;
+    let setting = Setting {
+        receiving,
+        ..case.setting
+    };
+    let expected = Expected {
+        end: case.end,
+        written: written(case),
+        calls: case.calls,
+    };
+    let outcome = expect(rt, alloc, &setting, expected)?;
+    let writes = case.writes.unwrap_or(outcome.client.writes);
+    assert_eq!(rt; outcome.dialled, case.dialled, "{name}");
+    assert_eq!(rt; outcome.forwarded, case.forwarded, "{name}");
+    assert_eq!(rt; outcome.client.writes, writes, "{name}");
+    Ok(outcome)
+}
+
+/// Serves the connections of cases, and reads their requests while they are served.
 fn check<R: Abort + Wait>(rt: &R, alloc: Global, cases: &[Case]) -> Result<(), Fail> {
     for case in cases {
-        let name = case.setting.name;
-        let expected = Expected {
-            end: case.end,
-            written: written(case),
-            calls: case.calls,
-        };
-        let outcome = expect(rt, alloc, &case.setting, expected)?;
-        let writes = case.writes.unwrap_or(outcome.client.writes);
-        assert_eq!(rt; outcome.dialled, case.dialled, "{name}");
-        assert_eq!(rt; outcome.forwarded, case.forwarded, "{name}");
-        assert_eq!(rt; outcome.client.writes, writes, "{name}");
+        let _outcome = check_case(rt, alloc, case, Receiving::WhileServed)?;
     }
     Ok(())
 }

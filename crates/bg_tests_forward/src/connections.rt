@@ -10,8 +10,10 @@ use crate::messages::{CHUNKS, GET, GET_ON};
 use crate::samples::strategy;
 use bg_audit::audit;
 use bg_book::{Desk, Limits, laws as book_laws};
-use bg_forward::{Buffered, DeskGate, Dial, End, Gate, Served, Worker, serve_one};
+use bg_forward::{Buffered, DeskGate, Dial, End, Gate, Served, Worker, serve_one, serve_received};
 use bg_history::History;
+use bg_http::{Request, RequestFault};
+use bg_http_read::read_request;
 use bg_ledger::{Blanks, Names, Seat};
 use bg_revisions::Service;
 use bg_strategy::Strategy;
@@ -24,6 +26,20 @@ use std::test::Fail;
 /// The port of the first request that enters.
 pub const FIRST_PORT: u16 = 9002;
 
+/// How the request of a connection is received.
+#[derive(Clone, Copy, Drop)]
+pub enum Receiving {
+    /// `serve_one` reads it from the client.
+    WhileServed,
+    /// It is read from the client, and then `serve_received` serves it.
+    Before,
+    /// Nothing is read, and `serve_received` serves this fault.
+    Fault(RequestFault),
+}
+
+/// A request that was received, or its fault.
+type Received = Result<Request, RequestFault>;
+
 /// A connection, with its client, gate and endpoint.
 #[derive(Clone, Copy, Drop)]
 pub struct Setting<'a> {
@@ -34,6 +50,7 @@ pub struct Setting<'a> {
     /// The further bytes that it sends after `100 Continue` was written to it.
     pub rest: &'a str,
     pub client: Pace,
+    pub receiving: Receiving,
     pub service: Service,
     /// Whether the gate admits no request.
     pub shut: bool,
@@ -56,6 +73,7 @@ pub const SOUND: Setting<'static> = Setting {
     request: GET,
     rest: "",
     client: STEADY,
+    receiving: Receiving::WhileServed,
     service: Service::Active,
     shut: false,
     cut_at: 0,
@@ -75,6 +93,15 @@ impl<'a> Setting<'a> {
             self.rest.as_bytes(),
             self.client,
         )
+    }
+
+    /// What is received from the client before it is served, if anything is.
+    fn receive(&self, alloc: Global, client: &mut FakeStream) -> Option<Received> {
+        match self.receiving {
+            Receiving::WhileServed => None,
+            Receiving::Before => Some(read_request(alloc, client)),
+            Receiving::Fault(fault) => Some(Err(fault)),
+        }
     }
 
     fn endpoint(&self, alloc: Global, seen: &'a Seen) -> Endpoint<'a> {
@@ -100,6 +127,8 @@ pub struct Outcome {
     /// The numbers of reads and writes of the client, and of the endpoint.
     pub client: Uses,
     pub endpoint: Uses,
+    /// The number of reads of the client while it was served.
+    pub reads_while_served: u64,
     /// The number of times that the gate was asked whether the request goes on, and that the client's stream was
     /// asked whether the client has gone.
     pub questions: u64,
@@ -118,12 +147,21 @@ pub struct Outcome {
     pub dropped: u64,
 }
 
+/// A connection, and what was received from its client before it is served.
+#[derive(Clone, Copy, Drop)]
+struct Reception<'a> {
+    setting: &'a Setting<'a>,
+    received: Option<&'a Received>,
+}
+
 /// A connection, and what serves it.
 #[derive(Drop)]
 struct Trial<'a, R, D> {
     rt: &'a R,
     alloc: Global,
     setting: &'a Setting<'a>,
+    /// What was received before; `None` if the request is read while the connection is served.
+    received: Option<&'a Received>,
     dial: &'a D,
     /// The number of times that the gate of the desk was asked whether the request goes on.
     questions: &'a AtomicU64,
@@ -153,7 +191,10 @@ fn serve_first<N: Names, R, G: Gate<N>, D: Dial>(
         dial: trial.dial,
         service: trial.setting.service,
     };
-    Some(serve_one(&worker, seat, client))
+    Some(match trial.received {
+        Some(received) => serve_received(&worker, seat, received, client),
+        None => serve_one(&worker, seat, client),
+    })
 }
 
 /// Serves the client through the gate of a desk, which counts its questions, or at a gate that is
@@ -235,15 +276,35 @@ pub fn serve<R: Wait>(
     setting: &Setting,
     answer: &str,
 ) -> Result<Option<Outcome>, Fail> {
+    let mut stream = setting.stream(alloc);
+    let received = setting.receive(alloc, &mut stream);
+    let reception = Reception {
+        setting,
+        received: received.as_ref(),
+    };
+    serve_stream(rt, alloc, &reception, stream, answer)
+}
+
+/// Serves the connection over the stream of its client.
+fn serve_stream<R: Wait>(
+    rt: &R,
+    alloc: Global,
+    reception: &Reception,
+    stream: FakeStream,
+    answer: &str,
+) -> Result<Option<Outcome>, Fail> {
+    let setting = reception.setting;
+    let before = stream.uses().reads;
     let strategy = strategy(alloc)?;
     let seen = Seen::new();
     let questions = AtomicU64::new(0);
     let endpoint = setting.endpoint(alloc, &seen);
-    let mut client = Buffered::new(alloc, setting.stream(alloc));
+    let mut client = Buffered::new(alloc, stream);
     let trial = Trial {
         rt,
         alloc,
         setting,
+        received: reception.received,
         dial: &endpoint,
         questions: &questions,
     };
@@ -259,6 +320,7 @@ pub fn serve<R: Wait>(
         is_of_answer: answer.as_bytes().starts_with(stream.shows()),
         client: stream.uses(),
         endpoint: seen.uses(),
+        reads_while_served: stream.uses().reads.saturating_sub(before),
         questions: questions.load(Ordering::SeqCst),
         client_questions: stream.questions(),
         calls: closed.calls,

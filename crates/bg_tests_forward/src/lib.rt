@@ -23,6 +23,8 @@ mod one_fault;
 #[cfg(test)]
 mod ports;
 #[cfg(test)]
+mod received;
+#[cfg(test)]
 mod samples;
 #[cfg(test)]
 mod worker_counts;

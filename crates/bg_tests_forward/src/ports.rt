@@ -1,8 +1,8 @@
 //! Client ports, which give their workers what a test says.
 
-use crate::fakes::{FakeStream, STEADY};
+use crate::fakes::FakeStream;
 use crate::messages::{CHUNKS_ON, GET, refusal};
-use bg_forward::{Accept, Served};
+use bg_forward::{Accept, Arrived, Served};
 use bg_revisions::Service;
 use std::alloc::Global;
 use std::io;
@@ -78,7 +78,7 @@ pub struct Ports<'a> {
 impl Accept for Ports<'_> {
     type Stream = FakeStream<'static>;
 
-    fn accept(&self, service: Service) -> io::Result<Option<FakeStream<'static>>> {
+    fn accept(&self, service: Service) -> io::Result<Option<Arrived<FakeStream<'static>>>> {
         let accepts = match service {
             Service::Active => &self.counts.active_accepts,
             Service::Preview => &self.counts.preview_accepts,
@@ -90,14 +90,14 @@ impl Accept for Ports<'_> {
         };
         match next {
             NextClient::Client(request) => {
-                Ok(Some(FakeStream::new(self.alloc, request.as_bytes(), STEADY)))
+                Ok(Some(FakeStream::arrived(self.alloc, request.as_bytes())))
             }
             NextClient::Fails => Err(io::Error::from(ErrorKind::ConnectionAborted)),
             NextClient::Ends => Ok(None),
         }
     }
 
-    fn close(&self, client: FakeStream<'static>, served: &Served) {
+    fn close(&self, client: Arrived<FakeStream<'static>>, served: &Served) {
         // a request that entered was read to its end
         let ended = if served.entered.is_some() {
             &self.counts.whole
@@ -105,10 +105,11 @@ impl Accept for Ports<'_> {
             &self.counts.other
         };
         ended.fetch_add(1, Ordering::SeqCst);
-        if client.shows() == CHUNKS_ON.as_bytes() {
+        let stream = &client.stream;
+        if stream.shows() == CHUNKS_ON.as_bytes() {
             self.counts.answered.fetch_add(1, Ordering::SeqCst);
         }
-        if client.shows() == refusal(503).as_bytes() {
+        if stream.shows() == refusal(503).as_bytes() {
             self.counts.unavailable.fetch_add(1, Ordering::SeqCst);
         }
     }

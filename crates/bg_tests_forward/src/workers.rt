@@ -10,9 +10,9 @@ use crate::messages::{CHUNKS, CHUNKS_ON, GET};
 use crate::samples::strategy;
 use bg_book::{Control, Desk, EnterFault, GoOn, Left, Limits, Ticket, laws as book_laws};
 use bg_forward::{
-    Accept, ClientStream, DeskGate, Dial, Dialled, Gate, Served, WorkerContext, run_workers,
+    Accept, Arrived, ClientStream, DeskGate, Dial, Dialled, Gate, Served, WorkerContext,
+    run_workers,
 };
-use bg_http::Duplex;
 use bg_ledger::{Blanks, Names, Seat};
 use bg_revisions::Service;
 use std::alloc::Global;
@@ -75,17 +75,11 @@ struct Clients<'a> {
     counts: &'a WorkerCounts,
 }
 
-/// A client that reports when it was answered.
+/// A client that reports when it was answered. Nothing can be read from it.
 #[derive(Drop)]
 struct Client<'a> {
     stream: FakeStream<'a>,
     counts: &'a WorkerCounts,
-}
-
-impl Read for Client<'_> {
-    fn read(&mut self, buf: &mut [u8]) -> io::Result<usize> {
-        self.stream.read(buf)
-    }
 }
 
 impl Write for Client<'_> {
@@ -101,16 +95,6 @@ impl Write for Client<'_> {
     }
 }
 
-impl Duplex for Client<'_> {
-    fn receive(&mut self, buf: &mut [u8]) -> io::Result<usize> {
-        self.read(buf)
-    }
-
-    fn send(&mut self, bytes: &[u8]) -> io::Result<()> {
-        self.write_all(bytes)
-    }
-}
-
 impl ClientStream for Client<'_> {
     fn has_gone(&mut self) -> bool {
         self.stream.has_gone()
@@ -120,14 +104,19 @@ impl ClientStream for Client<'_> {
 impl<'a> Accept for Clients<'a> {
     type Stream = Client<'a>;
 
-    fn accept(&self, _service: Service) -> io::Result<Option<Client<'a>>> {
-        Ok(Some(Client {
-            stream: FakeStream::new(self.alloc, GET.as_bytes(), STEADY),
+    fn accept(&self, _service: Service) -> io::Result<Option<Arrived<Client<'a>>>> {
+        let Arrived { stream, received } = FakeStream::arrived(self.alloc, GET.as_bytes());
+        let client = Client {
+            stream,
             counts: self.counts,
+        };
+        Ok(Some(Arrived {
+            stream: client,
+            received,
         }))
     }
 
-    fn close(&self, _client: Client<'a>, _served: &Served) {}
+    fn close(&self, _client: Arrived<Client<'a>>, _served: &Served) {}
 }
 
 /// An endpoint whose first connection waits until a client was answered.
