@@ -4,9 +4,9 @@ use Rattle.std.proofs.Common.{refl, sym, ap, subst, ◌∙◌, inl, inr, arith, 
 use Rattle.std.proofs.lemmas.Bool.{and_parts, cases_eq}
 use Rattle.bg_port.proofs.RegisterLemmas.{at-other, at-same, within}
 use Rattle.bg_port.specs.Events.{Advances, AllAdvance, Event, EventsAdvance, PlaceAdvances, bytes_of}
-use Rattle.bg_port.specs.Events.{accepted, awaits_close, ended, ended_by_worker, fed, gave, left, passed, shut_side, stopping, written, wrote_rest}
+use Rattle.bg_port.specs.Events.{accepted, awaits_close, ended, ended_by_worker, fed, gave, left, passed, shut_side, stopping, turning, written, wrote_rest}
 use Rattle.bg_port.specs.Outgoing.{Outgoing, whole, with_written}
-use Rattle.bg_port.specs.Ports.{EndsAt, EndsFrom, FeedsAt, FeedsFrom, Gives, changed_by, changed_from, discard_by, handed, is_accepted, is_held, shut_by, stepped, write_by}
+use Rattle.bg_port.specs.Ports.{EndsAt, EndsFrom, FeedsAt, FeedsFrom, Gives, changed_by, changed_from, discard_by, handed, is_accepted, is_held, shut_by, stepped, turn_by, write_by}
 use Rattle.bg_port.specs.Received.{IsAnswer}
 use Rattle.bg_port.specs.Registers.{Enters, Register, accepted_at, at, takeable, unless_waiting}
 use Rattle.bg_port.specs.Stages.{EndsInput, Feeds, ReadsOn, as_reading, is_just_accepted, is_waiting, is_with_worker, shut_from, stopped}
@@ -158,6 +158,18 @@ discard_ok count now (stage.Lingering l) = from _ _ where
   from : (b : Bool) (m : Lingering) → Advances [] (stage.Lingering l) (cond b (Some (stage.Lingering m)) None)
   from true m = (omega arith, tt)
   from false m = refl
+
+turn_ok : (now : ℕ) (s : Stage) → Advances [] s (turn_by now s)
+turn_ok now stage.Accepted = same_stage stage.Accepted
+turn_ok now (stage.Reading r) = from _ _ _ refl refl where
+  from : (b : Bool) (x y : Reading) → x.request.came ≡ r.request.came → y.request.came ≡ r.request.came
+      → Advances [] (stage.Reading r) (Some (stage.Reading (cond b x y)))
+  from true x y e f = (omega arith, e ∙ sym (append-nil r.request.came))
+  from false x y e f = (omega arith, f ∙ sym (append-nil r.request.came))
+turn_ok now (stage.Waiting w) = same_stage (stage.Waiting w)
+turn_ok now stage.Given = same_stage stage.Given
+turn_ok now (stage.Writing w) = same_stage (stage.Writing w)
+turn_ok now (stage.Lingering l) = same_stage (stage.Lingering l)
 
 reads_ok : (r : Reading) (bytes : List ℕ) (now : ℕ) (taken : ReadStep) (s : Stage) → ReadsOn r bytes now taken s
     → Advances bytes (stage.Reading r) (Some s)
@@ -353,3 +365,6 @@ events_advance (shut_side key now) old new steps =
 events_advance (passed key count now) old new steps =
     subst (λ r. AllAdvance (passed key count now) old r) (sym steps)
     (changed_advances (passed key count now) (λ k. refl) (discard_by count now) (discard_ok count now) old key)
+events_advance (turning key now) old new steps =
+    subst (λ r. AllAdvance (turning key now) old r) (sym steps)
+    (changed_advances (turning key now) (λ k. refl) (turn_by now) (turn_ok now) old key)

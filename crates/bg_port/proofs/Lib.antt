@@ -1,9 +1,11 @@
 pub mod Advancing
+pub mod Earliest
 pub mod IncomingLemmas
+pub mod Oldest
 pub mod OutgoingLemmas
 pub mod RegisterLemmas
 pub mod Running
 pub mod Shutdowns
-pub mod Slowest
 pub mod Sums
 pub mod TotalLemmas
+pub mod Vacancy

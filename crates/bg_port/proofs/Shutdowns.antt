@@ -2,8 +2,9 @@
 use Rattle.std.proofs.Common.{◌≡◌, ◌==◌, ◌&&◌, ℕ, ◌+◌, ◌<◌, ◌≤◌, suc, zero, cond, Bool, true, false, List, [], ◌∷◌, length, get_or, set}
 use Rattle.std.proofs.Common.{sum_by, nat_le, Option, Some, None, refl, sym, ap, ◌∙◌, arith, eq-eqb, le-leb, set-set}
 use Rattle.std.proofs.lemmas.Bool.{and_from, or_right}
-use Rattle.std.proofs.lemmas.List.Sums.{sum_by-cons, sum_by-set}
+use Rattle.std.proofs.lemmas.List.Sums.{sum_by-set}
 use Rattle.bg_port.proofs.RegisterLemmas.{within}
+use Rattle.bg_port.proofs.Sums.{sum_by-le-both}
 use Rattle.bg_port.specs.Closing.{LateIsEnded, ShutdownEnds, attended, late_count, late_of}
 use Rattle.bg_port.specs.Ports.{changed_from}
 use Rattle.bg_port.specs.Received.{unread}
@@ -15,21 +16,6 @@ use Rattle.bg_port.specs.declared.connection.Connection.{Connection}
 use Rattle.bg_port.specs.declared.received.Ending.TheVariants as ending
 use Rattle.bg_port.specs.declared.stage.Stage.{Stage}
 use Rattle.bg_port.specs.declared.stage.Stage.TheVariants as stage
-
--- a sum is at most that of two others, if each part is
-sum-le : (f g h : Option Connection → ℕ) (xs : List (Option Connection))
-    → ((k : ℕ) → k < length xs → f (get_or xs k None) ≤ g (get_or xs k None) + h (get_or xs k None))
-    → sum_by f xs ≤ sum_by g xs + sum_by h xs
-sum-le f g h [] le = omega arith
-sum-le f g h (x ∷ xs) le =
-    omega (
-      arith,
-      sum_by-cons f x xs,
-      sum_by-cons g x xs,
-      sum_by-cons h x xs,
-      le zero (omega arith),
-      sum-le f g h xs (λ k less. le (suc k) (omega arith)),
-    )
 
 -- a connection that is not late at the end of a shutdown is with a worker, or waits for one
 not_attended : (now : ℕ) (p : Option Connection) → is_late now true p ≡ false → used_of p ≤ held_of p + waits p
@@ -46,7 +32,7 @@ not_attended now (Some c) h = at_stage c.stage h where
 
 pub shutdown_ends : (until now : ℕ) (register : Register) → ShutdownEnds until now register
 shutdown_ends until now register holds past none =
-    let most = sum-le used_of held_of waits register.places (λ k less. not_attended now (at register.places k) (none k less)) in
+    let most = sum_by-le-both used_of held_of waits None register.places (λ k less. not_attended now (at register.places k) (none k less)) in
     let waiting = holds.size in
     let zero_left : attended register ≡ 0 = omega arith in
     or_right (sum_by used_of register.places == 0) (nat_le until now && (attended register == 0))

@@ -1,7 +1,7 @@
--- Sums over lists of which each part is small.
-use Rattle.std.proofs.Common.{◌≡◌, ℕ, ◌*◌, ◌<◌, ◌≤◌, suc, zero, List, [], ◌∷◌, length, get_or, arith}
+-- Sums over lists of which each part is small, or is no more than another one.
+use Rattle.std.proofs.Common.{◌≡◌, ℕ, ◌+◌, ◌*◌, ◌<◌, ◌≤◌, suc, zero, List, [], ◌∷◌, length, get_or, arith}
 use Rattle.std.specs.List.{sum_by}
-use Rattle.std.proofs.lemmas.List.Sums.{sum_by-cons}
+use Rattle.std.proofs.lemmas.List.Sums.{get_or-le-sum_by, sum_by-cons}
 
 -- a bound on each part gives one on the sum
 pub sum_by-le-length : {X : Type 0} (f : X → ℕ) (m : ℕ) → ((x : X) → f x ≤ m) → (xs : List X)
@@ -18,3 +18,58 @@ sum_by-lt-length f le (x ∷ xs) zero d h e =
     omega (arith, sum_by-cons f x xs, sum_by-le-length f 1 le xs, e)
 sum_by-lt-length f le (x ∷ xs) (suc i) d h e =
     omega (arith, sum_by-cons f x xs, le x, sum_by-lt-length f le xs i d (omega arith) e)
+
+-- a sum is at most that of two others, if each part is
+pub sum_by-le-both : {X : Type 0} (f g h : X → ℕ) (d : X) (xs : List X)
+    → ((k : ℕ) → k < length xs → f (get_or xs k d) ≤ g (get_or xs k d) + h (get_or xs k d))
+    → sum_by f xs ≤ sum_by g xs + sum_by h xs
+sum_by-le-both f g h d [] le = omega arith
+sum_by-le-both f g h d (x ∷ xs) le =
+    omega (
+      arith,
+      sum_by-cons f x xs,
+      sum_by-cons g x xs,
+      sum_by-cons h x xs,
+      le zero (omega arith),
+      sum_by-le-both f g h d xs (λ k less. le (suc k) (omega arith)),
+    )
+
+-- a sum is at most another one, if each part is
+pub sum_by-le-each : {X : Type 0} (f g : X → ℕ) (d : X) (xs : List X)
+    → ((k : ℕ) → k < length xs → f (get_or xs k d) ≤ g (get_or xs k d)) → sum_by f xs ≤ sum_by g xs
+sum_by-le-each f g d [] le = omega arith
+sum_by-le-each f g d (x ∷ xs) le =
+    omega (
+      arith,
+      sum_by-cons f x xs,
+      sum_by-cons g x xs,
+      le zero (omega arith),
+      sum_by-le-each f g d xs (λ k less. le (suc k) (omega arith)),
+    )
+
+-- it is less, if one part is less too
+pub sum_by-lt-each : {X : Type 0} (f g : X → ℕ) (d : X) (xs : List X) (i : ℕ)
+    → ((k : ℕ) → k < length xs → f (get_or xs k d) ≤ g (get_or xs k d)) → i < length xs
+    → f (get_or xs i d) < g (get_or xs i d) → sum_by f xs < sum_by g xs
+sum_by-lt-each f g d [] i le h less = absurd (omega arith)
+sum_by-lt-each f g d (x ∷ xs) zero le h less =
+    omega (
+      arith,
+      sum_by-cons f x xs,
+      sum_by-cons g x xs,
+      less,
+      sum_by-le-each f g d xs (λ k inside. le (suc k) (omega arith)),
+    )
+sum_by-lt-each f g d (x ∷ xs) (suc i) le h less =
+    omega (
+      arith,
+      sum_by-cons f x xs,
+      sum_by-cons g x xs,
+      le zero (omega arith),
+      sum_by-lt-each f g d xs i (λ k inside. le (suc k) (omega arith)) (omega arith) less,
+    )
+
+-- if a sum is 0, each part is
+pub sum_by-zero : {X : Type 0} (f : X → ℕ) (d : X) (xs : List X) (k : ℕ) → k < length xs → sum_by f xs ≡ 0
+    → f (get_or xs k d) ≡ 0
+sum_by-zero f d xs k less none = omega (arith, none, get_or-le-sum_by f xs k d less)

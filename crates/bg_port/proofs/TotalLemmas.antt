@@ -1,12 +1,12 @@
 -- The totals are the sums of what the places add, also after a place has changed.
-use Rattle.std.proofs.Common.{◌≡◌, ℕ, ◌+◌, ◌<◌, ◌≤◌, suc, zero, List, length, set, replicate, sum_by}
+use Rattle.std.proofs.Common.{◌≡◌, ℕ, ◌+◌, ◌<◌, ◌≤◌, suc, zero, cond, true, false, List, length, set, replicate, sum_by}
 use Rattle.std.proofs.Common.{Option, Some, None, Result, Ok, Err, refl, arith}
 use Rattle.std.proofs.lemmas.List.Sums.{get_or-le-sum_by, sum_by-cons, sum_by-set}
 use Rattle.bg_http.specs.declared.request.Request.{Request}
 use Rattle.bg_http.specs.declared.request_fault.RequestFault.{RequestFault}
 use Rattle.bg_port.proofs.Sums.{sum_by-le-length}
 use Rattle.bg_port.specs.Registers.{at}
-use Rattle.bg_port.specs.Totals.{AreSums, CanChange, CanTurn, IsChanged, answer_weight, arriving_of, held_of, place_totals}
+use Rattle.bg_port.specs.Totals.{AreSums, CanChange, CanTurn, IsChanged, answer_weight, arriving_of, held_of, paused_of, place_totals}
 use Rattle.bg_port.specs.Totals.{request_bytes_of, request_weight, response_bytes_of, response_weight, stage_totals, used_of, waiting_bytes_of}
 use Rattle.bg_port.specs.declared.connection.Connection.{Connection}
 use Rattle.bg_port.specs.declared.stage.Stage.{Stage}
@@ -95,6 +95,17 @@ response_bytes-le (Some c) = bytes-at c.stage where
   bytes-at (stage.Writing w) = response-le w.response.weight
   bytes-at (stage.Lingering l) = omega arith
 
+paused-le : (p : Option Connection) → paused_of p ≤ most
+paused-le None = omega arith
+paused-le (Some c) = paused-at c.stage where
+  paused-at : (s : Stage) → (stage_totals s).paused ≤ most
+  paused-at stage.Accepted = omega arith
+  paused-at (stage.Reading r) = elim r.is_paused as (λ b. cond b 1 0 ≤ most) [ true ↦ omega arith | false ↦ omega arith ]
+  paused-at (stage.Waiting w) = omega arith
+  paused-at stage.Given = omega arith
+  paused-at (stage.Writing w) = omega arith
+  paused-at (stage.Lingering l) = omega arith
+
 -- a part of a sum may change
 can_turn : (f : Option Connection → ℕ) → ((p : Option Connection) → f p ≤ most) → (total : ℕ)
     → (places : List (Option Connection)) (key : ℕ) (p : Option Connection) → total ≡ sum_by f places
@@ -115,6 +126,7 @@ can_change totals places key p sums short less = record {
   request_bytes = can_turn request_bytes_of request_bytes-le totals.request_bytes places key p sums.request_bytes short less;
   waiting_bytes = can_turn waiting_bytes_of waiting_bytes-le totals.waiting_bytes places key p sums.waiting_bytes short less;
   response_bytes = can_turn response_bytes_of response_bytes-le totals.response_bytes places key p sums.response_bytes short less;
+  paused = can_turn paused_of paused-le totals.paused places key p sums.paused short less;
 }
 
 -- a sum after a part of it has changed
@@ -134,6 +146,7 @@ changed_sums totals new places key p sums less change = record {
   request_bytes = changed_sum request_bytes_of totals.request_bytes new.request_bytes places key p sums.request_bytes less change.request_bytes;
   waiting_bytes = changed_sum waiting_bytes_of totals.waiting_bytes new.waiting_bytes places key p sums.waiting_bytes less change.waiting_bytes;
   response_bytes = changed_sum response_bytes_of totals.response_bytes new.response_bytes places key p sums.response_bytes less change.response_bytes;
+  paused = changed_sum paused_of totals.paused new.paused places key p sums.paused less change.paused;
 }
 
 -- free places add nothing
@@ -150,4 +163,5 @@ free_sums room = record {
   request_bytes = none_sum request_bytes_of refl room;
   waiting_bytes = none_sum waiting_bytes_of refl room;
   response_bytes = none_sum response_bytes_of refl room;
+  paused = none_sum paused_of refl room;
 }

@@ -1,7 +1,7 @@
 -- The events of a port, one after the other.
 use Rattle.std.specs.Prelude.{◌≡◌, ◌==◌, if◌then◌else◌, ℕ, ◌<◌, ◌≤◌, Bool, true, false, List, [], ◌∷◌, ◌++◌, Option, Some, None, ⊤}
 use Rattle.bg_port.specs.Outgoing.{whole}
-use Rattle.bg_port.specs.Ports.{EndsAt, FeedsAt, Gives, changed_by, discard_by, handed, is_accepted, shut_by, write_by}
+use Rattle.bg_port.specs.Ports.{EndsAt, FeedsAt, Gives, changed_by, discard_by, handed, is_accepted, shut_by, turn_by, write_by}
 use Rattle.bg_port.specs.Received.{IsAnswer, StaysAnswer}
 use Rattle.bg_port.specs.Registers.{Enters, Holds, Register, at}
 use Rattle.bg_port.specs.Stages.{stopped}
@@ -44,6 +44,8 @@ pub data Event : Type 0 where
   shut_side : ℕ → ℕ → Event
   -- so many bytes of a key were discarded at a moment
   passed : ℕ → ℕ → ℕ → Event
+  -- the request of a key was paused, or resumed, at a moment
+  turning : ℕ → ℕ → Event
 
 -- what an event makes of the connections
 abbrev pub Steps : Event → Register → Register → Type 0
@@ -60,6 +62,7 @@ Steps (ended_by_worker id) old new = new ≡ handed id None old
 Steps (written key count now) old new = new ≡ changed_by (write_by count now) old key
 Steps (shut_side key now) old new = new ≡ changed_by (shut_by now) old key
 Steps (passed key count now) old new = new ≡ changed_by (discard_by count now) old key
+Steps (turning key now) old new = new ≡ changed_by (turn_by now) old key
 
 -- the events lead from one register to the other
 abbrev pub Runs : List Event → Register → Register → Type 0

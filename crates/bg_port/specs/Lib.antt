@@ -4,6 +4,7 @@ pub mod Feeding
 pub mod Incoming
 pub mod Outgoing
 pub mod Paces
+pub mod Pauses
 pub mod Ports
 pub mod Received
 pub mod Registers
@@ -11,3 +12,4 @@ pub mod Slowness
 pub mod Stages
 pub mod Timeouts
 pub mod Totals
+pub mod Vacancies

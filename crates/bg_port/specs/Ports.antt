@@ -3,7 +3,7 @@ use Rattle.std.specs.Prelude.{◌≡◌, ◌==◌, ◌&&◌, if◌then◌else◌
 use Rattle.bg_port.specs.Incoming.{Incoming, counted}
 use Rattle.bg_port.specs.Outgoing.{Outgoing}
 use Rattle.bg_port.specs.Registers.{Register, at, takeable, with_connection}
-use Rattle.bg_port.specs.Stages.{EndsInput, Feeds, as_lingering, as_reading, as_writing, discards, interest_of, is_just_accepted, is_with_worker, shut, wrote}
+use Rattle.bg_port.specs.Stages.{EndsInput, Feeds, as_lingering, as_reading, as_writing, discards, interest_of, is_just_accepted, is_with_worker, shut, turns, wrote}
 use Rattle.bg_port.specs.Timeouts.{is_shutdown_over}
 use Rattle.bg_port.specs.declared.connection.Connection.{Connection}
 use Rattle.bg_port.specs.declared.connection.ConnectionId.{ConnectionId}
@@ -80,6 +80,10 @@ shut_by now old = Some (shut (as_writing old) old now)
 abbrev pub discard_by : ℕ → ℕ → Stage → Option Stage
 discard_by count now old = discards (as_lingering old) old count now
 
+-- a request that is arriving was paused, or resumed if it was paused
+abbrev pub turn_by : ℕ → Stage → Option Stage
+turn_by now old = Some (turns (as_reading old) old now)
+
 -- a worker has the connection of this name
 abbrev pub is_held : ConnectionId → Option Connection → Bool
 is_held id None = false
@@ -135,4 +139,5 @@ reading_from port request now = record {
   request = request;
   until = min (now + port.settings.request_millis) 18446744073709551615;
   progress = record { moment = now; bytes = 0 };
+  is_paused = false;
 }

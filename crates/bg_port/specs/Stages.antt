@@ -73,7 +73,7 @@ is_with_worker (stage.Lingering l) = false
 -- what a stage waits for, if the port attends to it
 abbrev pub interest_of : Stage → Option Interest
 interest_of stage.Accepted = None
-interest_of (stage.Reading r) = Some interest.Input
+interest_of (stage.Reading r) = if r.is_paused then Some interest.Paused else Some interest.Input
 interest_of (stage.Waiting w) = None
 interest_of stage.Given = None
 interest_of (stage.Writing w) = Some interest.Output
@@ -85,6 +85,17 @@ read_on r request now = record r {
   request = request;
   progress = noted r.progress (counted request.came) (request_pace (counted r.request.came)) now;
 }
+
+-- a request is paused; or it is resumed, and its pace is measured from then on
+abbrev pub turned : Reading → ℕ → Reading
+turned r now =
+    if r.is_paused then record r { is_paused = false; progress = record { moment = now; bytes = r.progress.bytes } }
+    else record r { is_paused = true }
+
+-- the same at a stage
+abbrev pub turns : Option Reading → Stage → ℕ → Stage
+turns None old now = old
+turns (Some r) old now = stage.Reading (turned r now)
 
 -- these bytes came for a request that is arriving
 abbrev pub ReadsOn : Reading → List ℕ → ℕ → ReadStep → Stage → Type 0

@@ -1,15 +1,18 @@
 //! The places of connections, with their totals.
-ghost use Rattle.std.specs.Prelude.{◌≡◌, ◌<◌, EachIndex, IfNone, IfOk, IfSome, IsSome, None, Some, false, length, min, replicate, true};
+ghost use Rattle.std.specs.Prelude.{◌≡◌, ◌<◌, ◌≤◌, ℕ, EachIndex, IfNone, IfOk, IfSome, IsSome, None, Some, false, length, min, replicate, true};
 ghost use Rattle.std.specs.Prelude.{slice_index_or, slice_set};
 ghost use Rattle.std.specs.Option.{option_copied};
 ghost use Rattle.bg_port.specs.Closing.{is_silent};
-ghost use Rattle.bg_port.specs.Slowness.{IsNoLater, slow_at, slower};
+ghost use Rattle.bg_port.specs.Pauses.{is_large_from, is_paused, is_stuck, large_from};
+ghost use Rattle.bg_port.specs.Slowness.{IsNoLater, earlier, slow_at};
 ghost use Rattle.bg_port.specs.Timeouts.{is_late};
 ghost use Rattle.bg_port.specs.Totals.{AreSums};
 
 use crate::connection::Connection;
+use crate::pauses::{is_large_from, is_paused, is_stuck, large_from};
 use crate::slowness::{Among, slow_at};
 use crate::totals::Totals;
+use crate::vacancies::Vacancies;
 use std::alloc::{AllocError, Global};
 use std::marker::Model;
 use std::mem;
@@ -22,6 +25,7 @@ const MOST_PLACES: usize = 1 << 20;
 pub(crate) struct ConnectionTable {
     places: Vec<Option<Connection>>,
     totals: Totals,
+    vacancies: Vacancies,
 }
 
 impl Model for ConnectionTable {
@@ -31,10 +35,12 @@ impl Model for ConnectionTable {
     ghost Value = { List (Option Connection) };
 
     ghost use Rattle.bg_port.specs.Totals.{AreSums};
+    ghost use Rattle.bg_port.specs.Vacancies.{AreVacancies};
 
     ghost view = { λ t. t.places.items };
 
-    ghost invariant = { λ t. AreSums t.totals t.places.items × (length t.places.items ≤ 1048576) };
+    ghost invariant = { λ t. AreSums t.totals t.places.items × (length t.places.items ≤ 1048576)
+        × AreVacancies t.vacancies t.places.items };
 }
 
 impl ConnectionTable {
@@ -50,6 +56,7 @@ impl ConnectionTable {
         Ok(ConnectionTable {
             places,
             totals: Totals::none(),
+            vacancies: Vacancies { first: 0, rest: 0 },
         })
     }
 
@@ -102,21 +109,92 @@ impl ConnectionTable {
     {
         let before = Totals::of_place(&self.places[key]);
         self.totals = self.totals.replaced(before, Totals::of_place(&place));
+        self.vacancies = self.vacancies.replaced(key, &place);
         mem::replace(&mut self.places[key], place)
     }
 
-    /// The key of the first free place; `None` if no place is free.
-    pub(crate) fn first_free(&self) -> Option<usize>
+    /// The key of the first free place; `None` if no place is free. It begins where free places may be, and notes there
+    /// what it finds.
+    pub(crate) fn first_free(&mut self) -> Option<usize>
+        ensures within { IfSome result (λ key. key < length self.old) }
+        ensures free { IfSome result (λ key. slice_index_or self.old key None ≡ None) }
+        ensures none { IfNone result (EachIndex self.old (λ key. ¬ (slice_index_or self.old key None ≡ None))) }
+        ensures kept { self.new ≡ self.old }
+    {
+        let key = self.free_from(self.vacancies.first)?;
+        self.vacancies = self.vacancies.found(key);
+        Some(key)
+    }
+
+    /// The key of the first free place from this one on; `None` if there is none.
+    fn free_from(&self, from: usize) -> Option<usize>
+        ensures from { IfSome result (λ key. from ≤ key) }
         ensures within { IfSome result (λ key. key < length self.now) }
         ensures free { IfSome result (λ key. slice_index_or self.now key None ≡ None) }
-        ensures none { IfNone result (EachIndex self.now (λ key. ¬ (slice_index_or self.now key None ≡ None))) }
+        ensures first { IfSome result (λ key. (other : ℕ) → from ≤ other → other < key
+            → ¬ (slice_index_or self.now other None ≡ None)) }
+        ensures none { IfNone result ((other : ℕ) → from ≤ other → other < length self.now
+            → ¬ (slice_index_or self.now other None ≡ None)) }
     {
-        for (key, place) in self.places.iter().enumerate() {
-            if place.is_none() {
+        for key in from..self.places.len() {
+            if self.places[key].is_none() {
                 return Some(key);
             }
         }
         None
+    }
+
+    /// The key of the first connection whose request is paused, or goes on, otherwise than it should: all are to be
+    /// paused that are large and whose number is at least this one. `None` if there is none.
+    pub(crate) fn first_unlike(&self, least: u64) -> Option<usize>
+        ensures unlike { IfSome result (λ key. ¬ (is_paused (slice_index_or self.now key None)
+            ≡ is_large_from least (slice_index_or self.now key None))) }
+        ensures first { IfSome result (λ key. (other : ℕ) → other < key
+            → is_paused (slice_index_or self.now other None) ≡ is_large_from least (slice_index_or self.now other None)) }
+        ensures none { IfNone result (EachIndex self.now (λ other.
+            is_paused (slice_index_or self.now other None) ≡ is_large_from least (slice_index_or self.now other None))) }
+    {
+        for (key, place) in self.places.iter().enumerate() {
+            if is_paused(place) != is_large_from(place, least) {
+                return Some(key);
+            }
+        }
+        None
+    }
+
+    /// The key of the first connection from this one on whose request is large, and slower than its pace; `None` if there
+    /// is none.
+    pub(crate) fn stuck_from(&self, from: usize, now: u64) -> Option<usize>
+        ensures from { IfSome result (λ key. from ≤ key) }
+        ensures stuck { IfSome result (λ key. is_stuck now (slice_index_or self.now key None) ≡ true) }
+        ensures first { IfSome result (λ key. (other : ℕ) → from ≤ other → other < key
+            → is_stuck now (slice_index_or self.now other None) ≡ false) }
+        ensures none { IfNone result ((other : ℕ) → from ≤ other → other < length self.now
+            → is_stuck now (slice_index_or self.now other None) ≡ false) }
+    {
+        for key in from..self.places.len() {
+            if is_stuck(&self.places[key], now) {
+                return Some(key);
+            }
+        }
+        None
+    }
+
+    /// The key and the number of the oldest connection whose request is large and whose number is at least `least`; `None`
+    /// if there is none.
+    pub(crate) fn oldest_large(&self, least: u64) -> Option<(usize, u64)>
+        ensures large { IfSome result (λ first. large_from least (slice_index_or self.now first.0 None)
+            ≡ Some first.1) }
+        ensures oldest { IfSome result (λ first. EachIndex self.now (λ other.
+            IsNoLater (Some first.1) (large_from least (slice_index_or self.now other None)))) }
+        ensures none { IfNone result (EachIndex self.now (λ other.
+            large_from least (slice_index_or self.now other None) ≡ None)) }
+    {
+        let mut oldest: Option<(usize, u64)> = None;
+        for (key, place) in self.places.iter().enumerate() {
+            oldest = earlier(oldest, key, large_from(place, least));
+        }
+        oldest
     }
 
     /// The key of the first connection whose timeout has passed, or that of the shutdown; `None` if there is none.
@@ -164,25 +242,25 @@ impl ConnectionTable {
     {
         let mut slowest: Option<(usize, u64)> = None;
         for (key, place) in self.places.iter().enumerate() {
-            slowest = slower(slowest, key, slow_at(place, among, now));
+            slowest = earlier(slowest, key, slow_at(place, among, now));
         }
         slowest.map(|(key, _since)| key)
     }
 }
 
-/// Of the slowest connection so far and another one, the one that has made no progress for the longer time.
-fn slower(slowest: Option<(usize, u64)>, key: usize, since: Option<u64>) -> Option<(usize, u64)>
-    ensures { result ≡ slower slowest key since }
+/// Of the first connection so far in an order, with its rank, and another one, the one whose rank is less.
+fn earlier(first: Option<(usize, u64)>, key: usize, rank: Option<u64>) -> Option<(usize, u64)>
+    ensures { result ≡ earlier first key rank }
 {
-    match (slowest, since) {
-        (Some((other, least)), Some(moment)) => {
-            if moment < least {
-                Some((key, moment))
+    match (first, rank) {
+        (Some((other, least)), Some(rank)) => {
+            if rank < least {
+                Some((key, rank))
             } else {
                 Some((other, least))
             }
         }
-        (None, Some(moment)) => Some((key, moment)),
-        (slowest, None) => slowest,
+        (None, Some(rank)) => Some((key, rank)),
+        (first, None) => first,
     }
 }

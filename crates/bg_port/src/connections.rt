@@ -1,7 +1,9 @@
 //! The connections of a port: each at its key, and those that wait for a worker in order.
-ghost use Rattle.std.specs.Prelude.{◌≡◌, ◌<◌, [], EachIndex, IfNone, IfOk, IfSome, IsSome, None, false, length, min, replicate, true};
+ghost use Rattle.std.specs.Prelude.{◌≡◌, ◌<◌, ◌≤◌, ℕ, [], EachIndex, IfNone, IfOk, IfSome, IsSome, None, false, length, min, replicate, true};
 ghost use Rattle.std.specs.Option.{option_copied};
 ghost use Rattle.bg_port.specs.Closing.{is_silent};
+ghost use Rattle.bg_port.specs.Pauses.{IsAsRuled, is_large_from, is_stuck, is_to_pause};
+ghost use Rattle.bg_port.specs.declared.pauses.Pauses.TheVariants as pauses;
 ghost use Rattle.bg_port.specs.Slowness.{IsNoLater, slow_at};
 ghost use Rattle.bg_port.specs.Stages.{is_waiting};
 ghost use Rattle.bg_port.specs.Timeouts.{is_late};
@@ -10,11 +12,15 @@ ghost use Rattle.bg_port.specs.Registers.{Enters, IsMissing, TakesFirst, TakesOu
 
 use crate::connection::{Connection, ConnectionId};
 use crate::connection_table::ConnectionTable;
+use crate::pauses::Pauses;
 use crate::slowness::Among;
 use crate::totals::Totals;
 use std::alloc::{AllocError, Global};
 use std::collections::VecDeque;
 use std::marker::Model;
+
+/// The number of large requests that go on while the younger ones are paused.
+const LARGE_THAT_GO_ON: u32 = 8;
 
 /// The connections of a port. Each accepted connection has a number and a place, until it leaves. The keys of those that
 /// wait for a worker are in a queue, each once.
@@ -106,6 +112,60 @@ impl Connections {
             slow_at among now (at self.now.places other) ≡ None)) }
     {
         self.table.slowest(among, now)
+    }
+
+    /// The key of the first connection whose request is paused, or goes on, otherwise than the rule says; `None` if each is
+    /// as the rule says.
+    pub(crate) fn first_unruled(&self, which: Pauses) -> Option<usize>
+        ensures unruled { IfSome result (λ key. ¬ IsAsRuled which self.now.places (at self.now.places key)) }
+        ensures first { IfSome result (λ key. (other : ℕ) → other < key
+            → IsAsRuled which self.now.places (at self.now.places other)) }
+        ensures none { IfNone result (EachIndex self.now.places (λ other.
+            IsAsRuled which self.now.places (at self.now.places other))) }
+    {
+        let least = self.paused_from(which);
+        self.table.first_unlike(least)
+    }
+
+    /// The number from which on large requests are to be paused.
+    fn paused_from(&self, which: Pauses) -> u64
+        ensures { (key : ℕ) → is_large_from result (at self.now.places key)
+            ≡ is_to_pause which self.now.places (at self.now.places key) }
+    {
+        match which {
+            Pauses::Off => self.next,
+            Pauses::Younger => self.after_oldest(),
+            Pauses::All => 0,
+        }
+    }
+
+    /// The number that follows those of the eight oldest large requests; if they are fewer, that of the next connection.
+    fn after_oldest(&self) -> u64
+        ensures { (key : ℕ) → is_large_from result (at self.now.places key)
+            ≡ is_to_pause pauses.Younger self.now.places (at self.now.places key) }
+    {
+        let next = self.next;
+        let mut least = 0u64;
+        for _ in 0..LARGE_THAT_GO_ON {
+            let Some((_key, number)) = self.table.oldest_large(least) else {
+                return next;
+            };
+            least = number.saturating_add(1);
+        }
+        least
+    }
+
+    /// The key of the first connection from this one on whose request is large, and slower than its pace; `None` if there
+    /// is none.
+    pub(crate) fn stuck_from(&self, from: usize, now: u64) -> Option<usize>
+        ensures from { IfSome result (λ key. from ≤ key) }
+        ensures stuck { IfSome result (λ key. is_stuck now (at self.now.places key) ≡ true) }
+        ensures first { IfSome result (λ key. (other : ℕ) → from ≤ other → other < key
+            → is_stuck now (at self.now.places other) ≡ false) }
+        ensures none { IfNone result ((other : ℕ) → from ≤ other → other < length self.now.places
+            → is_stuck now (at self.now.places other) ≡ false) }
+    {
+        self.table.stuck_from(from, now)
     }
 
     /// Adds a connection that was accepted at a moment. `None` only if no place or no number is free.

@@ -7,12 +7,14 @@ mod connections;
 mod incoming;
 pub mod laws;
 mod outgoing;
+mod pauses;
 mod port;
 mod progress;
 mod received;
 mod slowness;
 mod stage;
 mod totals;
+mod vacancies;
 
 pub use connection::ConnectionId;
 pub use incoming::{Fed, IncomingRequest};

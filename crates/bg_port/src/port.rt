@@ -1,9 +1,10 @@
 //! The state of a client port.
-ghost use Rattle.std.specs.Prelude.{◌≡◌, ◌+◌, ◌<◌, ◌≤◌, [], EachIndex, IfNone, IfOk, IfSome, None, is_some, length, min, replicate};
+ghost use Rattle.std.specs.Prelude.{◌≡◌, ◌+◌, ◌<◌, ◌≤◌, [], EachIndex, IfNone, IfOk, IfSome, None, false, is_some, length, min, replicate};
 ghost use Rattle.bg_port.specs.Registers.{Enters, at};
 ghost use Rattle.bg_port.specs.Totals.{AreSums};
 
 mod closing;
+mod pausing;
 mod reading;
 mod room;
 mod timeouts;
@@ -27,6 +28,8 @@ pub struct PortSettings {
     pub request_millis: u64,
     /// The memory, in bytes, that responses may take before slow clients are closed.
     pub response_bytes: u64,
+    /// The memory, in bytes, that requests may take before large requests are paused.
+    pub request_bytes: u64,
 }
 
 /// The state of a client port. It has no sockets: its caller reports what came and what was written, and reads and
@@ -37,6 +40,8 @@ pub struct Port {
     pub(crate) settings: PortSettings,
     /// When the timeout of the shutdown ends, once it has begun.
     pub(crate) closing_until: Option<u64>,
+    /// Whether large requests are paused.
+    pub(crate) is_pausing: bool,
 }
 
 impl Port {
@@ -50,12 +55,14 @@ impl Port {
         }) }
         ensures settings { IfOk result (λ port. port.settings ≡ settings) }
         ensures open { IfOk result (λ port. port.closing_until ≡ None) }
+        ensures reads { IfOk result (λ port. port.is_pausing ≡ false) }
     {
         let room = settings.connections.saturating_add(settings.workers) as usize;
         Ok(Port {
             connections: Connections::new(alloc, room)?,
             settings,
             closing_until: None,
+            is_pausing: false,
         })
     }
 

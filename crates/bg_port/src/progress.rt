@@ -74,6 +74,16 @@ impl Progress {
         }
     }
 
+    /// The same, measured from this moment on.
+    pub(crate) fn restarted(self, now: u64) -> Progress
+        ensures { result ≡ record self { moment = now } }
+    {
+        Progress {
+            moment: now,
+            ..self
+        }
+    }
+
     /// Whether a connection that moved this many bytes in all is slower than its pace.
     pub(crate) fn is_slower(self, bytes: u64, pace: Pace, now: u64) -> bool
         ensures { result ≡ is_slower self bytes pace now }

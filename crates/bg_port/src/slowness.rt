@@ -1,8 +1,6 @@
 //! Which connections are slow.
 ghost use Rattle.std.specs.Prelude.{◌≡◌};
-ghost use Rattle.bg_port.specs.Incoming.{counted};
-ghost use Rattle.bg_port.specs.Paces.{is_slower, request_pace};
-ghost use Rattle.bg_port.specs.Slowness.{is_all, since_if, slow_at, slow_since};
+ghost use Rattle.bg_port.specs.Slowness.{is_all, is_slow_request, since_if, slow_at, slow_since};
 
 use crate::connection::Connection;
 use crate::progress::{RESPONSE_PACE, request_pace};
@@ -35,21 +33,21 @@ fn since_if(slow: bool, moment: u64) -> Option<u64>
 }
 
 /// Whether a request that is arriving is slower than its pace.
-fn is_slow_request(reading: &Reading, now: u64) -> bool
-    ensures { result ≡ is_slower reading.now.progress (counted reading.now.request.came)
-        (request_pace (counted reading.now.request.came)) now }
+pub(crate) fn is_slow_request(reading: &Reading, now: u64) -> bool
+    ensures { result ≡ is_slow_request reading.now now }
 {
     let count = reading.request.count() as u64;
     reading.progress.is_slower(count, request_pace(count), now)
 }
 
-/// Since when a connection at a stage has made no progress, if it is slow, and among these.
+/// Since when a connection at a stage has made no progress, if it is slow, and among these. A request that is paused is not
+/// slow.
 fn slow_since(at: &Stage, among: Among, now: u64) -> Option<u64>
     ensures { result ≡ slow_since among now at.now }
 {
     match at {
         Stage::Reading(reading) => since_if(
-            among.is_all() && is_slow_request(reading, now),
+            among.is_all() && !reading.is_paused && is_slow_request(reading, now),
             reading.progress.moment,
         ),
         Stage::Writing(writing) => since_if(

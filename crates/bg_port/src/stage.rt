@@ -25,6 +25,8 @@ pub struct Reading {
     /// When its timeout ends.
     pub(crate) until: u64,
     pub(crate) progress: Progress,
+    /// Whether it is paused, so that no byte of it is read.
+    pub(crate) is_paused: bool,
 }
 
 /// A response whose rest is written.
@@ -89,6 +91,8 @@ pub enum Interest {
     Input,
     /// Bytes can be written.
     Output,
+    /// The end of the client's input, or a reset.
+    Paused,
 }
 
 /// What became of a connection that was stopped.
@@ -130,6 +134,7 @@ impl Stage {
         ensures { result ≡ interest_of self.now }
     {
         match self {
+            Stage::Reading(reading) if reading.is_paused => Some(Interest::Paused),
             Stage::Reading(_) | Stage::Lingering(_) => Some(Interest::Input),
             Stage::Writing(_) => Some(Interest::Output),
             Stage::Accepted | Stage::Waiting(_) | Stage::Given => None,

@@ -29,6 +29,8 @@ pub struct Totals {
     pub waiting_bytes: u64,
     /// The memory of responses, in bytes.
     pub response_bytes: u64,
+    /// The number of requests that are paused.
+    pub paused: u64,
 }
 
 /// A total after one of its parts has changed.
@@ -52,6 +54,7 @@ impl Totals {
             request_bytes: 0,
             waiting_bytes: 0,
             response_bytes: 0,
+            paused: 0,
         }
     }
 
@@ -64,6 +67,7 @@ impl Totals {
           request_bytes = 0;
           waiting_bytes = 0;
           response_bytes = 0;
+          paused = 0;
         } }
     {
         Totals {
@@ -73,6 +77,7 @@ impl Totals {
             request_bytes: 0,
             waiting_bytes: 0,
             response_bytes: 0,
+            paused: 0,
         }
     }
 
@@ -88,6 +93,7 @@ impl Totals {
             Stage::Reading(reading) => Totals {
                 arriving: 1,
                 request_bytes: request_weight(reading.request.count()),
+                paused: u64::from(reading.is_paused),
                 ..Totals::of_one()
             },
             Stage::Waiting(received) => {
@@ -140,6 +146,7 @@ impl Totals {
                 before.response_bytes,
                 after.response_bytes,
             ),
+            paused: changed(self.paused, before.paused, after.paused),
         }
     }
 }

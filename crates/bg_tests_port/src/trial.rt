@@ -15,7 +15,9 @@ const ROOM: usize = 12;
 
 const MOST_PENDING: u64 = 8;
 
-/// The bound on the memory of responses.
+/// The bounds on the memory of requests and of responses.
+const REQUEST_BYTES: u64 = 1_000;
+
 const RESPONSE_BYTES: u64 = 1_000;
 
 /// A port beside what its rules know of its connections.
@@ -38,6 +40,7 @@ impl Trial {
             workers: ROOM as u64 - MOST_PENDING,
             request_millis: REQUEST_MILLIS,
             response_bytes: RESPONSE_BYTES,
+            request_bytes: REQUEST_BYTES,
         };
         match Port::new(alloc, settings) {
             Ok(port) => Some(Trial {

@@ -78,6 +78,7 @@ impl Port {
                 request,
                 until,
                 progress: Progress::from(now),
+                is_paused: false,
             })),
         );
         Ok(())

@@ -1,15 +1,13 @@
 //! What leads a connection from one stage to the next.
 ghost use Rattle.std.specs.Prelude.{◌≡◌, IfErr, IfOk, None, OnErr, true};
-ghost use Rattle.bg_port.specs.Incoming.{counted};
-ghost use Rattle.bg_port.specs.Paces.{noted};
 ghost use Rattle.bg_port.specs.Stages.{EndsInput, Feeds, ReadsOn, as_lingering, as_reading, as_writing};
 ghost use Rattle.bg_port.specs.Stages.{discarded, discarded_on, discards, is_waiting, lingering_from};
-ghost use Rattle.bg_port.specs.Stages.{shut, stopped, told_of, written_on, wrote};
+ghost use Rattle.bg_port.specs.Stages.{shut, stopped, told_of, turned, turns, written_on, wrote};
 ghost use Rattle.bg_port.specs.declared.stage.Stage.TheVariants as stage;
 
 use super::{Lingering, ReadStep, Reading, STILL_MILLIS, Stage, Writing};
 use crate::incoming::{Fed, IncomingRequest};
-use crate::progress::{Pace, Progress, RESPONSE_PACE, request_pace};
+use crate::progress::{Progress, RESPONSE_PACE, request_pace};
 use crate::received::{Ending, ReceivedRequest};
 
 /// The time, in milliseconds, for which a client may still send after it was answered.
@@ -17,28 +15,6 @@ const LINGERING_CLOSE_MILLIS: u64 = 10_000;
 
 /// The maximum number of bytes that a client may still send after it was answered.
 const MOST_DISCARDED: u64 = 1 << 24;
-
-/// A request that is arriving, after more of it came.
-fn read_on(
-    request: IncomingRequest,
-    until: u64,
-    progress: Progress,
-    pace: Pace,
-    now: u64,
-) -> Reading
-    ensures { result ≡ record {
-      request = request;
-      until = until;
-      progress = noted progress (counted request.came) pace now;
-    } }
-{
-    let progress = progress.noted(request.count() as u64, pace, now);
-    Reading {
-        request,
-        until,
-        progress,
-    }
-}
 
 impl Reading {
     /// Adds bytes that came.
@@ -49,18 +25,54 @@ impl Reading {
             request,
             until,
             progress,
+            is_paused,
         } = self;
         let pace = request_pace(request.count() as u64);
         match request.feed(bytes) {
             Fed::More(request) => {
-                let reading = read_on(request, until, progress, pace, now);
+                let progress = progress.noted(request.count() as u64, pace, now);
+                let reading = Reading {
+                    request,
+                    until,
+                    progress,
+                    is_paused,
+                };
                 (Stage::Reading(reading), ReadStep::More)
             }
             Fed::OwesContinue(request) => {
-                let reading = read_on(request, until, progress, pace, now);
+                let progress = progress.noted(request.count() as u64, pace, now);
+                let reading = Reading {
+                    request,
+                    until,
+                    progress,
+                    is_paused,
+                };
                 (Stage::Reading(reading), ReadStep::OwesContinue)
             }
             Fed::Over(received) => (Stage::Waiting(received), ReadStep::Over),
+        }
+    }
+
+    /// The same paused, or resumed if it was paused. Its pace is measured from the end of the pause on; its timeout goes on.
+    fn turn(self, now: u64) -> Reading
+        ensures { result ≡ turned self now }
+    {
+        let Reading {
+            request,
+            until,
+            progress,
+            is_paused,
+        } = self;
+        let progress = if is_paused {
+            progress.restarted(now)
+        } else {
+            progress
+        };
+        Reading {
+            request,
+            until,
+            progress,
+            is_paused: !is_paused,
         }
     }
 }
@@ -176,6 +188,16 @@ impl Stage {
         match self.into_reading() {
             Ok(reading) => reading.feed(bytes, now),
             Err(other) => (other, ReadStep::NotReading),
+        }
+    }
+
+    /// A request that is arriving is paused, or resumed if it was paused.
+    pub(crate) fn turn(self, now: u64) -> Stage
+        ensures { result ≡ turns (as_reading self) self now }
+    {
+        match self.into_reading() {
+            Ok(reading) => Stage::Reading(reading.turn(now)),
+            Err(other) => other,
         }
     }
 

@@ -1,6 +1,7 @@
 use Rattle.std.proofs.Common.{◌≡◌, ◌<◌, None, length, length-set, ap, arith}
 use Rattle.std.proofs.lemmas.List.{get_or_read}
 use Rattle.bg_port.proofs.TotalLemmas.{can_change, changed_sums}
+use Rattle.bg_port.proofs.Vacancy.{replaced_keeps}
 use Rattle.bg_port.specs.Registers.{at}
 use Rattle.bg_port.specs.Totals.{IsChanged, place_totals}
 use Rattle.bg_port.proofs.connection_table.ConnectionTable.replace.Goals as goal
@@ -22,4 +23,6 @@ invariant_of-self c =
     rw (← read, ← c.of_place-before.ensures, ← c.of_place.ensures) c.replaced-self-inside.ensures in (
       rw c.replace.ensures.after (changed_sums c.self.inside.totals _ places c.args.key c.args.place c.self.invariant.0 less change),
       rw length-set c.self.invariant.1,
+      rw (c.replace.ensures.after, c.replaced-self-inside-2.ensures)
+          (replaced_keeps c.self.inside.vacancies places c.args.key c.self.invariant.2 c.args.place less),
     )

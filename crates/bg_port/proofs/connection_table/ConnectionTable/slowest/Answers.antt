@@ -1,6 +1,6 @@
 use Rattle.std.proofs.Common.{◌≡◌, ◌+◌, ◌<◌, ◌∙◌, None, ap, sym, subst, length, slice_index_or, arith}
 use Rattle.std.proofs.lemmas.List.{get_or_read}
-use Rattle.bg_port.proofs.Slowest.{IsSlowest, slowest_more}
+use Rattle.bg_port.proofs.Earliest.{IsEarliest, earliest_more}
 use Rattle.bg_port.specs.Slowness.{slow_at}
 use Rattle.bg_port.proofs.connection_table.ConnectionTable.slowest.Goals as goal
 
@@ -14,7 +14,7 @@ loop-key-preserved c =
     let item : c.place-item.result ≡ slice_index_or places key None = read ∙ ap (λ xs. slice_index_or xs key None) same in
     let since : slow_at c.args.among c.args.now (slice_index_or places key None) ≡ c.slow_at.result =
     ap (λ p. slow_at c.args.among c.args.now p) (sym item) ∙ sym c.slow_at.ensures in
-    subst (λ first. IsSlowest (λ k. slow_at c.args.among c.args.now (slice_index_or places k None)) (key + 1) first)
-    (sym c.slower-slowest.ensures)
-    (slowest_more (λ k. slow_at c.args.among c.args.now (slice_index_or places k None)) key c.loop-key.slowest c.slow_at.result
+    subst (λ first. IsEarliest (λ k. slow_at c.args.among c.args.now (slice_index_or places k None)) (key + 1) first)
+    (sym c.earlier-slowest.ensures)
+    (earliest_more (λ k. slow_at c.args.among c.args.now (slice_index_or places k None)) key c.loop-key.slowest c.slow_at.result
     c.loop-key.invariant since)
