@@ -3,8 +3,10 @@ pub mod Earliest
 pub mod IncomingLemmas
 pub mod Oldest
 pub mod OutgoingLemmas
+pub mod Pausing
 pub mod RegisterLemmas
 pub mod Running
+pub mod Settling
 pub mod Shutdowns
 pub mod Sums
 pub mod TotalLemmas

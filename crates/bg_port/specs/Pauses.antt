@@ -114,3 +114,44 @@ large_from least (Some c) = number_if (is_large_stage c.stage && nat_le least c.
 abbrev pub is_large_from : ℕ → Option Connection → Bool
 is_large_from least None = false
 is_large_from least (Some c) = is_large_stage c.stage && nat_le least c.number
+
+-- 1 if the place has a large request that goes on, and otherwise 0
+abbrev pub goes_on : Option Connection → ℕ
+goes_on p = if is_large p && not (is_paused p) then 1 else 0
+
+-- 1 if these differ, and otherwise 0
+abbrev pub differ : Bool → Bool → ℕ
+differ true other = if other then 0 else 1
+differ false other = if other then 1 else 0
+
+-- how many requests are paused, or go on, otherwise than the rule says
+abbrev pub is_unruled : Pauses → List (Option Connection) → Option Connection → ℕ
+is_unruled which places p = differ (is_paused p) (is_to_pause which places p)
+
+abbrev pub unruled_count : Pauses → List (Option Connection) → ℕ
+unruled_count which places = sum_by (is_unruled which places) places
+
+-- a port that has looked whether it pauses, after the request of a key was paused or resumed
+abbrev pub regulated : Port → ℕ → ℕ → Port
+regulated old key now = record (looked old) { connections = changed_by (turn_by now) old.connections key }
+
+-- THE LAWS
+
+-- while the port pauses and each request is as the rule says, at most eight large ones go on
+abbrev pub EightGoOn : Pauses → Register → Type 0
+EightGoOn which register =
+    Holds register.places register.queue register.next → ¬ (which ≡ pauses.Off)
+    → EachIndex register.places (λ key. IsAsRuled which register.places (at register.places key))
+    → sum_by goes_on register.places ≤ 8
+
+-- the rule stays the same, and one request less is otherwise than it says
+pub record Settles (old new : Port) : Type 0 where
+  pub rule : pauses_of (looked new) ≡ pauses_of (looked old)
+  pub fewer : unruled_count (pauses_of (looked old)) new.connections.places + 1
+      ≡ unruled_count (pauses_of (looked old)) old.connections.places
+
+-- so it is if a request that was otherwise is paused or resumed
+abbrev pub RegulatingSettles : Port → ℕ → ℕ → Type 0
+RegulatingSettles old key now =
+    ¬ IsAsRuled (pauses_of (looked old)) old.connections.places (at old.connections.places key)
+    → Settles old (regulated old key now)

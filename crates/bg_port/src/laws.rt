@@ -2,8 +2,11 @@
 ghost use Rattle.std.specs.Prelude.{Bool, List, ℕ};
 ghost use Rattle.bg_port.specs.Closing.{LateIsEnded, ShutdownEnds};
 ghost use Rattle.bg_port.specs.Events.{Event, EventsAdvance, IsGivenOnce, StagesContinue, StaysGone};
+ghost use Rattle.bg_port.specs.Pauses.{EightGoOn, RegulatingSettles};
 ghost use Rattle.bg_port.specs.Registers.{Register};
 ghost use Rattle.bg_port.specs.declared.connection.Connection.{Connection};
+ghost use Rattle.bg_port.specs.declared.pauses.Pauses.{Pauses};
+ghost use Rattle.bg_port.specs.declared.port.Port.{Port};
 ghost use Rattle.bg_port.specs.declared.port.workers.Given.{Given};
 
 /// Each event lets each place advance: a free place takes the next number; a connection keeps its number, goes from a
@@ -41,4 +44,16 @@ pub fn a_late_connection_is_ended()
 /// writes none.
 pub fn a_shutdown_ends()
     ensures { (until now : ℕ) (register : Register) → ShutdownEnds until now register }
+{}
+
+/// While the port pauses and `regulate` finds no request that is otherwise than the rule says, at most eight large requests
+/// go on.
+pub fn at_most_eight_go_on()
+    ensures { (which : Pauses) (register : Register) → EightGoOn which register }
+{}
+
+/// When `regulate` pauses or resumes a request, one request less is otherwise than the rule says, and the rule stays the
+/// same. So as many calls of `regulate` at a moment as there are such requests leave none.
+pub fn regulating_settles()
+    ensures { (old : Port) (key now : ℕ) → RegulatingSettles old key now }
 {}

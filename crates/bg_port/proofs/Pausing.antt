@@ -1,0 +1,167 @@
+-- The laws of the pauses.
+use Rattle.std.proofs.Common.{◌≡◌, ◌==◌, ◌&&◌, ◌||◌, not, ℕ, ◌+◌, ◌<◌, ◌≤◌, suc, zero, Bool, true, false, cond, List, length, set, set-set, sum_by, nat_le, nat_lt}
+use Rattle.std.proofs.Common.{Option, Some, None, refl, sym, ap, subst, ◌∙◌, inl, inr, arith, eq-eqb, le-leb}
+use Rattle.std.proofs.lemmas.Bool.{and_from, cases_Bool, cases_eq, cases_lt, le-ltb, lt-leb, lt-ltb}
+use Rattle.std.proofs.lemmas.List.Sums.{sum_by-le-sum_by, sum_by-set}
+use Rattle.bg_port.proofs.Oldest.{none-older, older-mono, older-strict}
+use Rattle.bg_port.proofs.RegisterLemmas.{known, within}
+use Rattle.bg_port.proofs.Sums.{sum_by-le-both, sum_by-le-each, sum_by-le-length}
+use Rattle.bg_port.specs.Pauses.{EightGoOn, IsAsRuled, RegulatingSettles, Settles, differ, enough, goes_on, is_large, is_large_stage, is_older_large}
+use Rattle.bg_port.specs.Pauses.{is_paused, is_paused_stage, is_to_pause, is_unruled, looked, older, pauses_from, pauses_now, pauses_of, regulated, unruled_count}
+use Rattle.bg_port.specs.Ports.{changed_by, changed_from, turn_by}
+use Rattle.bg_port.specs.Registers.{Holds, Register, at, has_number, takeable}
+use Rattle.bg_port.specs.Stages.{turned}
+use Rattle.bg_port.specs.Totals.{request_bytes_of, waiting_bytes_of}
+use Rattle.bg_port.specs.declared.connection.Connection.{Connection}
+use Rattle.bg_port.specs.declared.pauses.Pauses.{Pauses}
+use Rattle.bg_port.specs.declared.pauses.Pauses.TheVariants as pauses
+use Rattle.bg_port.specs.declared.port.Port.{Port}
+use Rattle.bg_port.specs.declared.port.PortSettings.{PortSettings}
+use Rattle.bg_port.specs.declared.stage.Reading.{Reading}
+use Rattle.bg_port.specs.declared.stage.Stage.{Stage}
+use Rattle.bg_port.specs.declared.stage.Stage.TheVariants as stage
+
+abbrev Places : Type 0
+Places = List (Option Connection)
+
+module _ (places : Places) where
+  -- 1 if the place has a large request below a number to which fewer than eight are older, and otherwise 0
+  abbrev is_early : ℕ → Option Connection → ℕ
+  is_early n None = 0
+  is_early n (Some c) = cond (is_large_stage c.stage && (nat_lt c.number n && nat_lt (older c.number places) 8)) 1 0
+
+  one_at_most : (b : Bool) → cond b 1 0 ≤ 1
+  one_at_most true = omega arith
+  one_at_most false = omega arith
+
+  early-yes : (n : ℕ) (c : Connection) → is_large_stage c.stage ≡ true → c.number < n → older c.number places < 8
+      → is_early n (Some c) ≡ 1
+  early-yes n c large less few =
+      ap (λ b. cond b 1 0) (and_from (is_large_stage c.stage) (nat_lt c.number n && nat_lt (older c.number places) 8) large
+          (and_from (nat_lt c.number n) (nat_lt (older c.number places) 8) (lt-ltb c.number n less) (lt-ltb (older c.number places) 8 few)))
+
+  early-above : (n : ℕ) (c : Connection) → n ≤ c.number → is_early n (Some c) ≡ 0
+  early-above n c above = elim (is_large_stage c.stage) as (λ b. ◌≡◌ {A = ℕ} (cond (b && (nat_lt c.number n && nat_lt (older c.number places) 8)) 1 0) 0) [
+    | true ↦ ap (λ b. cond (b && nat_lt (older c.number places) 8) 1 0) (le-ltb c.number n above)
+    | false ↦ refl
+  ]
+
+  early-many : (n : ℕ) (c : Connection) → 8 ≤ older c.number places → is_early n (Some c) ≡ 0
+  early-many n c many = elim (is_large_stage c.stage) as (λ b. ◌≡◌ {A = ℕ} (cond (b && (nat_lt c.number n && nat_lt (older c.number places) 8)) 1 0) 0) [
+    | true ↦ elim (nat_lt c.number n) as (λ b. ◌≡◌ {A = ℕ} (cond (b && nat_lt (older c.number places) 8) 1 0) 0) [
+      | true ↦ ap (λ b. cond b 1 0) (le-ltb (older c.number places) 8 many)
+      | false ↦ refl
+    ]
+    | false ↦ refl
+  ]
+
+  early-small : (n : ℕ) (c : Connection) → is_large_stage c.stage ≡ false → is_early n (Some c) ≡ 0
+  early-small n c small = ap (λ b. cond (b && (nat_lt c.number n && nat_lt (older c.number places) 8)) 1 0) small
+
+  -- those are at most as many as the older ones
+  early-older : (n : ℕ) → sum_by (is_early n) places ≤ older n places
+  early-older n = sum_by-le-sum_by (is_early n) (is_older_large n) places at_place where
+    at_place : (p : Option Connection) → is_early n p ≤ is_older_large n p
+    at_place None = omega arith
+    at_place (Some c) = elim (is_large_stage c.stage) as (λ b. cond (b && (nat_lt c.number n && nat_lt (older c.number places) 8)) 1 0 ≤ cond (b && nat_lt c.number n) 1 0) [
+      | true ↦ elim (nat_lt c.number n) as (λ b. cond (b && nat_lt (older c.number places) 8) 1 0 ≤ cond b 1 0) [
+        | true ↦ one_at_most (nat_lt (older c.number places) 8)
+        | false ↦ omega arith
+      ]
+      | false ↦ omega arith
+    ]
+
+  module _ (once : (number : ℕ) → sum_by (has_number number) places ≤ 1) where
+    early-eight : (n : ℕ) → sum_by (is_early n) places ≤ 8
+    early-eight zero = let least = early-older 0 in let none = none-older places in omega arith
+    early-eight (suc n) = elim (cases_lt (older n places) 8) [
+      | inl few ↦
+          let more = sum_by-le-both (is_early (suc n)) (is_early n) (has_number n) None places (λ k less. one_more (at places k)) in
+          let below = early-older n in
+          let one = once n in
+          omega arith
+      | inr many ↦
+          let same = sum_by-le-sum_by (is_early (suc n)) (is_early n) places (no_more many) in
+          let before = early-eight n in
+          omega arith
+    ] where
+      one_more : (p : Option Connection) → is_early (suc n) p ≤ is_early n p + has_number n p
+      one_more None = omega arith
+      one_more (Some c) =
+          let most : is_early (suc n) (Some c) ≤ 1 =
+          one_at_most (is_large_stage c.stage && (nat_lt c.number (suc n) && nat_lt (older c.number places) 8)) in
+          elim (cases_Bool (is_large_stage c.stage)) [
+            | inl large ↦ elim (cases_lt (older c.number places) 8) [
+              | inl few ↦ elim (cases_lt c.number n) [
+                | inl less ↦ let own = early-yes n c large less few in omega arith
+                | inr above ↦ elim (cases_eq c.number n) [
+                  | inl same ↦
+                      let own : has_number n (Some c) ≡ 1 = ap (λ b. cond b 1 0) (eq-eqb c.number n same) in
+                      omega arith
+                  | inr other ↦ let zero_here = early-above (suc n) c (omega arith) in omega arith
+                ]
+              ]
+              | inr many ↦ let zero_here = early-many (suc n) c many in omega arith
+            ]
+            | inr small ↦ let zero_here = early-small (suc n) c small in omega arith
+          ]
+
+      no_more : 8 ≤ older n places → (p : Option Connection) → is_early (suc n) p ≤ is_early n p
+      no_more many None = omega arith
+      no_more many (Some c) =
+          let most : is_early (suc n) (Some c) ≤ 1 =
+          one_at_most (is_large_stage c.stage && (nat_lt c.number (suc n) && nat_lt (older c.number places) 8)) in
+          elim (cases_Bool (is_large_stage c.stage)) [
+            | inl large ↦ elim (cases_lt (older c.number places) 8) [
+              | inl few ↦ elim (cases_lt c.number n) [
+                | inl less ↦ let own = early-yes n c large less few in omega arith
+                | inr above ↦ elim (cases_eq c.number n) [
+                  | inl same ↦
+                      let here = subst (λ m. 8 ≤ older m places) (sym same) many in
+                      absurd (omega arith)
+                  | inr other ↦ let zero_here = early-above (suc n) c (omega arith) in omega arith
+                ]
+              ]
+              | inr much ↦ let zero_here = early-many (suc n) c much in omega arith
+            ]
+            | inr small ↦ let zero_here = early-small (suc n) c small in omega arith
+          ]
+
+-- a request that is as the rule says goes on only if fewer than eight are older
+going : (which : Pauses) (places : Places) (next : ℕ) (c : Connection) → (which ≡ pauses.Off → ⊥) → c.number < next
+    → IsAsRuled which places (Some c) → goes_on (Some c) ≤ is_early places next (Some c)
+going pauses.Off places next c pausing less ruled = absurd (pausing refl)
+going pauses.Younger places next c pausing less ruled = elim (cases_Bool (is_large_stage c.stage)) [
+  | inl large ↦ elim (cases_lt (older c.number places) 8) [
+    | inl few ↦
+        let one = early-yes places next c large less few in
+        let most : goes_on (Some c) ≤ 1 = one_at_most places (is_large (Some c) && not (is_paused (Some c))) in
+        omega arith
+    | inr many ↦
+        let paused : is_paused (Some c) ≡ true =
+        ruled ∙ and_from (is_large_stage c.stage) (nat_le 8 (older c.number places)) large (le-leb 8 (older c.number places) many) in
+        let none : goes_on (Some c) ≡ 0 =
+        ap (λ b. cond (b && not (is_paused (Some c))) 1 0) large ∙ ap (λ b. cond (not b) 1 0) paused in
+        omega arith
+  ]
+  | inr small ↦ let none : goes_on (Some c) ≡ 0 = ap (λ b. cond (b && not (is_paused (Some c))) 1 0) small in omega arith
+]
+going pauses.All places next c pausing less ruled =
+    let none : goes_on (Some c) ≡ 0 =
+    ap (λ b. cond (is_large (Some c) && not b) 1 0) ruled ∙ never (is_large_stage c.stage) in
+    omega arith where
+  never : (b : Bool) → ◌≡◌ {A = ℕ} (cond (b && not b) 1 0) 0
+  never true = refl
+  never false = refl
+
+pub eight_go_on : (which : Pauses) (register : Register) → EightGoOn which register
+eight_go_on which register holds pausing ruled =
+    let places = register.places in
+    let each = sum_by-le-each goes_on (is_early places register.next) None places (λ k less. at_place k (at places k) refl (ruled k less)) in
+    let most = early-eight places holds.once register.next in
+    omega arith where
+  at_place : (k : ℕ) (p : Option Connection) → at register.places k ≡ p → IsAsRuled which register.places p
+      → goes_on p ≤ is_early register.places register.next p
+  at_place k None was is = omega arith
+  at_place k (Some c) was is =
+      going which register.places register.next c pausing (known register.places register.queue register.next k c holds was) is
