@@ -1,9 +1,9 @@
 pub mod Advancing
 pub mod Earliest
+pub mod GoingOn
 pub mod IncomingLemmas
 pub mod Oldest
 pub mod OutgoingLemmas
-pub mod Pausing
 pub mod RegisterLemmas
 pub mod Running
 pub mod Settling

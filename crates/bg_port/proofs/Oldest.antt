@@ -1,6 +1,6 @@
 -- The eight oldest large requests.
-use Rattle.std.proofs.Common.{◌≡◌, ◌⊎◌, ◌==◌, ◌&&◌, not, ℕ, ◌+◌, ◌<◌, ◌≤◌, Bool, true, false, cond, List, length, sum_by, nat_le, nat_lt}
-use Rattle.std.proofs.Common.{Option, Some, None, refl, sym, ap, subst, ◌∙◌, inl, inr, arith, eq-eqb, le-leb, ltb-true, ltb-false}
+use Rattle.std.proofs.Common.{◌≡◌, ◌⊎◌, ◌&&◌, ℕ, ◌+◌, ◌<◌, ◌≤◌, Bool, true, false, cond, List, length, sum_by, nat_le, nat_lt}
+use Rattle.std.proofs.Common.{Option, Some, None, refl, sym, ap, subst, ◌∙◌, inl, inr, arith, eq-eqb, le-leb}
 use Rattle.std.proofs.lemmas.Bool.{and_from, and_right, cases_Bool, cases_eq, cases_lt, le-ltb, leb-true, lt-leb, lt-ltb}
 use Rattle.bg_port.proofs.RegisterLemmas.{known, within}
 use Rattle.bg_port.proofs.Sums.{sum_by-le-both, sum_by-le-each, sum_by-lt-each, sum_by-le-length}

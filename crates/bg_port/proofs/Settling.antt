@@ -1,11 +1,11 @@
 -- Each request that is paused or resumed by the rule is one less that is otherwise than the rule says.
-use Rattle.std.proofs.Common.{◌≡◌, ◌&&◌, ◌||◌, not, ℕ, ◌+◌, ◌<◌, ◌≤◌, Bool, true, false, cond, ◌/◌, List, [], ◌++◌, length, set, set-set, sum_by, nat_le, nat_lt}
+use Rattle.std.proofs.Common.{◌≡◌, ◌&&◌, ◌||◌, not, ℕ, ◌+◌, Bool, true, false, cond, ◌/◌, List, [], ◌++◌, set, set-set, sum_by, nat_le, nat_lt}
 use Rattle.std.proofs.Common.{Option, Some, None, refl, sym, ap, subst, ◌∙◌, arith}
 use Rattle.std.proofs.lemmas.List.Sums.{sum_by-le-sum_by, sum_by-set}
 use Rattle.bg_port.proofs.RegisterLemmas.{within}
 use Rattle.bg_port.specs.Incoming.{Incoming, counted}
-use Rattle.bg_port.specs.Pauses.{IsAsRuled, RegulatingSettles, Settles, differ, enough, is_large_stage, is_older_large, is_paused_stage}
-use Rattle.bg_port.specs.Pauses.{is_paused, is_to_pause, is_unruled, looked, older, pauses_from, pauses_now, pauses_of, regulated, unruled_count}
+use Rattle.bg_port.specs.Pauses.{IsAsRuled, RegulatingSettles, differ, enough, is_large_stage, is_older_large, is_paused_stage}
+use Rattle.bg_port.specs.Pauses.{is_to_pause, is_unruled, looked, older, pauses_from, pauses_now, pauses_of, unruled_count}
 use Rattle.bg_port.specs.Ports.{changed_by, changed_from, turn_by}
 use Rattle.bg_port.specs.Registers.{Register, at, takeable}
 use Rattle.bg_port.specs.Stages.{turned}
@@ -176,9 +176,9 @@ regulating_settles old key now unruled =
       rule = ap (λ b. pauses_from settings new b) flag ∙ by_flag settings (pauses_now settings register old.is_pausing) new register turns.waiting;
       fewer = turns.fewer;
     } where
-  by_flag : (settings : PortSettings) (b : Bool) (new register : Register)
-      → sum_by waiting_bytes_of new.places ≡ sum_by waiting_bytes_of register.places
-      → pauses_from settings new b ≡ pauses_from settings register b
-  by_flag settings false new register same = refl
-  by_flag settings true new register same =
-      ap (λ taken. cond (nat_lt (settings.request_bytes / 2) taken) pauses.All pauses.Younger) same
+      by_flag : (settings : PortSettings) (b : Bool) (new register : Register)
+          → sum_by waiting_bytes_of new.places ≡ sum_by waiting_bytes_of register.places
+          → pauses_from settings new b ≡ pauses_from settings register b
+      by_flag settings false new register same = refl
+      by_flag settings true new register same =
+          ap (λ taken. cond (nat_lt (settings.request_bytes / 2) taken) pauses.All pauses.Younger) same

@@ -1,5 +1,5 @@
 -- Late connections are ended, and a shutdown too.
-use Rattle.std.proofs.Common.{◌≡◌, ◌==◌, ◌&&◌, ℕ, ◌+◌, ◌<◌, ◌≤◌, suc, zero, cond, Bool, true, false, List, [], ◌∷◌, length, get_or, set}
+use Rattle.std.proofs.Common.{◌≡◌, ◌==◌, ◌&&◌, ℕ, ◌+◌, ◌≤◌, cond, Bool, true, false, set}
 use Rattle.std.proofs.Common.{sum_by, nat_le, Option, Some, None, refl, sym, ap, ◌∙◌, arith, eq-eqb, le-leb, set-set}
 use Rattle.std.proofs.lemmas.Bool.{and_from, or_right}
 use Rattle.std.proofs.lemmas.List.Sums.{sum_by-set}

@@ -1,11 +1,11 @@
 -- The pauses of large requests while requests take too much memory.
-use Rattle.std.specs.Prelude.{◌≡◌, ◌&&◌, ◌||◌, not, if◌then◌else◌, ℕ, ◌+◌, ◌*◌, ◌/◌, ◌<◌, ◌≤◌, Bool, true, false, List, EachIndex}
-use Rattle.std.specs.Prelude.{nat_le, nat_lt, sum_by, Option, Some, None, ⊤}
+use Rattle.std.specs.Prelude.{◌≡◌, ◌&&◌, ◌||◌, not, if◌then◌else◌, ℕ, ◌+◌, ◌*◌, ◌/◌, ◌≤◌, Bool, true, false, List, EachIndex}
+use Rattle.std.specs.Prelude.{nat_le, nat_lt, sum_by, Option, Some, None}
 use Rattle.bg_port.specs.Incoming.{counted}
 use Rattle.bg_port.specs.Ports.{changed_by, turn_by}
 use Rattle.bg_port.specs.Registers.{Holds, Register, at}
 use Rattle.bg_port.specs.Slowness.{is_slow_request}
-use Rattle.bg_port.specs.Totals.{request_bytes_of, waiting_bytes_of}
+use Rattle.bg_port.specs.Totals.{paused_of, request_bytes_of, waiting_bytes_of}
 use Rattle.bg_port.specs.declared.connection.Connection.{Connection}
 use Rattle.bg_port.specs.declared.pauses.Pauses.{Pauses}
 use Rattle.bg_port.specs.declared.pauses.Pauses.TheVariants as pauses
@@ -137,12 +137,18 @@ regulated old key now = record (looked old) { connections = changed_by (turn_by 
 
 -- THE LAWS
 
--- while the port pauses and each request is as the rule says, at most eight large ones go on
-abbrev pub EightGoOn : Pauses → Register → Type 0
-EightGoOn which register =
-    Holds register.places register.queue register.next → ¬ (which ≡ pauses.Off)
+-- if each request is as the rule says: none is paused while the port does not pause; and of the large ones at most eight
+-- go on while the younger ones are paused, and none while all are
+abbrev pub AreWithin : Pauses → List (Option Connection) → Type 0
+AreWithin pauses.Off places = sum_by paused_of places ≡ 0
+AreWithin pauses.Younger places = sum_by goes_on places ≤ 8
+AreWithin pauses.All places = sum_by goes_on places ≡ 0
+
+abbrev pub FewGoOn : Pauses → Register → Type 0
+FewGoOn which register =
+    Holds register.places register.queue register.next
     → EachIndex register.places (λ key. IsAsRuled which register.places (at register.places key))
-    → sum_by goes_on register.places ≤ 8
+    → AreWithin which register.places
 
 -- the rule stays the same, and one request less is otherwise than it says
 pub record Settles (old new : Port) : Type 0 where

@@ -2,7 +2,7 @@
 ghost use Rattle.std.specs.Prelude.{Bool, List, ℕ};
 ghost use Rattle.bg_port.specs.Closing.{LateIsEnded, ShutdownEnds};
 ghost use Rattle.bg_port.specs.Events.{Event, EventsAdvance, IsGivenOnce, StagesContinue, StaysGone};
-ghost use Rattle.bg_port.specs.Pauses.{EightGoOn, RegulatingSettles};
+ghost use Rattle.bg_port.specs.Pauses.{FewGoOn, RegulatingSettles};
 ghost use Rattle.bg_port.specs.Registers.{Register};
 ghost use Rattle.bg_port.specs.declared.connection.Connection.{Connection};
 ghost use Rattle.bg_port.specs.declared.pauses.Pauses.{Pauses};
@@ -46,10 +46,11 @@ pub fn a_shutdown_ends()
     ensures { (until now : ℕ) (register : Register) → ShutdownEnds until now register }
 {}
 
-/// While the port pauses and `regulate` finds no request that is otherwise than the rule says, at most eight large requests
-/// go on.
-pub fn at_most_eight_go_on()
-    ensures { (which : Pauses) (register : Register) → EightGoOn which register }
+/// Once `regulate` finds no request that is otherwise than the rule says: if the port does not pause, none is paused; and
+/// while it pauses, at most eight large requests go on, and none while those that wait for workers take more than half of
+/// what requests may take.
+pub fn few_large_requests_go_on()
+    ensures { (which : Pauses) (register : Register) → FewGoOn which register }
 {}
 
 /// When `regulate` pauses or resumes a request, one request less is otherwise than the rule says, and the rule stays the

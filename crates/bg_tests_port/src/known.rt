@@ -21,6 +21,8 @@ pub enum Rule {
     Totals,
     /// A connection is ended when its timeout has passed, and not before.
     Timeouts,
+    /// A request that is not large is not paused.
+    Pauses,
 }
 
 /// Whether a rule holds.

@@ -26,6 +26,7 @@ impl Trial {
             let millis = random.below(9_000);
             self.pass(millis)?;
         }
+        self.regulate()?;
         self.check_totals()
     }
 

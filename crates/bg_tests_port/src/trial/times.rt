@@ -57,6 +57,13 @@ impl Trial {
         check(!is_late, Rule::Timeouts)
     }
 
+    /// The port pauses no request, since none of them is large.
+    pub fn regulate(&mut self) -> Result<(), Rule> {
+        check(self.port.regulate(self.now).is_none(), Rule::Pauses)?;
+        check(self.port.totals().paused == 0, Rule::Pauses)?;
+        check(self.port.stuck_upload(0, self.now).is_none(), Rule::Pauses)
+    }
+
     /// What the port tells of all connections is what the rules know.
     pub fn check_totals(&self) -> Result<(), Rule> {
         let used = self.count_used();

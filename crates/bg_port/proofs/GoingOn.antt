@@ -1,23 +1,18 @@
--- The laws of the pauses.
-use Rattle.std.proofs.Common.{◌≡◌, ◌==◌, ◌&&◌, ◌||◌, not, ℕ, ◌+◌, ◌<◌, ◌≤◌, suc, zero, Bool, true, false, cond, List, length, set, set-set, sum_by, nat_le, nat_lt}
+-- How many large requests go on while the port pauses.
+use Rattle.std.proofs.Common.{◌≡◌, ◌&&◌, not, ℕ, ◌+◌, ◌<◌, ◌≤◌, suc, zero, Bool, true, false, cond, List, length, sum_by, nat_le, nat_lt}
 use Rattle.std.proofs.Common.{Option, Some, None, refl, sym, ap, subst, ◌∙◌, inl, inr, arith, eq-eqb, le-leb}
-use Rattle.std.proofs.lemmas.Bool.{and_from, cases_Bool, cases_eq, cases_lt, le-ltb, lt-leb, lt-ltb}
-use Rattle.std.proofs.lemmas.List.Sums.{sum_by-le-sum_by, sum_by-set}
-use Rattle.bg_port.proofs.Oldest.{none-older, older-mono, older-strict}
-use Rattle.bg_port.proofs.RegisterLemmas.{known, within}
+use Rattle.std.proofs.lemmas.Bool.{and_from, cases_Bool, cases_eq, cases_lt, le-ltb, lt-ltb}
+use Rattle.std.proofs.lemmas.List.Sums.{sum_by-le-sum_by}
+use Rattle.bg_port.proofs.Oldest.{none-older}
+use Rattle.bg_port.proofs.RegisterLemmas.{known}
 use Rattle.bg_port.proofs.Sums.{sum_by-le-both, sum_by-le-each, sum_by-le-length}
-use Rattle.bg_port.specs.Pauses.{EightGoOn, IsAsRuled, RegulatingSettles, Settles, differ, enough, goes_on, is_large, is_large_stage, is_older_large}
-use Rattle.bg_port.specs.Pauses.{is_paused, is_paused_stage, is_to_pause, is_unruled, looked, older, pauses_from, pauses_now, pauses_of, regulated, unruled_count}
-use Rattle.bg_port.specs.Ports.{changed_by, changed_from, turn_by}
-use Rattle.bg_port.specs.Registers.{Holds, Register, at, has_number, takeable}
-use Rattle.bg_port.specs.Stages.{turned}
-use Rattle.bg_port.specs.Totals.{request_bytes_of, waiting_bytes_of}
+use Rattle.bg_port.specs.Pauses.{FewGoOn, IsAsRuled, goes_on, is_large, is_large_stage, is_older_large}
+use Rattle.bg_port.specs.Pauses.{is_paused, is_paused_stage, older}
+use Rattle.bg_port.specs.Registers.{Register, at, has_number}
+use Rattle.bg_port.specs.Totals.{paused_of, stage_totals}
 use Rattle.bg_port.specs.declared.connection.Connection.{Connection}
 use Rattle.bg_port.specs.declared.pauses.Pauses.{Pauses}
 use Rattle.bg_port.specs.declared.pauses.Pauses.TheVariants as pauses
-use Rattle.bg_port.specs.declared.port.Port.{Port}
-use Rattle.bg_port.specs.declared.port.PortSettings.{PortSettings}
-use Rattle.bg_port.specs.declared.stage.Reading.{Reading}
 use Rattle.bg_port.specs.declared.stage.Stage.{Stage}
 use Rattle.bg_port.specs.declared.stage.Stage.TheVariants as stage
 
@@ -38,7 +33,7 @@ module _ (places : Places) where
       → is_early n (Some c) ≡ 1
   early-yes n c large less few =
       ap (λ b. cond b 1 0) (and_from (is_large_stage c.stage) (nat_lt c.number n && nat_lt (older c.number places) 8) large
-          (and_from (nat_lt c.number n) (nat_lt (older c.number places) 8) (lt-ltb c.number n less) (lt-ltb (older c.number places) 8 few)))
+      (and_from (nat_lt c.number n) (nat_lt (older c.number places) 8) (lt-ltb c.number n less) (lt-ltb (older c.number places) 8 few)))
 
   early-above : (n : ℕ) (c : Connection) → n ≤ c.number → is_early n (Some c) ≡ 0
   early-above n c above = elim (is_large_stage c.stage) as (λ b. ◌≡◌ {A = ℕ} (cond (b && (nat_lt c.number n && nat_lt (older c.number places) 8)) 1 0) 0) [
@@ -127,11 +122,10 @@ module _ (places : Places) where
             | inr small ↦ let zero_here = early-small (suc n) c small in omega arith
           ]
 
--- a request that is as the rule says goes on only if fewer than eight are older
-going : (which : Pauses) (places : Places) (next : ℕ) (c : Connection) → (which ≡ pauses.Off → ⊥) → c.number < next
-    → IsAsRuled which places (Some c) → goes_on (Some c) ≤ is_early places next (Some c)
-going pauses.Off places next c pausing less ruled = absurd (pausing refl)
-going pauses.Younger places next c pausing less ruled = elim (cases_Bool (is_large_stage c.stage)) [
+-- while the younger ones are paused, a request goes on only if fewer than eight are older
+going : (places : Places) (next : ℕ) (c : Connection) → c.number < next → IsAsRuled pauses.Younger places (Some c)
+    → goes_on (Some c) ≤ is_early places next (Some c)
+going places next c less ruled = elim (cases_Bool (is_large_stage c.stage)) [
   | inl large ↦ elim (cases_lt (older c.number places) 8) [
     | inl few ↦
         let one = early-yes places next c large less few in
@@ -146,22 +140,50 @@ going pauses.Younger places next c pausing less ruled = elim (cases_Bool (is_lar
   ]
   | inr small ↦ let none : goes_on (Some c) ≡ 0 = ap (λ b. cond (b && not (is_paused (Some c))) 1 0) small in omega arith
 ]
-going pauses.All places next c pausing less ruled =
+
+-- while all are paused, none goes on
+none_goes : (places : Places) (p : Option Connection) → IsAsRuled pauses.All places p → goes_on p ≤ 0
+none_goes places None ruled = omega arith
+none_goes places (Some c) ruled =
     let none : goes_on (Some c) ≡ 0 =
     ap (λ b. cond (is_large (Some c) && not b) 1 0) ruled ∙ never (is_large_stage c.stage) in
     omega arith where
-  never : (b : Bool) → ◌≡◌ {A = ℕ} (cond (b && not b) 1 0) 0
-  never true = refl
-  never false = refl
+      never : (b : Bool) → ◌≡◌ {A = ℕ} (cond (b && not b) 1 0) 0
+      never true = refl
+      never false = refl
 
-pub eight_go_on : (which : Pauses) (register : Register) → EightGoOn which register
-eight_go_on which register holds pausing ruled =
+-- while the port does not pause, none is paused
+none_paused : (places : Places) (p : Option Connection) → IsAsRuled pauses.Off places p → paused_of p ≤ 0
+none_paused places None ruled = omega arith
+none_paused places (Some c) ruled = at_stage c.stage ruled where
+  at_stage : (s : Stage) → is_paused_stage s ≡ false → (stage_totals s).paused ≤ 0
+  at_stage stage.Accepted e = omega arith
+  at_stage (stage.Reading r) e = let none : (stage_totals (stage.Reading r)).paused ≡ 0 = ap (λ b. cond b 1 0) e in omega arith
+  at_stage (stage.Waiting w) e = omega arith
+  at_stage stage.Given e = omega arith
+  at_stage (stage.Writing w) e = omega arith
+  at_stage (stage.Lingering l) e = omega arith
+
+-- a sum whose parts are 0 is 0
+no_sum : (f : Option Connection → ℕ) (places : Places) → ((k : ℕ) → k < length places → f (at places k) ≤ 0)
+    → sum_by f places ≡ 0
+no_sum f places none =
+    let le = sum_by-le-each f (λ p. 0) None places none in
+    let zeros = sum_by-le-length {X = Option Connection} (λ p. 0) 0 (λ p. omega arith) places in
+    omega arith
+
+pub few_go_on : (which : Pauses) (register : Register) → FewGoOn which register
+few_go_on pauses.Off register holds ruled =
+    no_sum paused_of register.places (λ k less. none_paused register.places (at register.places k) (ruled k less))
+few_go_on pauses.Younger register holds ruled =
     let places = register.places in
     let each = sum_by-le-each goes_on (is_early places register.next) None places (λ k less. at_place k (at places k) refl (ruled k less)) in
     let most = early-eight places holds.once register.next in
     omega arith where
-  at_place : (k : ℕ) (p : Option Connection) → at register.places k ≡ p → IsAsRuled which register.places p
-      → goes_on p ≤ is_early register.places register.next p
-  at_place k None was is = omega arith
-  at_place k (Some c) was is =
-      going which register.places register.next c pausing (known register.places register.queue register.next k c holds was) is
+      at_place : (k : ℕ) (p : Option Connection) → at register.places k ≡ p → IsAsRuled pauses.Younger register.places p
+          → goes_on p ≤ is_early register.places register.next p
+      at_place k None was is = omega arith
+      at_place k (Some c) was is =
+          going register.places register.next c (known register.places register.queue register.next k c holds was) is
+few_go_on pauses.All register holds ruled =
+    no_sum goes_on register.places (λ k less. none_goes register.places (at register.places k) (ruled k less))

@@ -1,0 +1,207 @@
+//! Pauses of large requests.
+use crate::random::Random;
+use crate::uploads::{Place, REQUEST_MILLIS, Uploads, Wrong, check};
+use std::alloc::Global;
+
+/// The number of pieces of an upload that has all but its last 10,000 bytes.
+const MOST_PIECES: usize = 9;
+
+/// The number of random runs, and of events of each of them.
+const RUNS: u64 = 40;
+
+const EVENTS: u64 = 300;
+
+/// How many of the youngest uploads go on in a random run.
+const RECENT: u64 = 30;
+
+/// A port at which twelve uploads take more memory than they may.
+fn crowded(alloc: Global) -> Result<Uploads, Wrong> {
+    let mut uploads = Uploads::new(alloc)?;
+    uploads.begin_all(12, MOST_PIECES)?;
+    uploads.regulate()?;
+    Ok(uploads)
+}
+
+/// Whether the uploads of these numbers are paused, and those before go on.
+fn check_paused(uploads: &Uploads, from: usize) -> Result<(), Wrong> {
+    for (number, upload) in uploads.known.iter().enumerate() {
+        let is_paused = upload.at == Place::Arriving && number >= from;
+        check(upload.is_paused == is_paused, Wrong::Paused)?;
+    }
+    Ok(())
+}
+
+/// Eleven uploads take less than they may. A twelfth one takes more, and the eight oldest go on.
+fn pause_the_younger(alloc: Global) -> Result<(), Wrong> {
+    let mut uploads = Uploads::new(alloc)?;
+    uploads.begin_all(11, MOST_PIECES)?;
+    uploads.regulate()?;
+    check_paused(&uploads, 11)?;
+    uploads.begin_all(1, MOST_PIECES)?;
+    uploads.regulate()?;
+    check_paused(&uploads, 8)?;
+    // once one of the eight is cut off, the ninth goes on
+    uploads.cut(3);
+    uploads.regulate()?;
+    check_paused(&uploads, 9)?;
+    // a small one is not paused, and bytes of a paused one that were read are not lost
+    uploads.begin()?;
+    uploads.feed(11, 5_000)?;
+    uploads.regulate()?;
+    check(uploads.port.totals().paused == 3, Wrong::Paused)
+}
+
+/// Uploads stay paused until requests take less than three quarters of what they may.
+fn resume_below_three_quarters(alloc: Global) -> Result<(), Wrong> {
+    let mut uploads = crowded(alloc)?;
+    for number in 0..3 {
+        uploads.cut(number);
+    }
+    uploads.regulate()?;
+    check_paused(&uploads, 11)?;
+    uploads.cut(3);
+    uploads.regulate()?;
+    check_paused(&uploads, 12)
+}
+
+/// While five whole uploads wait, which are more than half of what requests may take, all others are paused.
+fn pause_all(alloc: Global) -> Result<(), Wrong> {
+    let mut uploads = crowded(alloc)?;
+    for number in 0..5 {
+        uploads.feed(number, 10_000)?;
+    }
+    uploads.regulate()?;
+    check_paused(&uploads, 5)?;
+    uploads.serve()?;
+    uploads.regulate()?;
+    check_paused(&uploads, 12)
+}
+
+/// After ten seconds the uploads that go on are slow, and the paused ones are not.
+fn give_up_slow(alloc: Global) -> Result<(), Wrong> {
+    let mut uploads = crowded(alloc)?;
+    uploads.now = 10_000;
+    for number in 0..8 {
+        check(uploads.give_up_slowest()? == Some(number), Wrong::Slow)?;
+    }
+    check(uploads.give_up_slowest()? == None, Wrong::Slow)?;
+    // four uploads take less than three quarters, so they are resumed, and are slow two seconds later
+    uploads.regulate()?;
+    check_paused(&uploads, 12)?;
+    uploads.now = 11_999;
+    check(uploads.give_up_slowest()? == None, Wrong::Slow)?;
+    uploads.now = 12_000;
+    check(uploads.give_up_slowest()? == Some(8), Wrong::Slow)
+}
+
+/// A paused upload is given up at its timeout.
+fn give_up_late(alloc: Global) -> Result<(), Wrong> {
+    let mut uploads = crowded(alloc)?;
+    check(
+        uploads.port.give_up_late(REQUEST_MILLIS - 1).is_none(),
+        Wrong::Stage,
+    )?;
+    for _ in 0..12 {
+        check(
+            uploads.port.give_up_late(REQUEST_MILLIS).is_some(),
+            Wrong::Stage,
+        )?;
+    }
+    check(uploads.port.totals().arriving == 0, Wrong::Stage)
+}
+
+/// Uploads that send nothing for two seconds are stuck, also paused ones, while requests take too much memory.
+fn find_stuck(alloc: Global) -> Result<(), Wrong> {
+    let mut uploads = Uploads::new(alloc)?;
+    uploads.begin_all(11, MOST_PIECES)?;
+    uploads.now = 2_000;
+    check(uploads.port.stuck_upload(0, 2_000) == None, Wrong::Slow)?;
+    uploads.now = 0;
+    uploads.begin_all(1, MOST_PIECES)?;
+    uploads.regulate()?;
+    check(uploads.port.stuck_upload(0, 1_999) == None, Wrong::Slow)?;
+    uploads.now = 2_000;
+    check(uploads.port.stuck_upload(0, 2_000) == Some(0), Wrong::Slow)?;
+    check(
+        uploads.port.stuck_upload(11, 2_000) == Some(11),
+        Wrong::Slow,
+    )?;
+    check(uploads.port.stuck_upload(12, 2_000) == None, Wrong::Slow)?;
+    uploads.feed(0, 5_000)?;
+    uploads.check_stuck(0)?;
+    check(uploads.port.stuck_upload(0, 2_000) == Some(1), Wrong::Slow)
+}
+
+/// One random event.
+fn step(uploads: &mut Uploads, random: &mut Random) -> Result<(), Wrong> {
+    if random.below(3) == 0 {
+        uploads.begin()?;
+    }
+    let back = random.below(RECENT) as usize;
+    let number = uploads.known.len().saturating_sub(back);
+    match random.below(24) {
+        0 => uploads.cut(number),
+        1..=3 => uploads.serve()?,
+        4 => {
+            uploads.give_up_slowest()?;
+        }
+        _ => uploads.feed(number, random.below(32_768) as usize)?,
+    }
+    uploads.now = uploads.now.saturating_add(random.below(100));
+    uploads.check_stuck(random.below(40) as usize)?;
+    uploads.regulate()
+}
+
+fn run(alloc: Global, seed: u64) -> Result<(), Wrong> {
+    let mut uploads = Uploads::new(alloc)?;
+    let mut random = Random::new(seed);
+    for _ in 0..EVENTS {
+        step(&mut uploads, &mut random)?;
+    }
+    check(uploads.turned > 0, Wrong::NeverPaused)
+}
+
+/// The first seed whose events break a rule, and what is wrong.
+fn first_wrong(alloc: Global) -> Option<(u64, Wrong)> {
+    for seed in 0..RUNS {
+        if let Err(wrong) = run(alloc, seed) {
+            return Some((seed, wrong));
+        }
+    }
+    None
+}
+
+#[test]
+fn large_requests_are_paused_and_the_eight_oldest_go_on(rt: HostRuntime) {
+    assert_eq!(rt; pause_the_younger(rt.alloc()), Ok(()));
+}
+
+#[test]
+fn they_resume_below_three_quarters(rt: HostRuntime) {
+    assert_eq!(rt; resume_below_three_quarters(rt.alloc()), Ok(()));
+}
+
+#[test]
+fn all_are_paused_while_those_that_wait_take_more_than_half(rt: HostRuntime) {
+    assert_eq!(rt; pause_all(rt.alloc()), Ok(()));
+}
+
+#[test]
+fn a_paused_request_is_not_slow(rt: HostRuntime) {
+    assert_eq!(rt; give_up_slow(rt.alloc()), Ok(()));
+}
+
+#[test]
+fn the_timeout_of_a_paused_request_goes_on(rt: HostRuntime) {
+    assert_eq!(rt; give_up_late(rt.alloc()), Ok(()));
+}
+
+#[test]
+fn a_stuck_upload_is_found(rt: HostRuntime) {
+    assert_eq!(rt; find_stuck(rt.alloc()), Ok(()));
+}
+
+#[test]
+fn random_uploads_are_paused_by_the_rule(rt: HostRuntime) {
+    assert_eq!(rt; first_wrong(rt.alloc()), None);
+}
