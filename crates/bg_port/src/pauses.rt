@@ -1,5 +1,5 @@
 //! Which large requests are paused.
-ghost use Rattle.std.specs.Prelude.{◌≡◌};
+ghost use Rattle.std.specs.Prelude.{◌≡◌, Some};
 ghost use Rattle.bg_port.specs.Pauses.{is_large_from, is_large_stage, is_paused, is_paused_stage, is_stuck, is_stuck_stage};
 ghost use Rattle.bg_port.specs.Pauses.{large_from, number_if};
 
@@ -55,6 +55,15 @@ impl Stage {
     }
 }
 
+impl Connection {
+    /// Whether its request is large, and its number is at least this one.
+    fn is_large_from(&self, least: u64) -> bool
+        ensures { result ≡ is_large_from least (Some self.now) }
+    {
+        self.stage.is_large() && least <= self.number
+    }
+}
+
 /// Whether the request of a place is paused.
 pub(crate) fn is_paused(place: &Option<Connection>) -> bool
     ensures { result ≡ is_paused place.now }
@@ -80,7 +89,7 @@ pub(crate) fn is_large_from(place: &Option<Connection>, least: u64) -> bool
     ensures { result ≡ is_large_from least place.now }
 {
     match place {
-        Some(connection) => connection.stage.is_large() && least <= connection.number,
+        Some(connection) => connection.is_large_from(least),
         None => false,
     }
 }
@@ -96,10 +105,7 @@ pub(crate) fn large_from(place: &Option<Connection>, least: u64) -> Option<u64>
     ensures { result ≡ large_from least place.now }
 {
     match place {
-        Some(connection) => {
-            let large = connection.stage.is_large() && least <= connection.number;
-            number_if(large, connection.number)
-        }
+        Some(connection) => number_if(connection.is_large_from(least), connection.number),
         None => None,
     }
 }

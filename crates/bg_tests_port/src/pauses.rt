@@ -14,12 +14,10 @@ const EVENTS: u64 = 300;
 /// How many of the youngest uploads go on in a random run.
 const RECENT: u64 = 30;
 
-/// A port at which twelve uploads take more memory than they may.
-fn crowded(alloc: Global) -> Result<Uploads, Wrong> {
-    let mut uploads = Uploads::new(alloc)?;
+/// Twelve uploads come, which take more memory than they may.
+fn crowd(uploads: &mut Uploads) -> Result<(), Wrong> {
     uploads.begin_all(12, MOST_PIECES)?;
-    uploads.regulate()?;
-    Ok(uploads)
+    uploads.regulate()
 }
 
 /// Whether the uploads of these numbers are paused, and those before go on.
@@ -32,18 +30,17 @@ fn check_paused(uploads: &Uploads, from: usize) -> Result<(), Wrong> {
 }
 
 /// Eleven uploads take less than they may. A twelfth one takes more, and the eight oldest go on.
-fn pause_the_younger(alloc: Global) -> Result<(), Wrong> {
-    let mut uploads = Uploads::new(alloc)?;
+fn pause_the_younger(uploads: &mut Uploads) -> Result<(), Wrong> {
     uploads.begin_all(11, MOST_PIECES)?;
     uploads.regulate()?;
-    check_paused(&uploads, 11)?;
+    check_paused(uploads, 11)?;
     uploads.begin_all(1, MOST_PIECES)?;
     uploads.regulate()?;
-    check_paused(&uploads, 8)?;
+    check_paused(uploads, 8)?;
     // once one of the eight is cut off, the ninth goes on
     uploads.cut(3);
     uploads.regulate()?;
-    check_paused(&uploads, 9)?;
+    check_paused(uploads, 9)?;
     // a small one is not paused, and bytes of a paused one that were read are not lost
     uploads.begin()?;
     uploads.feed(11, 5_000)?;
@@ -52,34 +49,34 @@ fn pause_the_younger(alloc: Global) -> Result<(), Wrong> {
 }
 
 /// Uploads stay paused until requests take less than three quarters of what they may.
-fn resume_below_three_quarters(alloc: Global) -> Result<(), Wrong> {
-    let mut uploads = crowded(alloc)?;
+fn resume_below_three_quarters(uploads: &mut Uploads) -> Result<(), Wrong> {
+    crowd(uploads)?;
     for number in 0..3 {
         uploads.cut(number);
     }
     uploads.regulate()?;
-    check_paused(&uploads, 11)?;
+    check_paused(uploads, 11)?;
     uploads.cut(3);
     uploads.regulate()?;
-    check_paused(&uploads, 12)
+    check_paused(uploads, 12)
 }
 
 /// While five whole uploads wait, which are more than half of what requests may take, all others are paused.
-fn pause_all(alloc: Global) -> Result<(), Wrong> {
-    let mut uploads = crowded(alloc)?;
+fn pause_all(uploads: &mut Uploads) -> Result<(), Wrong> {
+    crowd(uploads)?;
     for number in 0..5 {
         uploads.feed(number, 10_000)?;
     }
     uploads.regulate()?;
-    check_paused(&uploads, 5)?;
+    check_paused(uploads, 5)?;
     uploads.serve()?;
     uploads.regulate()?;
-    check_paused(&uploads, 12)
+    check_paused(uploads, 12)
 }
 
 /// After ten seconds the uploads that go on are slow, and the paused ones are not.
-fn give_up_slow(alloc: Global) -> Result<(), Wrong> {
-    let mut uploads = crowded(alloc)?;
+fn give_up_slow(uploads: &mut Uploads) -> Result<(), Wrong> {
+    crowd(uploads)?;
     uploads.now = 10_000;
     for number in 0..8 {
         check(uploads.give_up_slowest()? == Some(number), Wrong::Slow)?;
@@ -87,7 +84,7 @@ fn give_up_slow(alloc: Global) -> Result<(), Wrong> {
     check(uploads.give_up_slowest()? == None, Wrong::Slow)?;
     // four uploads take less than three quarters, so they are resumed, and are slow two seconds later
     uploads.regulate()?;
-    check_paused(&uploads, 12)?;
+    check_paused(uploads, 12)?;
     uploads.now = 11_999;
     check(uploads.give_up_slowest()? == None, Wrong::Slow)?;
     uploads.now = 12_000;
@@ -95,8 +92,8 @@ fn give_up_slow(alloc: Global) -> Result<(), Wrong> {
 }
 
 /// A paused upload is given up at its timeout.
-fn give_up_late(alloc: Global) -> Result<(), Wrong> {
-    let mut uploads = crowded(alloc)?;
+fn give_up_late(uploads: &mut Uploads) -> Result<(), Wrong> {
+    crowd(uploads)?;
     check(
         uploads.port.give_up_late(REQUEST_MILLIS - 1).is_none(),
         Wrong::Stage,
@@ -111,8 +108,7 @@ fn give_up_late(alloc: Global) -> Result<(), Wrong> {
 }
 
 /// Uploads that send nothing for two seconds are stuck, also paused ones, while requests take too much memory.
-fn find_stuck(alloc: Global) -> Result<(), Wrong> {
-    let mut uploads = Uploads::new(alloc)?;
+fn find_stuck(uploads: &mut Uploads) -> Result<(), Wrong> {
     uploads.begin_all(11, MOST_PIECES)?;
     uploads.now = 2_000;
     check(uploads.port.stuck_upload(0, 2_000) == None, Wrong::Slow)?;
@@ -152,19 +148,53 @@ fn step(uploads: &mut Uploads, random: &mut Random) -> Result<(), Wrong> {
     uploads.regulate()
 }
 
-fn run(alloc: Global, seed: u64) -> Result<(), Wrong> {
-    let mut uploads = Uploads::new(alloc)?;
+fn run_random(uploads: &mut Uploads, seed: u64) -> Result<(), Wrong> {
     let mut random = Random::new(seed);
     for _ in 0..EVENTS {
-        step(&mut uploads, &mut random)?;
+        step(uploads, &mut random)?;
     }
     check(uploads.turned > 0, Wrong::NeverPaused)
+}
+
+/// What happens at a port.
+#[derive(Clone, Copy, Drop)]
+enum Case {
+    PauseTheYounger,
+    ResumeBelowThreeQuarters,
+    PauseAll,
+    GiveUpSlow,
+    GiveUpLate,
+    FindStuck,
+    /// Random events of a seed.
+    Random(u64),
+}
+
+impl Case {
+    fn carry_out(self, uploads: &mut Uploads) -> Result<(), Wrong> {
+        match self {
+            Case::PauseTheYounger => pause_the_younger(uploads),
+            Case::ResumeBelowThreeQuarters => resume_below_three_quarters(uploads),
+            Case::PauseAll => pause_all(uploads),
+            Case::GiveUpSlow => give_up_slow(uploads),
+            Case::GiveUpLate => give_up_late(uploads),
+            Case::FindStuck => find_stuck(uploads),
+            Case::Random(seed) => run_random(uploads, seed),
+        }
+    }
+}
+
+/// What is wrong after this, if anything is.
+fn wrong_of(alloc: Global, case: Case) -> Option<Wrong> {
+    match Uploads::new(alloc) {
+        Ok(mut uploads) => case.carry_out(&mut uploads).err(),
+        Err(wrong) => Some(wrong),
+    }
 }
 
 /// The first seed whose events break a rule, and what is wrong.
 fn first_wrong(alloc: Global) -> Option<(u64, Wrong)> {
     for seed in 0..RUNS {
-        if let Err(wrong) = run(alloc, seed) {
+        if let Some(wrong) = wrong_of(alloc, Case::Random(seed)) {
             return Some((seed, wrong));
         }
     }
@@ -173,32 +203,32 @@ fn first_wrong(alloc: Global) -> Option<(u64, Wrong)> {
 
 #[test]
 fn large_requests_are_paused_and_the_eight_oldest_go_on(rt: HostRuntime) {
-    assert_eq!(rt; pause_the_younger(rt.alloc()), Ok(()));
+    assert_eq!(rt; wrong_of(rt.alloc(), Case::PauseTheYounger), None);
 }
 
 #[test]
 fn they_resume_below_three_quarters(rt: HostRuntime) {
-    assert_eq!(rt; resume_below_three_quarters(rt.alloc()), Ok(()));
+    assert_eq!(rt; wrong_of(rt.alloc(), Case::ResumeBelowThreeQuarters), None);
 }
 
 #[test]
 fn all_are_paused_while_those_that_wait_take_more_than_half(rt: HostRuntime) {
-    assert_eq!(rt; pause_all(rt.alloc()), Ok(()));
+    assert_eq!(rt; wrong_of(rt.alloc(), Case::PauseAll), None);
 }
 
 #[test]
 fn a_paused_request_is_not_slow(rt: HostRuntime) {
-    assert_eq!(rt; give_up_slow(rt.alloc()), Ok(()));
+    assert_eq!(rt; wrong_of(rt.alloc(), Case::GiveUpSlow), None);
 }
 
 #[test]
 fn the_timeout_of_a_paused_request_goes_on(rt: HostRuntime) {
-    assert_eq!(rt; give_up_late(rt.alloc()), Ok(()));
+    assert_eq!(rt; wrong_of(rt.alloc(), Case::GiveUpLate), None);
 }
 
 #[test]
 fn a_stuck_upload_is_found(rt: HostRuntime) {
-    assert_eq!(rt; find_stuck(rt.alloc()), Ok(()));
+    assert_eq!(rt; wrong_of(rt.alloc(), Case::FindStuck), None);
 }
 
 #[test]

@@ -198,16 +198,21 @@ impl Uploads {
         }
     }
 
-    /// A worker takes the upload that has waited longest, and ends it.
+    /// A worker takes the upload that has waited longest, and ends it. Nothing happens if none waits.
     pub fn serve(&mut self) -> Result<(), Wrong> {
-        let Some(given) = self.port.give() else {
-            return Ok(());
-        };
-        let Some(mut upload) = self.get(given.id.number as usize) else {
+        match self.port.give() {
+            Some(given) => self.end(given.id),
+            None => Ok(()),
+        }
+    }
+
+    /// A worker ends an upload that it was given.
+    fn end(&mut self, id: ConnectionId) -> Result<(), Wrong> {
+        let Some(mut upload) = self.get(id.number as usize) else {
             return Err(Wrong::Stage);
         };
         check(matches!(upload.at, Place::Whole | Place::Cut), Wrong::Stage)?;
-        check(self.port.end(given.id), Wrong::Stage)?;
+        check(self.port.end(id), Wrong::Stage)?;
         upload.at = Place::Gone;
         self.note(upload);
         Ok(())
