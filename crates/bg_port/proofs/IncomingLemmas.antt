@@ -1,12 +1,14 @@
 -- What a parser says of the bytes that came, in the words of this crate.
-use Rattle.std.proofs.Common.{◌≡◌, ℕ, ◌+◌, Bool, List, [], ◌++◌, length, min, Result, Ok, Err, ap, subst, ◌∙◌, inl, inr, arith}
+use Rattle.std.proofs.Common.{◌≡◌, ℕ, ◌+◌, Bool, List, [], ◌++◌, length, min, Option, None, Result, Ok, Err, IfErr, IfOk, ap, subst, ◌∙◌, inl, inr, arith}
 use Rattle.std.proofs.Common.{append-nil, length-append}
 use Rattle.bg_http.specs.declared.request.Request.{Request}
 use Rattle.bg_http.specs.declared.request_fault.RequestFault.{RequestFault}
-use Rattle.bg_http_read.specs.RequestStates.{FailsAsked, IsReadAsked, IsRefusedAsked, RequestState}
+use Rattle.bg_http_read.specs.RefusedHeads.{TellsHead}
+use Rattle.bg_http_read.specs.RequestStates.{FailsAsked, IsReadAsked, IsRefusedAsked, ReadsAsked, RequestState}
 use Rattle.bg_http_read.specs.Requests.{RequestFails}
+use Rattle.bg_http_read.specs.declared.refused_head.RefusedHead.{RefusedHead}
 use Rattle.bg_port.specs.Incoming.{Incoming, counted, with_bytes}
-use Rattle.bg_port.specs.Received.{IsAnswer, StaysAnswer}
+use Rattle.bg_port.specs.Received.{IsAnswer, StaysAnswer, TellsRefused}
 
 -- a parser as a request that is arriving
 abbrev pub arriving_at : RequestState → Incoming
@@ -35,6 +37,19 @@ stays_refused asked fault seen refused more = fails asked (seen ++ more) fault (
 -- an answer that stays is the answer
 pub answers_now : (seen : List ℕ) (answer : Result Request RequestFault) → StaysAnswer seen answer → IsAnswer seen answer
 answers_now seen answer stays = subst (λ input. IsAnswer input answer) (append-nil seen) (stays [])
+
+-- the answer of a parser at the end of its input
+pub ended_answer : (asked : Bool) (seen : List ℕ) (answer : Result Request RequestFault)
+    → IfOk answer (λ request. ReadsAsked asked request seen) → IfErr answer (FailsAsked asked seen) → IsAnswer seen answer
+ended_answer asked seen (Ok request) reads refused = (reads.0, reads.1)
+ended_answer asked seen (Err fault) reads refused = fails asked seen fault refused
+
+-- what a parser tells of the head
+pub tells_answer : (seen : List ℕ) (answer : Result Request RequestFault) (refused : Option RefusedHead)
+    → IfErr answer (λ fault. TellsHead seen fault refused) → IfOk answer (λ request. refused ≡ None)
+    → TellsRefused seen answer refused
+tells_answer seen (Ok request) refused head none = none
+tells_answer seen (Err fault) refused head none = head
 
 -- the count after more bytes came
 pub count_more : (seen bytes : List ℕ) (before after : ℕ) → before ≡ counted seen

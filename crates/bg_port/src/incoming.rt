@@ -74,11 +74,13 @@ impl IncomingRequest {
             Ok(RequestStep::Continue) => Fed::OwesContinue(IncomingRequest { parser, count }),
             Ok(RequestStep::Whole(request)) => Fed::Over(ReceivedRequest {
                 answer: Ok(request),
+                refused: None,
                 ending: Ending::Decided,
                 bytes: count,
             }),
             Err(fault) => Fed::Over(ReceivedRequest {
                 answer: Err(fault),
+                refused: parser.into_refused_head(),
                 ending: Ending::Decided,
                 bytes: count,
             }),
@@ -90,9 +92,11 @@ impl IncomingRequest {
     pub fn end(self) -> ReceivedRequest
         ensures { IsReceived result self.came ending.Ended }
     {
-        let IncomingRequest { parser, count } = self;
+        let IncomingRequest { mut parser, count } = self;
+        let answer = parser.finish();
         ReceivedRequest {
-            answer: parser.end(),
+            answer,
+            refused: parser.into_refused_head(),
             ending: Ending::Ended,
             bytes: count,
         }

@@ -3,6 +3,7 @@ ghost use Rattle.std.specs.Prelude.{◌≡◌};
 ghost use Rattle.bg_port.specs.Received.{unread};
 
 use bg_http::{Request, RequestFault};
+use bg_http_read::RefusedHead;
 
 /// What ended a request.
 #[derive(Clone, Copy, PartialEq, Eq, Debug, Drop)]
@@ -22,6 +23,9 @@ pub enum Ending {
 pub struct ReceivedRequest {
     /// The request, or its fault: `ReadFailed` if a read failed, or if the port gave the request up.
     pub answer: Result<Request, RequestFault>,
+    /// The head of a request that was refused after its head was parsed. `None` if a read failed, or if the port gave
+    /// the request up.
+    pub refused: Option<RefusedHead>,
     /// What ended the request.
     pub ending: Ending,
     /// The number of bytes that came; 0 if the port gave the request up.
@@ -35,6 +39,7 @@ impl ReceivedRequest {
     {
         ReceivedRequest {
             answer: Err(RequestFault::ReadFailed),
+            refused: None,
             ending,
             bytes,
         }

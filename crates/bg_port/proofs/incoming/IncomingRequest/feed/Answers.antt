@@ -1,4 +1,5 @@
-use Rattle.std.proofs.Common.{◌≡◌, ◌++◌, ap, subst, refl, Ok, Err}
+use Rattle.std.proofs.Common.{◌≡◌, ◌++◌, ap, subst, sym, refl, Ok, Err}
+use Rattle.bg_http_read.specs.RefusedHeads.{TellsHead}
 use Rattle.bg_http_read.specs.RequestStates.{LacksRequest}
 use Rattle.bg_port.proofs.IncomingLemmas.{answers_now, count_more, more_came, stays_read, stays_refused}
 use Rattle.bg_port.specs.Incoming.{Incoming, counted}
@@ -21,7 +22,7 @@ returns-in-Ok-Whole c =
     (stays_read c.self.inside.parser.asked c.in-Ok-Whole.request _ step.whole) in
     let count = subst (λ seen. c.saturating_add-count.result ≡ counted (seen ++ c.args.bytes.now)) came
     (count_more c.self.inside.parser.seen c.args.bytes.now _ _ c.self.invariant.1 c.saturating_add-count.ensures) in
-    (record { answers = answers_now _ (Ok c.in-Ok-Whole.request) stays; ending_is = refl; bytes_are = count }, stays)
+    (record { answers = answers_now _ (Ok c.in-Ok-Whole.request) stays; tells = refl; ending_is = refl; bytes_are = count }, stays)
 
 pub returns-in-Err : goal.returns-in-Err
 returns-in-Err c =
@@ -30,4 +31,7 @@ returns-in-Err c =
     (stays_refused c.self.inside.parser.asked c.in-Err.fault _ c.in-Err.ensures.refused) in
     let count = subst (λ seen. c.saturating_add-count.result ≡ counted (seen ++ c.args.bytes.now)) came
     (count_more c.self.inside.parser.seen c.args.bytes.now _ _ c.self.invariant.1 c.saturating_add-count.ensures) in
-    (record { answers = answers_now _ (Err c.in-Err.fault) stays; ending_is = refl; bytes_are = count }, stays)
+    let bytes = c.args.bytes.now in
+    let tells = subst (λ seen. TellsHead (seen ++ bytes) c.in-Err.fault c.into_refused_head.result) came
+    (subst (TellsHead (c.self.inside.parser.seen ++ bytes) c.in-Err.fault) (sym c.into_refused_head.ensures) c.in-Err.ensures.head) in
+    (record { answers = answers_now _ (Err c.in-Err.fault) stays; tells = tells; ending_is = refl; bytes_are = count }, stays)
