@@ -26,7 +26,7 @@ check:
 # below isn't proved yet, rt first reads the sources of all of them, and after that proves them.
 RULE_BASE := bg_strategy bg_revisions bg_history bg_scaledown bg_history_laws bg_promotion
 RULE_CHAIN := bg_rollout bg_book bg_operator bg_report bg_script bg_forward bg_endpoints
-HTTP := bg_http bg_http_read bg_peers bg_client_port bg_control_port
+HTTP := bg_http bg_http_read bg_port bg_peers bg_sockets bg_client_port bg_control_port
 OTHERS := bg_openlist bg_ledger bg_command_line bg_access_log
 
 # A check that is split into several jobs costs more processor time in all, since each job reads the libraries. So it has

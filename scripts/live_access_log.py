@@ -91,11 +91,12 @@ def kinds_of_ends() -> None:
         port = switch.active
         refused: list[tuple[str, bytes, tuple[object, ...]]] = [
             ("answered", request(), ("active", 200, "answered", None, "GET", "/")),
-            ("malformed", b"GET / HTTP/1.1\r\nHost : x\r\n\r\n", ("active", 400, "refused", "head", "GET", "/")),
+            ("malformed", b"GET / HTTP/1.1\r\nHost : x\r\n\r\n", ("active", 400, "refused", "head", None, None)),
+            ("no host", b"GET / HTTP/1.1\r\n\r\n", ("active", 400, "refused", "head", "GET", "/")),
             ("too large a body", head_of(2000000), ("active", 413, "refused", "body", "POST", "/")),
             *[(f"{name} in a body", IN_CHUNKS + rest, ("active", status, "refused", "body", "POST", "/chunks"))
               for name, rest, status in FAULTS_OF_BODIES],
-            ("a large head", request(b"/", b"GET").replace(b"Host", MANY + b"Host"), ("active", 431, "refused", "head", "GET", "/")),
+            ("a large head", request(b"/", b"GET").replace(b"Host", MANY + b"Host"), ("active", 431, "refused", "head", None, None)),
             ("not supported", b"CONNECT x:1 HTTP/1.1\r\nHost: x\r\n\r\n", ("active", 501, "refused", "head", "CONNECT", "x:1")),
             ("an early end", request(b"/closes"), ("active", 502, "refused", "response_malformed", "GET", "/closes")),
             ("a malformed response", request(b"/status"), ("active", 502, "refused", "response_malformed", "GET", "/status")),
@@ -129,7 +130,7 @@ def ends_of_others(switch: Switch, endpoint: Endpoint) -> list[tuple[str, tuple[
     endpoint.stop()
     switch.raw(switch.active, request(b"/down"))
     return [
-        ("a client that ended early", ("active", None, "closed", None, "GET", "/half")),
+        ("a client that ended early", ("active", None, "closed", None, None, None)),
         ("a client that has gone", ("active", None, "write_failed", "given_up", "GET", "/hangs")),
         ("no preview service", ("preview", 503, "refused", "no_preview", "GET", "/preview")),
         ("no endpoint", ("active", 503, "refused", "no_endpoint", "GET", "/nowhere")),

@@ -39,12 +39,15 @@ STATUSES = (b"200 OK", b"204 No Content", b"301 Moved Permanently", b"404 Not Fo
             b"503 Service Unavailable")
 BIG = b"x" * 3000000
 IN_CHUNKS = b"POST %s HTTP/1.1\r\nHost: x\r\nTransfer-Encoding: chunked\r\n\r\n"
-# What is wrong with a head, and the status that it is refused in; `%s` is the target.
-HEAD_FAULTS = (
-    (b"GET %s HTTP/1.1\r\n\r\n", 400), (b"GET %s HTTP/1.1\r\nHost : x\r\n\r\n", 400), (b"GET %s HTTP/1.1\r\nHost: x\r\n y\r\n\r\n", 400),
-    (b"POST %s HTTP/1.1\r\nHost: x\r\nContent-Length: x\r\n\r\n", 400),
-    (b"POST %s HTTP/1.1\r\nHost: x\r\nTransfer-Encoding: gzip, chunked\r\n\r\n0\r\n\r\n", 501),
+# Heads that are malformed or too large, and the status that they are refused in; `%s` is the target.
+MALFORMED_HEADS = (
+    (b"GET %s HTTP/1.1\r\nHost : x\r\n\r\n", 400), (b"GET %s HTTP/1.1\r\nHost: x\r\n y\r\n\r\n", 400),
     (b"GET %s HTTP/1.1\r\nHost: x\r\nLong: " + b"y" * 17000 + b"\r\n\r\n", 431))
+# Heads that are well-formed, and break a rule.
+HEAD_FAULTS = (
+    (b"GET %s HTTP/1.1\r\n\r\n", 400),
+    (b"POST %s HTTP/1.1\r\nHost: x\r\nContent-Length: x\r\n\r\n", 400),
+    (b"POST %s HTTP/1.1\r\nHost: x\r\nTransfer-Encoding: gzip, chunked\r\n\r\n0\r\n\r\n", 501))
 # What is wrong behind a head: the size of a chunk, its end, a trailer, and more than a body may have.
 BODY_FAULTS = (
     (IN_CHUNKS + b"x\r\n", 400), (IN_CHUNKS + b"-1\r\na\r\n0\r\n\r\n", 400), (IN_CHUNKS + b"3\r\nabcde\r\n0\r\n\r\n", 400),
@@ -188,8 +191,8 @@ def nothing(_: random.Random, __: int) -> Sent:
 KINDS: dict[str, tuple[int, Callable[[random.Random, int], Sent]]] = {
     "answered": (1000, answered), "elsewhere": (160, nothing), "malformed": (140, by_get(*MALFORMED)), "too_large": (60, by_get(b"/large")),
     "timeout": (24, by_get(b"/hangs")), "given_up": (24, by_get(b"/hangs")), "cut_in_answer": (60, by_get(b"/big")),
-    "head": (160, faulty(HEAD_FAULTS)), "body": (160, faulty(BODY_FAULTS)), "silent": (60, nothing), "part": (80, part),
-    "silent_reset": (40, nothing), "part_reset": (60, part)}
+    "malformed_head": (80, faulty(MALFORMED_HEADS)), "head": (80, faulty(HEAD_FAULTS)), "body": (160, faulty(BODY_FAULTS)),
+    "silent": (60, nothing), "part": (80, part), "silent_reset": (40, nothing), "part_reset": (60, part)}
 
 
 def answered_request(asked: Sent, port: int, endpoints: Endpoints) -> Answered:
@@ -248,9 +251,8 @@ def without_times(entry: LogEntry) -> LogEntry:
 
 
 def shown(asked: Sent) -> tuple[str | None, str | None]:
-    """The method and the target of what was sent, where it has both."""
-    words = asked.text.partition(b"\r\n")[0].split(b" ") if asked.kind.startswith("part") else [b"", b"", b""]
-    if not asked.text or len(words) < 3:
+    """The method and the target of what was sent, if its head came whole, is well-formed, and reading did not fail."""
+    if asked.kind in ("malformed_head", "part_reset") or b"\r\n\r\n" not in asked.text:
         return None, None
     return asked.method.decode(), asked.target[:KEPT_OF_TARGET].decode(errors="replace")
 
@@ -267,8 +269,8 @@ def expected_entry(seen: Answered, served: Served | None, dead: int) -> LogEntry
                   response_bytes=len(answer), duration_ms=0, upstream_ms=None)
     if asked.kind.startswith(("silent", "part")):
         return entry._replace(end="read_failed" if asked.kind.endswith("reset") else "closed")
-    if asked.kind in ("head", "body"):
-        return entry._replace(status=asked.status, reason=asked.kind)
+    if asked.kind in ("malformed_head", "head", "body"):
+        return entry._replace(status=asked.status, reason=asked.kind.removeprefix("malformed_"))
     if asked.kind in ("no_preview", "no_endpoint"):
         return entry._replace(status=503, reason=asked.kind)
     entry = entry._replace(revision=1, port=served.port if served else dead)

@@ -1,24 +1,17 @@
 //! A client port.
 
 use crate::bounds::Bounds;
-use crate::clock::PortClock;
 use crate::cut_responses::CutResponses;
 use crate::listener::CountedListener;
-use crate::pending::{Pending, Watch};
-use crate::pending_connection::{CompleteRequest, PendingConnection};
-use crate::request_buffer::Ending;
-use crate::response_buffer::{Fate, ResponseBuffer};
-use crate::sockets::is_ready;
+use crate::port_state::{PortState, Watch};
 use crate::wait_sets::{WaitSet, WaitSets};
+use bg_sockets::{PortClock, is_ready};
 use std::alloc::Global;
 use std::io;
 use std::net::TcpListener;
 use std::sync::atomic::{AtomicBool, AtomicU64, AtomicUsize, Ordering};
 use std::sync::{Mutex, Wait};
 use std::time::Clock;
-
-/// The timeout of a graceful shutdown, in milliseconds.
-const CLOSING_MILLIS: u64 = 60_000;
 
 /// The settings of a client port.
 #[derive(Clone, Copy, PartialEq, Eq, Debug, Drop)]
@@ -39,22 +32,18 @@ pub struct ClientPortSettings {
 ///
 /// A worker is given a connection only after its request is over: the request is complete or faulty,
 /// the client has ended it, its timeout has passed, or the port has closed the connection to make room
-/// or to shut down. If more than 8 MiB of a request came, or an allocation for it failed, a worker is
-/// given the connection earlier and reads the rest. Before that, and after the worker has ended the
+/// or to shut down. Before that, and after the worker has ended the
 /// connection, the event loop reads and writes it and checks its timeouts. Each accepted connection is
-/// given to a worker exactly once. If an allocation fails, an error of [`ClientPort::next`] can take its
-/// place.
+/// given to a worker exactly once.
 pub struct ClientPort {
     pub(crate) alloc: Global,
     pub(crate) listener: CountedListener,
     pub(crate) watch: Watch,
     pub(crate) clock: PortClock,
-    /// The timeout of a request, in milliseconds.
-    pub(crate) request_millis: u64,
-    pub(crate) pending: Mutex<Pending>,
-    /// The number of pending connections, and whether the port accepts no further connection for
+    pub(crate) state: Mutex<PortState>,
+    /// The number of connections that no worker has, and whether the port accepts no further connection for
     /// now.
-    pub(crate) pending_count: AtomicUsize,
+    pub(crate) pending_count: AtomicU64,
     pub(crate) is_full: AtomicBool,
     /// Whether a worker makes room at a full port, and the number of workers that do not watch the
     /// listener meanwhile.
@@ -66,8 +55,6 @@ pub struct ClientPort {
     /// The maximum number of workers that were at work at once.
     workers_begun: AtomicUsize,
     pub(crate) event_loop_begun: AtomicBool,
-    /// When the timeout of the shutdown ends; the greatest number before the shutdown begins.
-    closing_until: AtomicU64,
     /// Whether an accept failed, and whether that was reported.
     accept_failed: AtomicBool,
     told_failure: AtomicBool,
@@ -82,8 +69,7 @@ impl Drop for ClientPort {
             listener: _,
             watch: _,
             clock: _,
-            request_millis: _,
-            pending: _,
+            state: _,
             pending_count: _,
             is_full: _,
             makes_room: _,
@@ -92,7 +78,6 @@ impl Drop for ClientPort {
             wait_sets: _,
             workers_begun: _,
             event_loop_begun: _,
-            closing_until: _,
             accept_failed: _,
             told_failure: _,
         } = self;
@@ -112,14 +97,15 @@ impl ClientPort {
         let listener = CountedListener::new(listener, settings.connections)?;
         let watch = Watch::new()?;
         let wait_sets = WaitSets::new(alloc, settings.workers, listener.get(), &watch.over)?;
+        let request_millis = settings.request_seconds.saturating_mul(1_000);
+        let state = PortState::new(alloc, settings.bounds, settings.workers, request_millis)?;
         Ok(ClientPort {
             alloc,
             listener,
             watch,
             clock: PortClock::start(rt)?,
-            request_millis: settings.request_seconds.saturating_mul(1_000),
-            pending: Mutex::new(Pending::new(alloc, settings.bounds)?),
-            pending_count: AtomicUsize::new(0),
+            state: Mutex::new(state),
+            pending_count: AtomicU64::new(0),
             is_full: AtomicBool::new(false),
             makes_room: AtomicBool::new(false),
             away_from_listener: AtomicUsize::new(0),
@@ -127,7 +113,6 @@ impl ClientPort {
             wait_sets: Mutex::new(wait_sets),
             workers_begun: AtomicUsize::new(0),
             event_loop_begun: AtomicBool::new(false),
-            closing_until: AtomicU64::new(u64::MAX),
             accept_failed: AtomicBool::new(false),
             told_failure: AtomicBool::new(false),
         })
@@ -139,14 +124,12 @@ impl ClientPort {
     /// arrive or wait for a worker, and pending responses are written; after that the event loop drops them.
     /// It does not end a request that a worker serves.
     pub fn close<R: Clock + Wait>(&self, rt: &R) {
-        let until = self.clock.now(rt).saturating_add(CLOSING_MILLIS);
-        self.closing_until.fetch_min(until, Ordering::SeqCst);
         self.accept_backlog(rt);
         self.listener.close();
         {
-            let mut pending = self.pending.lock(rt);
-            pending.begin_closing(&self.watch);
-            self.publish(&pending);
+            let mut state = self.state.lock(rt);
+            state.begin_closing(self.clock.now(rt), &self.watch);
+            self.publish(&state);
         }
         self.watch.over.post();
         self.watch.set.wake_up();
@@ -179,11 +162,6 @@ impl ClientPort {
         self.accept_failed.store(true, Ordering::SeqCst);
     }
 
-    /// Whether the timeout of a shutdown has passed.
-    pub(crate) fn is_closing_over(&self, now: u64) -> bool {
-        self.closing_until.load(Ordering::SeqCst) <= now
-    }
-
     pub(crate) fn take_wait_set<R: Wait>(&self, rt: &R) -> Option<WaitSet> {
         let mut sets = self.wait_sets.lock(rt);
         let set = sets.take();
@@ -198,14 +176,14 @@ impl ClientPort {
     /// The responses whose rest was dropped since the last call. For these, what
     /// [`Connection::response_bytes`](crate::Connection::response_bytes) gave was not all written.
     pub fn take_cut_responses<R: Wait>(&self, rt: &R) -> CutResponses {
-        self.pending.lock(rt).take_cut()
+        self.state.lock(rt).take_cut()
     }
 
     /// Publishes how much is pending, so that workers need not take the lock to ask. If there is room
     /// again, wakes a worker, because those that do not watch the listener would not notice.
-    pub(crate) fn publish(&self, pending: &Pending) {
-        self.pending_count.store(pending.count(), Ordering::SeqCst);
-        let is_full = pending.is_full() || pending.is_held_up();
+    pub(crate) fn publish(&self, state: &PortState) {
+        self.pending_count.store(state.pending(), Ordering::SeqCst);
+        let is_full = state.port.is_full();
         let was_full = self.is_full.swap(is_full, Ordering::SeqCst);
         if was_full && !is_full {
             self.call_absent_worker();
@@ -232,49 +210,6 @@ impl ClientPort {
     pub(crate) fn remind(&self) {
         if self.listener.is_closed() || is_ready(self.listener.get()) {
             self.call_worker();
-        }
-    }
-
-    /// Leaves a connection to the event loop, or gives it back if that is not possible.
-    pub(crate) fn leave<R: Wait>(
-        &self,
-        rt: &R,
-        connection: PendingConnection,
-        now: u64,
-    ) -> Result<(), PendingConnection> {
-        let mut pending = self.pending.lock(rt);
-        let left = pending.insert(connection, &self.watch);
-        pending.free_responses(now, &self.watch);
-        self.publish(&pending);
-        left
-    }
-
-    /// Ends a connection for its worker. The event loop writes the rest of the response, and closes the
-    /// connection without a reset if possible.
-    pub(crate) fn end<R: Clock + Wait>(
-        &self,
-        rt: &R,
-        request: CompleteRequest,
-        response: Vec<u8>,
-        was_whole: bool,
-    ) {
-        if request.request.ending != Ending::GivenUp {
-            let stream = request.stream;
-            let mut response = ResponseBuffer::new(response, was_whole);
-            if let Fate::Waits(interest) = response.go_on(&stream) {
-                let now = self.clock.now(rt);
-                let connection = PendingConnection::answered(stream, response, interest, now);
-                // if it can't be left to the event loop, it ends here
-                let _ = self.leave(rt, connection, now);
-            }
-        }
-        self.end_one();
-    }
-
-    /// Counts a connection that has ended for its worker.
-    pub(crate) fn end_one(&self) {
-        if self.listener.end_one() && self.listener.is_closed() {
-            self.watch.set.wake_up();
         }
     }
 }

@@ -1,40 +1,40 @@
 //! The connection of a client whose request is over.
-ghost use Rattle.std.specs.Prelude.{◌≤◌, length};
-ghost use Rattle.std.specs.Io.{ReadsAtMost, WritesAtMost};
+ghost use Rattle.std.specs.Io.{WritesAtMost};
 
 use crate::client_port::ClientPort;
-use crate::pending_connection::CompleteRequest;
-use crate::request_buffer::Ending;
-use crate::sockets::{OtherEnd, other_end};
-use crate::sound_head::has_sound_head;
+use crate::held_connection::{HeldConnection, Rest};
+use crate::output::begins_lingering_close;
 use crate::wait_sets::WaitSet;
-use bg_http::Duplex;
+use bg_http_read::RefusedHead;
 use bg_peers::is_peer_closed;
+use bg_port::Ending;
+use bg_sockets::{OtherEnd, other_end};
 use std::io;
-use std::io::{ErrorKind, Read, Write};
+use std::io::{ErrorKind, Write};
 use std::sync::Wait;
-use std::time::{Clock, Duration};
+use std::time::Clock;
 
 /// The minimum number of milliseconds before the system is asked again whether a client has gone.
 const ASK_MILLIS: u64 = 900;
 
-/// The connection of a client whose request is over. The request is read from memory, except the rest of
-/// a request of which more than 8 MiB came. The part of the response that the system does not take within
-/// 10 milliseconds is buffered; the event loop writes it after the worker has ended the connection.
-///
-/// After the buffered bytes, a read gives 0 bytes if the client ended its input. It fails with
-/// `ConnectionReset` if the port could not read the request, and with `TimedOut` if the port gave the
-/// request up. A write fails with the system's error, or if the allocation for the buffer fails.
+/// What is known of a request that is over, apart from the request itself.
+#[derive(Drop)]
+pub(crate) struct RequestFacts {
+    pub(crate) ending: Ending,
+    pub(crate) bytes: usize,
+    pub(crate) refused: Option<RefusedHead>,
+}
+
+/// The connection of a client whose request is over. The part of the response that the system does not take within
+/// 10 milliseconds is buffered; the event loop writes it after the worker has ended the connection. A write fails with the
+/// system's error, or if the allocation for the buffer fails.
 #[derive(Drop)]
 pub struct Connection<'a, R: Clock> {
     port: &'a ClientPort,
     rt: &'a R,
     wait_set: WaitSet,
-    request: CompleteRequest,
-    /// The number of bytes of the request that were read.
-    read: usize,
-    /// The number of bytes that were read and had not been buffered.
-    read_unbuffered: u64,
+    held: HeldConnection,
+    request: RequestFacts,
     /// The bytes that are still to be written.
     response: Vec<u8>,
     /// The number of bytes of the response that were written or buffered, and when the first came.
@@ -51,15 +51,15 @@ impl<'a, R: Clock> Connection<'a, R> {
         port: &'a ClientPort,
         rt: &'a R,
         wait_set: WaitSet,
-        request: CompleteRequest,
+        held: HeldConnection,
+        request: RequestFacts,
     ) -> Connection<'a, R> {
         Connection {
             port,
             rt,
             wait_set,
+            held,
             request,
-            read: 0,
-            read_unbuffered: 0,
             response: Vec::new(port.alloc),
             response_bytes: 0,
             answered: None,
@@ -83,26 +83,21 @@ impl<'a, R: Clock> Connection<'a, R> {
             return false;
         }
         self.asked = Some(now);
-        match other_end(&self.request.stream) {
+        match other_end(&self.held.stream) {
             OtherEnd::Open => false,
             OtherEnd::Reset => true,
-            OtherEnd::Ended => is_peer_closed(self.port.alloc, &self.request.stream),
+            OtherEnd::Ended => is_peer_closed(self.port.alloc, &self.held.stream),
         }
     }
 
-    /// The bytes of the request that were buffered; none if the port gave the request up.
-    pub fn first_bytes(&self) -> &[u8] {
-        self.request.request.bytes.as_slice()
+    /// The head of the request, if the request was refused after its head was parsed.
+    pub fn refused_head(&self) -> Option<&RefusedHead> {
+        self.request.refused.as_ref()
     }
 
-    /// Whether the head of the request came whole and has no fault, as far as it was buffered.
-    pub fn has_sound_head(&self) -> bool {
-        has_sound_head(self.port.alloc, self.first_bytes())
-    }
-
-    /// The number of bytes of the request that were read.
+    /// The number of bytes of the request that came; 0 if the port gave the request up.
     pub fn request_bytes(&self) -> u64 {
-        self.read_unbuffered.saturating_add(self.read as u64)
+        self.request.bytes as u64
     }
 
     /// The number of bytes that the worker gave for the client and that were written or buffered. The
@@ -114,13 +109,10 @@ impl<'a, R: Clock> Connection<'a, R> {
 
     /// The number of milliseconds since the connection was accepted.
     pub fn duration_millis(&self) -> u64 {
-        let accepted = match self.request.until {
-            Some(until) => self
-                .begun
-                .min(until.saturating_sub(self.port.request_millis)),
-            None => self.begun,
-        };
-        self.port.clock.now(self.rt).saturating_sub(accepted)
+        self.port
+            .clock
+            .now(self.rt)
+            .saturating_sub(self.held.accepted)
     }
 
     /// The number of milliseconds from when the connection was given to a worker to the first bytes of
@@ -128,52 +120,6 @@ impl<'a, R: Clock> Connection<'a, R> {
     pub fn millis_to_response(&self) -> Option<u64> {
         let answered = self.answered?;
         Some(answered.saturating_sub(self.begun))
-    }
-
-    /// The bytes of the request that came and were not read.
-    fn unread(&self) -> &[u8] {
-        match self.request.request.bytes.as_slice().get(self.read..) {
-            Some(bytes) => bytes,
-            None => &[],
-        }
-    }
-
-    /// Reads the buffered bytes; at their end it gives what ended the request.
-    fn read_buffered(&mut self, buf: &mut [u8]) -> io::Result<usize>
-        ensures { ReadsAtMost result buf.new }
-    {
-        let count = copy_front(self.unread(), buf);
-        if count > 0 || buf.is_empty() {
-            self.read = self.read.saturating_add(count);
-            return Ok(count);
-        }
-        match self.request.request.ending {
-            Ending::Ended => Ok(0),
-            Ending::Failed => Err(io::Error::from(ErrorKind::ConnectionReset)),
-            Ending::GivenUp => Err(io::Error::from(ErrorKind::TimedOut)),
-            Ending::Decided | Ending::Unbuffered => self.read_in_time(buf),
-        }
-    }
-
-    /// Reads bytes that are not buffered, up to the timeout of the request.
-    fn read_in_time(&mut self, buf: &mut [u8]) -> io::Result<usize>
-        ensures { ReadsAtMost result buf.new }
-    {
-        let now = self.port.clock.now(self.rt);
-        let until = match self.request.until {
-            Some(until) => until,
-            None => now.saturating_add(self.port.request_millis),
-        };
-        self.request.until = Some(until);
-        let left = until.saturating_sub(now);
-        if left == 0 {
-            return Err(io::Error::from(ErrorKind::TimedOut));
-        }
-        let stream = &mut self.request.stream;
-        stream.set_read_timeout(Some(Duration::from_millis(left)))?;
-        let count = stream.read(buf)?;
-        self.read_unbuffered = self.read_unbuffered.saturating_add(count as u64);
-        Ok(count)
     }
 
     /// Notes when the first bytes of the response came.
@@ -190,7 +136,7 @@ impl<'a, R: Clock> Connection<'a, R> {
         self.note_response();
         let mut written = 0;
         if self.response.is_empty() {
-            written = match self.request.stream.write(bytes) {
+            written = match self.held.stream.write(bytes) {
                 Ok(count) => count.min(bytes.len()),
                 Err(error) => match error.kind() {
                     ErrorKind::WouldBlock => 0,
@@ -218,27 +164,28 @@ impl<R: Clock + Wait> Connection<'_, R> {
             port,
             rt,
             wait_set,
+            held,
             request,
             response,
+            response_bytes,
             ..
         } = self;
-        port.end(rt, request, response, whole);
+        let rest = if request.ending == Ending::GivenUp {
+            Rest::Nothing
+        } else if !response.is_empty() {
+            Rest::Response {
+                bytes: response,
+                was_whole: whole,
+            }
+        } else if begins_lingering_close(&held.stream, whole) {
+            Rest::LingeringClose {
+                written: response_bytes,
+            }
+        } else {
+            Rest::Nothing
+        };
+        port.end(rt, held, rest);
         port.give_back(rt, wait_set);
-    }
-}
-
-/// Copies as many bytes as fit into the front of a buffer, and gives their number.
-fn copy_front(bytes: &[u8], buf: &mut [u8]) -> usize
-    ensures count { result ≤ length buf.new }
-{
-    let count = bytes.len().min(buf.len());
-    buf[..count].copy_from_slice(&bytes[..count]);
-    count
-}
-
-impl<R: Clock> Read for Connection<'_, R> {
-    fn read(&mut self, buf: &mut [u8]) -> io::Result<usize> {
-        self.read_buffered(buf)
     }
 }
 
@@ -248,23 +195,6 @@ impl<R: Clock> Write for Connection<'_, R> {
     }
 
     fn flush(&mut self) -> io::Result<()> {
-        Ok(())
-    }
-}
-
-impl<R: Clock> Duplex for Connection<'_, R> {
-    fn receive(&mut self, buf: &mut [u8]) -> io::Result<usize> {
-        self.read_buffered(buf)
-    }
-
-    /// The only bytes that are sent before the request is read are `100 Continue`. A client to which
-    /// it is owed got it when its head had come.
-    fn send(&mut self, bytes: &[u8]) -> io::Result<()> {
-        if self.request.request.was_continued {
-            return Ok(());
-        }
-        self.write_or_keep(bytes)?;
-        self.answered = None;
         Ok(())
     }
 }

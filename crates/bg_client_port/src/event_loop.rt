@@ -1,7 +1,9 @@
 //! The event loop of a port.
 
 use crate::client_port::ClientPort;
-use crate::wait_sets::MOST_EVENTS;
+use crate::input::PIECE;
+use crate::loop_set::MOST_EVENTS;
+use bg_port::Interest;
 use std::sync::Wait;
 use std::sync::atomic::Ordering;
 use std::time::Clock;
@@ -24,12 +26,13 @@ impl ClientPort {
     pub fn run_event_loop<R: Clock + Wait>(&self, rt: &R) {
         self.event_loop_begun.store(true, Ordering::SeqCst);
         let mut keys = [0; MOST_EVENTS];
+        let mut piece = [0u8; PIECE];
         let mut swept = 0;
         for _ in rt.forever() {
             let count = self.watch.set.wait(self.longest_wait(), &mut keys);
             let now = self.clock.now(rt);
             for key in keys.iter().take(count) {
-                self.attend(rt, *key, now);
+                self.attend(rt, *key, now, &mut piece);
             }
             if now.saturating_sub(swept) >= SWEEP_MILLIS {
                 swept = now;
@@ -51,16 +54,24 @@ impl ClientPort {
         }
     }
 
-    fn attend<R: Wait>(&self, rt: &R, key: usize, now: u64) {
-        let mut pending = self.pending.lock(rt);
-        pending.attend(key, now, &self.watch);
-        self.publish(&pending);
+    /// Handles a connection that is ready. An event may come after the connection has left.
+    fn attend<R: Wait>(&self, rt: &R, key: usize, now: u64, piece: &mut [u8; PIECE]) {
+        let mut state = self.state.lock(rt);
+        match state.port.interest(key) {
+            Some(Interest::Input | Interest::Paused) => {
+                state.read_on(key, now, piece, &self.watch);
+            }
+            Some(Interest::Output) => state.write_on(key, now, &self.watch),
+            None => {}
+        }
+        state.regulate(now, &self.watch);
+        self.publish(&state);
     }
 
     fn sweep<R: Wait>(&self, rt: &R, now: u64) {
-        let mut pending = self.pending.lock(rt);
-        pending.sweep(now, &self.watch);
-        self.publish(&pending);
+        let mut state = self.state.lock(rt);
+        state.sweep(now, &self.watch);
+        self.publish(&state);
     }
 
     /// Whether the event loop has nothing left to do, or the timeout of the shutdown has passed.
@@ -68,13 +79,17 @@ impl ClientPort {
         if !self.listener.is_closed() {
             return false;
         }
-        let mut pending = self.pending.lock(rt);
-        let is_done = self.listener.is_idle() && pending.is_empty();
-        if !is_done && !self.is_closing_over(now) {
+        let mut state = self.state.lock(rt);
+        let is_empty = state.port.totals().used == 0;
+        let is_over = if is_empty {
+            self.listener.is_idle()
+        } else {
+            state.port.is_over(now)
+        };
+        if !is_over {
             return false;
         }
-        pending.end(&self.watch);
-        self.publish(&pending);
+        state.has_ended = true;
         // workers that still wait find that none is left
         self.watch.over.post();
         true

@@ -58,9 +58,8 @@ pub(crate) struct CountedListener {
     /// `None` if there is no limit.
     left: Option<Left>,
     is_closed: AtomicBool,
-    /// The number of accepts in progress plus the number of connections that have not ended for
-    /// their workers.
-    open: AtomicU64,
+    /// The number of accepts in progress.
+    accepting: AtomicU64,
 }
 
 impl CountedListener {
@@ -84,7 +83,7 @@ impl CountedListener {
             listener,
             left,
             is_closed: AtomicBool::new(false),
-            open: AtomicU64::new(0),
+            accepting: AtomicU64::new(0),
         })
     }
 
@@ -97,9 +96,9 @@ impl CountedListener {
         self.is_closed.load(Ordering::SeqCst)
     }
 
-    /// Whether no accept is in progress and each connection has ended for its worker.
+    /// Whether no accept is in progress.
     pub(crate) fn is_idle(&self) -> bool {
-        self.open.load(Ordering::SeqCst) == 0
+        self.accepting.load(Ordering::SeqCst) == 0
     }
 
     /// Closes the listener: clients are refused at once from now on. The descriptor stays open, because
@@ -109,7 +108,8 @@ impl CountedListener {
         shutdown(self.listener.as_raw_fd(), SHUT_RDWR);
     }
 
-    /// Accepts the next connection without waiting for it.
+    /// Accepts the next connection without waiting for it. If it gives a stream, the accept is in progress until
+    /// [`CountedListener::end_accept`].
     pub(crate) fn accept(&self) -> AcceptedClient {
         if !self.begin() {
             return AcceptedClient::Nothing;
@@ -133,7 +133,7 @@ impl CountedListener {
     /// Whether an accept may begin. It is counted before the check whether the listener is closed, so
     /// the thread that closes the listener misses none.
     fn begin(&self) -> bool {
-        self.open.fetch_add(1, Ordering::SeqCst);
+        self.accepting.fetch_add(1, Ordering::SeqCst);
         let is_free = match &self.left {
             Some(left) => left.begin(),
             None => true,
@@ -144,7 +144,7 @@ impl CountedListener {
         if is_free {
             self.withdraw();
         } else {
-            self.end_one();
+            self.end_accept();
         }
         false
     }
@@ -154,7 +154,7 @@ impl CountedListener {
         if let Some(left) = &self.left {
             left.free.fetch_add(1, Ordering::SeqCst);
         }
-        self.end_one();
+        self.end_accept();
     }
 
     /// Notes that a connection was accepted.
@@ -178,9 +178,9 @@ impl CountedListener {
         true
     }
 
-    /// Notes that a connection has ended for its worker. Returns whether none is left.
-    pub(crate) fn end_one(&self) -> bool {
-        self.open.fetch_sub(1, Ordering::SeqCst) == 1
+    /// Notes that an accept is no longer in progress.
+    pub(crate) fn end_accept(&self) {
+        self.accepting.fetch_sub(1, Ordering::SeqCst);
     }
 }
 

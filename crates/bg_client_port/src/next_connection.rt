@@ -1,13 +1,15 @@
 //! How a worker gets its next connection.
 
 use crate::client_port::ClientPort;
-use crate::connection::Connection;
+use crate::connection::{Connection, RequestFacts};
+use crate::first_read::{FirstRead, read_first};
+use crate::held_connection::{CompleteRequest, HeldConnection};
+use crate::input::PIECE;
 use crate::listener::AcceptedClient;
-use crate::pending::Given;
-use crate::pending_connection::{CompleteRequest, PendingConnection};
-use crate::request_buffer::RequestBuffer;
-use crate::sockets::is_ready;
 use crate::wait_sets::{Ready, WaitSet};
+use bg_http::{Request, RequestFault};
+use bg_port::{IncomingRequest, ReceivedRequest};
+use bg_sockets::{await_input, is_ready};
 use std::io;
 use std::io::ErrorKind;
 use std::net::TcpStream;
@@ -24,11 +26,22 @@ const ACCEPT_PAUSE_MILLIS: i32 = 100;
 /// The time, in milliseconds, of one wait of a worker while the port accepts no further connection.
 const FULL_PAUSE_MILLIS: i32 = 20;
 
+/// The time, in milliseconds, for which bytes of a client of the backlog are awaited when the port is closed.
+const FIRST_MILLIS: i32 = 1;
+
 /// The first read of a connection waits only while fewer connections than this are pending.
-const FEW_PENDING: usize = 32;
+const FEW_PENDING: u64 = 32;
 
 /// The maximum number of clients of the backlog that are accepted when the port is closed.
 const MOST_OF_BACKLOG: u32 = 2048;
+
+/// A connection whose request is over.
+#[derive(Drop)]
+pub struct NextRequest<'a, R: Clock> {
+    pub connection: Connection<'a, R>,
+    /// The request, or its fault: `ReadFailed` if a read failed, or if the port gave the request up.
+    pub received: Result<Request, RequestFault>,
+}
 
 /// The result of a step.
 #[derive(Drop)]
@@ -44,17 +57,20 @@ impl ClientPort {
     /// closed, and no request is pending. Another worker may still handle a connection that it accepted.
     ///
     /// The error is `ResourceBusy` if more workers are at work than the port has. Any other error counts
-    /// as a connection. It is `OutOfMemory` if a connection was lost because an allocation failed. It is
+    /// as a connection. It is
     /// the error of an accept if ten accepts of this call failed in a row, with pauses of up to 100
     /// milliseconds between them, and the number of connections is limited.
-    pub fn next<'a, R: Clock + Wait>(&'a self, rt: &'a R) -> io::Result<Option<Connection<'a, R>>> {
+    pub fn next<'a, R: Clock + Wait>(
+        &'a self,
+        rt: &'a R,
+    ) -> io::Result<Option<NextRequest<'a, R>>> {
         let Some(set) = self.take_wait_set(rt) else {
             return Err(io::Error::from(ErrorKind::ResourceBusy));
         };
         let outcome = self.next_by(rt, &set);
         self.return_to_listener(&set);
         match outcome {
-            Ok(Some(request)) => Ok(Some(Connection::new(self, rt, set, request))),
+            Ok(Some(request)) => Ok(Some(self.next_request(rt, set, request))),
             Ok(None) => {
                 self.give_back(rt, set);
                 Ok(None)
@@ -63,6 +79,34 @@ impl ClientPort {
                 self.give_back(rt, set);
                 Err(error)
             }
+        }
+    }
+
+    /// A connection whose request is over, for the worker that waited at a set.
+    fn next_request<'a, R: Clock>(
+        &'a self,
+        rt: &'a R,
+        set: WaitSet,
+        complete: CompleteRequest,
+    ) -> NextRequest<'a, R> {
+        let CompleteRequest {
+            connection,
+            received,
+        } = complete;
+        let ReceivedRequest {
+            answer,
+            ending,
+            bytes,
+            refused,
+        } = received;
+        let facts = RequestFacts {
+            ending,
+            bytes,
+            refused,
+        };
+        NextRequest {
+            connection: Connection::new(self, rt, set, connection, facts),
+            received: answer,
         }
     }
 
@@ -93,26 +137,22 @@ impl ClientPort {
 
     /// Takes a pending connection whose request is over. If none is left at a closed port, wakes the next
     /// waiting worker, which finds the same.
-    fn take_over<R: Clock + Wait>(&self, rt: &R) -> io::Result<Step> {
+    fn take_over<R: Clock + Wait>(&self, rt: &R) -> Step {
         let is_closed = self.listener.is_closed();
         let now = self.clock.now(rt);
-        let given = {
-            let mut pending = self.pending.lock(rt);
-            let given = pending.take_over(now, &self.watch);
-            self.publish(&pending);
-            if self.listener.is_closed() && !pending.has_requests() {
-                self.watch.over.post();
-            }
-            given
+        let (given, is_none_left) = {
+            let mut state = self.state.lock(rt);
+            let given = state.take_over(now, &self.watch);
+            self.publish(&state);
+            (given, !state.port.has_requests())
         };
+        if self.listener.is_closed() && is_none_left {
+            self.watch.over.post();
+        }
         match given {
-            Given::Request(request) => Ok(Step::Given(request)),
-            Given::NoneLeft if is_closed => Ok(Step::NoneLeft),
-            Given::Nothing | Given::NoneLeft => Ok(Step::Nothing),
-            Given::Lost => {
-                self.end_one();
-                Err(io::Error::from(ErrorKind::OutOfMemory))
-            }
+            Some(request) => Step::Given(request),
+            None if is_closed && is_none_left => Step::NoneLeft,
+            None => Step::Nothing,
         }
     }
 
@@ -125,7 +165,7 @@ impl ClientPort {
         set: &WaitSet,
         failures: &mut u32,
     ) -> io::Result<Step> {
-        let step = self.take_over(rt)?;
+        let step = self.take_over(rt);
         if !matches!(step, Step::Nothing) {
             return Ok(step);
         }
@@ -160,10 +200,10 @@ impl ClientPort {
     ) -> io::Result<Step> {
         if self.listener.is_closed() {
             set.forget(self.listener.get());
-            return self.take_over(rt);
+            return Ok(self.take_over(rt));
         }
         if self.is_full.load(Ordering::SeqCst) {
-            return self.make_room_alone(rt, set);
+            return Ok(self.make_room_alone(rt, set));
         }
         match self.listener.accept() {
             AcceptedClient::Stream(stream) => {
@@ -181,21 +221,21 @@ impl ClientPort {
                 self.return_to_listener(set);
                 let step = self.make_room(rt, ACCEPT_PAUSE_MILLIS);
                 self.call_successor(&step);
-                step
+                Ok(step)
             }
         }
     }
 
     /// Makes room at a full port, unless another worker does. If so, the other workers need not watch the
     /// listener: it stays ready, and each of them would ask again and again.
-    fn make_room_alone<R: Clock + Wait>(&self, rt: &R, set: &WaitSet) -> io::Result<Step> {
+    fn make_room_alone<R: Clock + Wait>(&self, rt: &R, set: &WaitSet) -> Step {
         if self.makes_room.swap(true, Ordering::SeqCst) {
             self.leave_listener(set);
             // there may be room since the port was found full
             if !self.is_full.load(Ordering::SeqCst) {
                 self.call_absent_worker();
             }
-            return Ok(Step::Nothing);
+            return Step::Nothing;
         }
         self.return_to_listener(set);
         let step = self.make_room(rt, FULL_PAUSE_MILLIS);
@@ -206,20 +246,20 @@ impl ClientPort {
 
     /// Wakes another worker that looks at the listener, if the one that the listener's event woke looks no
     /// longer.
-    fn call_successor(&self, step: &io::Result<Step>) {
-        if !matches!(step, Ok(Step::Nothing)) {
+    fn call_successor(&self, step: &Step) {
+        if !matches!(step, Step::Nothing) {
             self.call_worker();
         }
     }
 
     /// Closes a connection that makes no progress. If there is none, waits a while for a connection
     /// whose request is over.
-    fn make_room<R: Clock + Wait>(&self, rt: &R, millis: i32) -> io::Result<Step> {
+    fn make_room<R: Clock + Wait>(&self, rt: &R, millis: i32) -> Step {
         let now = self.clock.now(rt);
         let has_made_room = {
-            let mut pending = self.pending.lock(rt);
-            let has_made_room = pending.make_room(now, &self.watch);
-            self.publish(&pending);
+            let mut state = self.state.lock(rt);
+            let has_made_room = state.make_room(now, &self.watch);
+            self.publish(&state);
             has_made_room
         };
         if has_made_room {
@@ -227,11 +267,11 @@ impl ClientPort {
         } else {
             self.watch.over.take_within(millis);
         }
-        let step = self.take_over(rt)?;
+        let step = self.take_over(rt);
         if matches!(step, Step::Nothing) {
             self.is_called.store(false, Ordering::SeqCst);
         }
-        Ok(step)
+        step
     }
 
     /// Accepts the clients that wait in the backlog, as long as the port has room. Workers get them as
@@ -244,12 +284,46 @@ impl ClientPort {
             let AcceptedClient::Stream(stream) = self.listener.accept() else {
                 return;
             };
-            if let Step::Given(request) = self.begin_request(rt, stream) {
-                let mut pending = self.pending.lock(rt);
-                pending.add_over(request, &self.watch);
-                self.publish(&pending);
-            }
+            self.leave_for_a_worker(rt, stream);
         }
+    }
+
+    /// Leaves a connection of the backlog to the event loop, with what has come of its request.
+    fn leave_for_a_worker<R: Clock + Wait>(&self, rt: &R, stream: TcpStream) {
+        let Some(connection) = self.enter(rt, stream) else {
+            return;
+        };
+        if self.has_few_pending() {
+            await_input(&connection.stream, FIRST_MILLIS);
+        }
+        let id = connection.id;
+        let now = self.clock.now(rt);
+        let mut piece = [0u8; PIECE];
+        let mut state = self.state.lock(rt);
+        let request = IncomingRequest::new(self.alloc);
+        if state.leave(connection, request, now, &self.watch).is_some() {
+            state.port.end(id);
+        } else {
+            state.read_on(id.key, now, &mut piece, &self.watch);
+        }
+        self.publish(&state);
+    }
+
+    /// Whether few connections are pending, so that the first read of a connection waits.
+    fn has_few_pending(&self) -> bool {
+        self.pending_count.load(Ordering::SeqCst) < FEW_PENDING
+    }
+
+    /// Adds a connection to the state of the port. It is closed if there is no place for it.
+    fn enter<R: Clock + Wait>(&self, rt: &R, stream: TcpStream) -> Option<HeldConnection> {
+        let accepted = self.clock.now(rt);
+        let id = self.state.lock(rt).port.accept(accepted);
+        self.listener.end_accept();
+        Some(HeldConnection {
+            id: id?,
+            accepted,
+            stream,
+        })
     }
 
     /// Reads the available bytes of a request. If the request is not over, leaves its connection to
@@ -258,33 +332,32 @@ impl ClientPort {
     /// A client connects shortly before it sends, so the first read waits for that time, unless many
     /// connections are pending.
     fn begin_request<R: Clock + Wait>(&self, rt: &R, stream: TcpStream) -> Step {
-        let mut request = RequestBuffer::new(self.alloc);
-        if self.pending_count.load(Ordering::SeqCst) < FEW_PENDING {
-            request.read_first(&stream);
-        } else {
-            request.read_on(&stream);
-        }
-        if request.is_over() {
-            return Step::Given(CompleteRequest {
-                stream,
-                request: request.into_buffered(),
-                until: None,
-            });
-        }
-        let now = self.clock.now(rt);
-        let until = now.saturating_add(self.request_millis);
-        let connection = PendingConnection::arriving(stream, request, now, until);
-        match self.leave(rt, connection, now) {
-            Ok(()) => Step::Nothing,
-            Err(connection) => given_back(connection),
+        let Some(connection) = self.enter(rt, stream) else {
+            return Step::Nothing;
+        };
+        match read_first(self.alloc, &connection.stream, self.has_few_pending()) {
+            FirstRead::Over(received) => Step::Given(CompleteRequest {
+                connection,
+                received,
+            }),
+            FirstRead::More(request) => self.leave(rt, connection, request),
         }
     }
-}
 
-/// The step for a connection that cannot be left to the event loop.
-fn given_back(connection: PendingConnection) -> Step {
-    match connection.into_over() {
-        Some(request) => Step::Given(request),
-        None => Step::Nothing,
+    /// Leaves a connection to the event loop.
+    fn leave<R: Clock + Wait>(
+        &self,
+        rt: &R,
+        connection: HeldConnection,
+        request: IncomingRequest,
+    ) -> Step {
+        let now = self.clock.now(rt);
+        let mut state = self.state.lock(rt);
+        let given_back = state.leave(connection, request, now, &self.watch);
+        self.publish(&state);
+        match given_back {
+            Some(request) => Step::Given(request),
+            None => Step::Nothing,
+        }
     }
 }

@@ -70,6 +70,13 @@ impl Connections {
         self.table.totals()
     }
 
+    /// The number of places.
+    pub(crate) fn places(&self) -> usize
+        ensures { result ≡ length self.now.places }
+    {
+        self.table.len()
+    }
+
     /// The number of connections that wait for a worker.
     pub(crate) fn waiting(&self) -> usize
         ensures { result ≡ length self.now.queue }

@@ -1,5 +1,6 @@
 //! A request that is arriving.
 ghost use Rattle.std.specs.Prelude.{◌≡◌, [], false};
+ghost use Rattle.bg_port.specs.Stages.{told_of};
 
 use crate::received::{Ending, ReceivedRequest};
 use bg_http_read::{RequestParser, RequestStep};
@@ -42,7 +43,7 @@ impl IncomingRequest {
     ghost use Rattle.std.specs.Prelude.{◌++◌, length};
     ghost use Rattle.bg_port.specs.Feeding.{FeedsTo};
     ghost use Rattle.bg_port.specs.Incoming.{counted};
-    ghost use Rattle.bg_port.specs.Received.{IsReceived};
+    ghost use Rattle.bg_port.specs.Received.{IsReceived, unread};
     ghost use Rattle.bg_port.specs.declared.received.Ending.TheVariants as ending;
 
     /// A request before its first byte.
@@ -100,5 +101,24 @@ impl IncomingRequest {
             ending: Ending::Ended,
             bytes: count,
         }
+    }
+
+    /// What a worker is given if the request cannot be read further: because a read failed, or because the port gives it
+    /// up, of which the worker is told no byte.
+    pub fn stop(self, why: Ending) -> ReceivedRequest
+        ensures { result ≡ unread why (told_of why (counted self.came)) }
+    {
+        let bytes = told_of(why, self.count);
+        ReceivedRequest::unread(why, bytes)
+    }
+}
+
+/// The number of bytes that a worker is told of a request that could not be read.
+fn told_of(why: Ending, count: usize) -> usize
+    ensures { result ≡ told_of why count }
+{
+    match why {
+        Ending::GivenUp => 0,
+        Ending::Decided | Ending::Ended | Ending::Failed => count,
     }
 }

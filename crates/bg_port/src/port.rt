@@ -78,6 +78,13 @@ impl Port {
         self.connections.enter(now)
     }
 
+    /// The number of places for connections.
+    pub fn places(&self) -> usize
+        ensures { result ≡ length self.now.connections.places }
+    {
+        self.connections.places()
+    }
+
     /// Whether the port shuts down.
     pub fn is_closing(&self) -> bool
         ensures { result ≡ is_some self.now.closing_until }

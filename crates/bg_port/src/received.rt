@@ -1,6 +1,7 @@
 //! What a worker is given of a connection: its request, or why there is none.
 ghost use Rattle.std.specs.Prelude.{◌≡◌};
 ghost use Rattle.bg_port.specs.Received.{unread};
+ghost use Rattle.bg_port.specs.declared.received.Ending.TheVariants as ending;
 
 use bg_http::{Request, RequestFault};
 use bg_http_read::RefusedHead;
@@ -33,6 +34,13 @@ pub struct ReceivedRequest {
 }
 
 impl ReceivedRequest {
+    /// A request that the port gave up.
+    pub fn given_up() -> ReceivedRequest
+        ensures { result ≡ unread ending.GivenUp 0 }
+    {
+        ReceivedRequest::unread(Ending::GivenUp, 0)
+    }
+
     /// A request whose rest could not be read.
     pub(crate) fn unread(ending: Ending, bytes: usize) -> ReceivedRequest
         ensures { result ≡ unread ending bytes }

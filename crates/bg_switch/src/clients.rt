@@ -2,14 +2,14 @@
 
 use crate::context::ServeContext;
 use crate::ports::service_name;
-use crate::request_line::request_line;
+use crate::request_text::text_of;
 use bg_access_log::{AccessLog, LogEntry};
-use bg_client_port::Connection;
-use bg_forward::{Accept, ClientStream, End, Reason, Served};
-use bg_http::Duplex;
+use bg_client_port::{Connection, NextRequest};
+use bg_forward::{Accept, Arrived, ClientStream, End, Reason, Served};
+use bg_http::{Bytes, Request, RequestFault};
 use bg_revisions::Service;
 use std::io;
-use std::io::{ErrorKind, Read, Write};
+use std::io::{ErrorKind, Write};
 use std::sync::Wait;
 use std::time::Clock;
 
@@ -20,12 +20,6 @@ pub struct Client<'a, R: Clock> {
     service: Service,
 }
 
-impl<R: Clock> Read for Client<'_, R> {
-    fn read(&mut self, buf: &mut [u8]) -> io::Result<usize> {
-        self.connection.read(buf)
-    }
-}
-
 impl<R: Clock> Write for Client<'_, R> {
     fn write(&mut self, buf: &[u8]) -> io::Result<usize> {
         self.connection.write(buf)
@@ -33,16 +27,6 @@ impl<R: Clock> Write for Client<'_, R> {
 
     fn flush(&mut self) -> io::Result<()> {
         self.connection.flush()
-    }
-}
-
-impl<R: Clock> Duplex for Client<'_, R> {
-    fn receive(&mut self, buf: &mut [u8]) -> io::Result<usize> {
-        self.connection.receive(buf)
-    }
-
-    fn send(&mut self, bytes: &[u8]) -> io::Result<()> {
-        self.connection.send(bytes)
     }
 }
 
@@ -61,20 +45,27 @@ pub struct Clients<'a, R: Clock + Wait> {
 impl<'a, R: Clock + Wait> Accept for Clients<'a, R> {
     type Stream = Client<'a, R>;
 
-    fn accept(&self, service: Service) -> io::Result<Option<Client<'a, R>>> {
+    fn accept(&self, service: Service) -> io::Result<Option<Arrived<Client<'a, R>>>> {
         let Some(port) = self.context.ports.of(service) else {
             return Err(io::Error::from(ErrorKind::NotFound));
         };
-        match port.next(self.context.rt)? {
-            Some(connection) => Ok(Some(Client {
+        let Some(
+            NextRequest {
                 connection,
-                service,
-            })),
-            None => Ok(None),
-        }
+                received,
+            },
+        ) = port.next(self.context.rt)?
+        else {
+            return Ok(None);
+        };
+        let stream = Client {
+            connection,
+            service,
+        };
+        Ok(Some(Arrived { stream, received }))
     }
 
-    fn close(&self, client: Client<'a, R>, served: &Served) {
+    fn close(&self, client: Arrived<Client<'a, R>>, served: &Served) {
         if served.reason == Some(Reason::HistoryFull) {
             self.context.notices.note_refused_request();
         }
@@ -82,32 +73,33 @@ impl<'a, R: Clock + Wait> Accept for Clients<'a, R> {
             self.add_to_log(log, &client, served);
         }
         // a request that entered was read to its end
-        client.connection.end(served.entered.is_some());
+        client.stream.connection.end(served.entered.is_some());
     }
 }
 
 impl<R: Clock + Wait> Clients<'_, R> {
     /// Adds the outcome of a connection to the log.
-    fn add_to_log(&self, log: &AccessLog, client: &Client<R>, served: &Served) {
+    fn add_to_log(&self, log: &AccessLog, client: &Arrived<Client<R>>, served: &Served) {
         let rt = self.context.rt;
-        let connection = &client.connection;
-        let (method, target) = match request_line(self.context.alloc, connection.first_bytes()) {
-            Some(line) => (Some(line.method), Some(line.target)),
-            None => (None, None),
-        };
+        let alloc = self.context.alloc;
+        let Client {
+            connection,
+            service,
+        } = &client.stream;
+        let line = request_line(&client.received, connection);
         let entered = served.entered;
         log.add(
             rt,
             &LogEntry {
                 time: log.time(rt),
-                service: service_name(client.service),
+                service: service_name(*service),
                 revision: entered.map(|ticket| ticket.revision),
                 request: entered.map(|ticket| ticket.number),
                 port: served.route.map(|route| route.port),
                 slot_port: slot_port(served),
                 tries: self.tries(served),
-                method,
-                target,
+                method: line.and_then(|line| text_of(alloc, line.method)),
+                target: line.and_then(|line| text_of(alloc, line.target)),
                 status: status_of(served.end),
                 end: name_of(served.end),
                 reason: reason_name(served.reason, connection),
@@ -133,6 +125,33 @@ impl<R: Clock + Wait> Clients<'_, R> {
     }
 }
 
+/// The method and the target of a request.
+#[derive(Clone, Copy, Drop)]
+struct RequestLine<'a> {
+    method: &'a Bytes,
+    target: &'a Bytes,
+}
+
+/// The method and the target of a request, or of one that was refused after its head was parsed.
+fn request_line<'a, R: Clock>(
+    received: &'a Result<Request, RequestFault>,
+    connection: &'a Connection<R>,
+) -> Option<RequestLine<'a>> {
+    match received {
+        Ok(request) => Some(RequestLine {
+            method: &request.method,
+            target: &request.target,
+        }),
+        Err(_) => {
+            let head = &connection.refused_head()?.head;
+            Some(RequestLine {
+                method: &head.method,
+                target: &head.target,
+            })
+        }
+    }
+}
+
 /// The port of the ticket, if another port was dialled last.
 fn slot_port(served: &Served) -> Option<u16> {
     let ticket = served.entered?;
@@ -149,8 +168,12 @@ fn reason_name<R: Clock>(
     reason: Option<Reason>,
     connection: &Connection<R>,
 ) -> Option<&'static str> {
+    let is_sound = match connection.refused_head() {
+        Some(refused) => refused.is_sound,
+        None => false,
+    };
     match reason? {
-        Reason::Malformed | Reason::HeadTooLarge if connection.has_sound_head() => Some("body"),
+        Reason::Malformed | Reason::HeadTooLarge if is_sound => Some("body"),
         reason => Some(reason.name()),
     }
 }

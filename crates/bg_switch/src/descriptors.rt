@@ -1,8 +1,9 @@
 //! The descriptors of the process, and how many connections they leave to the client ports.
 
 use crate::ports::preview_workers;
-use bg_client_port::{Bounds, DescriptorLimits, descriptor_limits, reserved_descriptors};
+use bg_client_port::{Bounds, reserved_descriptors};
 use bg_command_line::ServeSettings;
+use bg_sockets::{DescriptorLimits, descriptor_limits};
 use std::fmt;
 
 /// The number of descriptors that are kept free for the control port itself and for the operator that has

@@ -11,7 +11,7 @@ mod notices;
 mod operator_users;
 mod operators;
 mod ports;
-mod request_line;
+mod request_text;
 mod revision_ports;
 mod serve;
 mod workers;

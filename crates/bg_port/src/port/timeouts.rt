@@ -53,7 +53,7 @@ impl Port {
     }
 
     /// Whether the timeout of the shutdown has passed.
-    pub(crate) fn is_shutdown_over(&self, now: u64) -> bool
+    pub fn is_shutdown_over(&self, now: u64) -> bool
         ensures { result ≡ is_shutdown_over now self.now.closing_until }
     {
         match self.closing_until {

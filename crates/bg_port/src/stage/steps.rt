@@ -2,7 +2,7 @@
 ghost use Rattle.std.specs.Prelude.{◌≡◌, IfErr, IfOk, None, OnErr, true};
 ghost use Rattle.bg_port.specs.Stages.{EndsInput, Feeds, ReadsOn, as_lingering, as_reading, as_writing};
 ghost use Rattle.bg_port.specs.Stages.{discarded, discarded_on, discards, is_waiting, lingering_from};
-ghost use Rattle.bg_port.specs.Stages.{shut, stopped, told_of, turned, turns, written_on, wrote};
+ghost use Rattle.bg_port.specs.Stages.{shut, stopped, turned, turns, written_on, wrote};
 ghost use Rattle.bg_port.specs.declared.stage.Stage.TheVariants as stage;
 
 use super::{Lingering, ReadStep, Reading, STILL_MILLIS, Stage, Writing};
@@ -216,10 +216,7 @@ impl Stage {
         ensures { result ≡ stopped why self }
     {
         match self {
-            Stage::Reading(reading) => {
-                let bytes = told_of(why, reading.request.count());
-                Some(Stage::Waiting(ReceivedRequest::unread(why, bytes)))
-            }
+            Stage::Reading(reading) => Some(Stage::Waiting(reading.request.stop(why))),
             Stage::Writing(_) | Stage::Lingering(_) => None,
             other => Some(other),
         }
@@ -257,15 +254,5 @@ impl Stage {
             Stage::Lingering(lingering) => lingering.discard(count, now),
             other => Some(other),
         }
-    }
-}
-
-/// The number of bytes that a worker is told of a request that could not be read.
-fn told_of(why: Ending, count: usize) -> usize
-    ensures { result ≡ told_of why count }
-{
-    match why {
-        Ending::GivenUp => 0,
-        Ending::Decided | Ending::Ended | Ending::Failed => count,
     }
 }

@@ -11,9 +11,6 @@ use std::io;
 use std::net::{TcpListener, TcpStream};
 use std::os::fd::AsRawFd;
 
-/// The maximum number of bytes that one read of a connection asks for.
-pub(crate) const PIECE: usize = 16_384;
-
 /// The error of the system call that failed just now.
 pub(crate) fn last_error() -> io::Error {
     io::Error::from_raw_os_error(errno())
@@ -31,7 +28,7 @@ fn moved(count: isize, most: usize) -> io::Result<usize>
 }
 
 /// Reads the available bytes. If there are none, the error is WouldBlock.
-pub(crate) fn receive_now(stream: &TcpStream, buf: &mut [u8]) -> io::Result<usize>
+pub fn receive_now(stream: &TcpStream, buf: &mut [u8]) -> io::Result<usize>
     ensures { ReadsAtMost result buf.new }
 {
     let most = buf.len();
@@ -40,7 +37,7 @@ pub(crate) fn receive_now(stream: &TcpStream, buf: &mut [u8]) -> io::Result<usiz
 }
 
 /// Writes what the system takes at once. If it takes nothing, the error is WouldBlock.
-pub(crate) fn send_now(stream: &TcpStream, bytes: &[u8]) -> io::Result<usize>
+pub fn send_now(stream: &TcpStream, bytes: &[u8]) -> io::Result<usize>
     ensures { WritesAtMost result bytes.now }
 {
     let count = unsafe { send(stream.as_raw_fd(), bytes, MSG_NOSIGNAL | MSG_DONTWAIT) };
@@ -48,7 +45,7 @@ pub(crate) fn send_now(stream: &TcpStream, bytes: &[u8]) -> io::Result<usize>
 }
 
 /// Whether no byte is unread, or the input has ended.
-pub(crate) fn is_drained(stream: &TcpStream) -> bool {
+pub fn is_drained(stream: &TcpStream) -> bool {
     let flags = MSG_PEEK | MSG_DONTWAIT;
     let count = unsafe { recv(stream.as_raw_fd(), &mut [0u8], flags) };
     match moved(count, 1) {
@@ -59,7 +56,7 @@ pub(crate) fn is_drained(stream: &TcpStream) -> bool {
 
 /// Whether an accept would find a connection. An accept itself cannot tell: if no descriptor is free, it
 /// fails even if none waits.
-pub(crate) fn is_ready(listener: &TcpListener) -> bool {
+pub fn is_ready(listener: &TcpListener) -> bool {
     let mut asked = [pollfd {
         fd: listener.as_raw_fd(),
         events: POLLIN,
@@ -68,9 +65,19 @@ pub(crate) fn is_ready(listener: &TcpListener) -> bool {
     poll(&mut asked, 0) > 0
 }
 
+/// Waits until bytes or the end of the input come, for at most `millis` milliseconds.
+pub fn await_input(stream: &TcpStream, millis: i32) {
+    let mut asked = [pollfd {
+        fd: stream.as_raw_fd(),
+        events: POLLIN,
+        revents: 0,
+    }];
+    poll(&mut asked, millis);
+}
+
 /// What the system knows about the other end of a connection.
 #[derive(Clone, Copy, PartialEq, Eq, Debug, Drop)]
-pub(crate) enum OtherEnd {
+pub enum OtherEnd {
     /// It may still send.
     Open,
     /// It ended its input: it shut its writing side, or closed the connection.
@@ -80,7 +87,7 @@ pub(crate) enum OtherEnd {
 }
 
 /// What the system knows about the other end. If the call fails, the result is `Open`.
-pub(crate) fn other_end(stream: &TcpStream) -> OtherEnd {
+pub fn other_end(stream: &TcpStream) -> OtherEnd {
     let mut asked = [pollfd {
         fd: stream.as_raw_fd(),
         events: POLLRDHUP,

@@ -1,23 +1,24 @@
-//! Moments of a port.
+//! The moments of a port.
 
 use std::io;
 use std::time::{Clock, Duration, Instant};
 
 /// Gives moments as milliseconds since it was started.
 #[derive(Drop)]
-pub(crate) struct PortClock {
+pub struct PortClock {
     start: Instant,
 }
 
 impl PortClock {
-    pub(crate) fn start<R: Clock>(rt: &R) -> io::Result<PortClock> {
+    /// A clock that starts now. The only error is that the system's clock fails.
+    pub fn start<R: Clock>(rt: &R) -> io::Result<PortClock> {
         Ok(PortClock {
             start: Instant::now(rt)?,
         })
     }
 
     /// The number of milliseconds since the start; 0 if the clock fails.
-    pub(crate) fn now<R: Clock>(&self, rt: &R) -> u64 {
+    pub fn now<R: Clock>(&self, rt: &R) -> u64 {
         match self.start.elapsed(rt) {
             Ok(passed) => millis(passed),
             Err(_) => 0,

@@ -1,6 +1,6 @@
-//! Signals between the threads of a port.
+//! Signals between threads.
 
-use crate::sockets::last_error;
+use crate::calls::last_error;
 use libc::net::{EFD_CLOEXEC, EFD_NONBLOCK, POLLIN, eventfd, poll};
 use libc::types::pollfd;
 use os::FromRawFd;
@@ -10,15 +10,15 @@ use std::os::fd::{AsRawFd, OwnedFd, RawFd};
 /// Each read takes one post (`EFD_SEMAPHORE` of eventfd(2)).
 const SEMAPHORE: i32 = 1;
 
-/// A count of posts that wait sets can watch. It is readable while it is not 0.
+/// A count of posts that epoll sets can watch. It is readable while it is not 0.
 #[derive(Drop)]
-pub(crate) struct Signal {
+pub struct Signal {
     counter: OwnedFd,
 }
 
 impl Signal {
-    /// A signal with no posts.
-    pub(crate) fn new() -> io::Result<Signal> {
+    /// A signal with no posts. An error if the system call fails.
+    pub fn new() -> io::Result<Signal> {
         let fd = eventfd(0, EFD_CLOEXEC | EFD_NONBLOCK | SEMAPHORE);
         if fd < 0 {
             return Err(last_error());
@@ -29,22 +29,22 @@ impl Signal {
     }
 
     /// The descriptor that is watched.
-    pub(crate) fn descriptor(&self) -> RawFd {
+    pub fn descriptor(&self) -> RawFd {
         self.counter.as_raw_fd()
     }
 
     /// Adds one post. It ends the wait of one watching thread, or the next wait.
-    pub(crate) fn post(&self) {
+    pub fn post(&self) {
         libc::write(self.counter.as_raw_fd(), &1u64.to_ne_bytes());
     }
 
     /// Takes one post, if there is one.
-    pub(crate) fn take(&self) {
+    pub fn take(&self) {
         libc::read(self.counter.as_raw_fd(), &mut [0u8; 8]);
     }
 
     /// Waits for a post, for at most `millis` milliseconds, and takes it.
-    pub(crate) fn take_within(&self, millis: i32) {
+    pub fn take_within(&self, millis: i32) {
         let mut asked = [pollfd {
             fd: self.counter.as_raw_fd(),
             events: POLLIN,
