@@ -15,7 +15,7 @@ use crate::stage::Stopped;
 
 impl Port {
     /// Gives up the connection that is slow and has made no progress for the longest time, among these. Gives its key, and
-    /// what became of it; `None` if none is slow.
+    /// what became of it; `None` if none is slow. A request that is paused is not slow.
     pub fn give_up_slowest(&mut self, which: Among, now: u64) -> Option<(usize, Stopped)>
         ensures slow { IfSome result (λ given.
             IsSome (slow_at which now (at self.old.connections.places given.0))) }
