@@ -32,11 +32,12 @@ MANY = b"A: " + b"b" * 17000 + b"\r\n"
 # What is wrong behind a head that has no fault, and the status that it is refused in.
 FAULTS_OF_BODIES = (("a wrong size", b"x\r\n", 400), ("a wrong end", b"1\r\nab\r\n0\r\n\r\n", 400), ("a wrong trailer", b"0\r\nA b: c\r\n\r\n", 400),
                     ("large trailers", b"0\r\n" + MANY + b"\r\n", 400), ("a large chunk", b"100001\r\n", 413))
-# How many bytes of lines wait to be written at most. A target whose line in the log is long, and more requests for it than the
-# log keeps lines; the first of them fill the FIFO.
+# How many bytes of lines wait to be written at most. A request whose line in the log is long, and more of them than the log keeps
+# lines; the first of them fill the FIFO.
 QUEUE = 1 << 24
-WIDE = b"/" + b"\x01" * 1023
-FIRST_REQUESTS, WIDE_REQUESTS = 32, 2800
+# It has no Host, and so is refused; its method and its target, of which each byte is two in the log, make a long line.
+WIDE = b"M" * 1024 + b" /" + b'"' * 1023 + b" HTTP/1.1\r\n\r\n"
+FIRST_REQUESTS, WIDE_REQUESTS = 32, 5600
 # How many bytes the file of a full disk takes, and how many lines are for it.
 ROOM, LINES_FOR_ROOM = 1000, 20
 STILL = 3  # seconds for which a reader of the log stands still
@@ -244,8 +245,8 @@ class Fifo:
 
 
 def longest_wait(port: int, count: int) -> float:
-    """How many seconds a client of many that ask for a long target waits at most."""
-    return max(timed(port, [request(WIDE)]).seconds for _ in range(count))
+    """How many seconds a client of many whose lines are long waits at most."""
+    return max(timed(port, [WIDE]).seconds for _ in range(count))
 
 
 def slow_disk() -> None:

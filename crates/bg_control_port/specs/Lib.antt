@@ -1,3 +1,9 @@
+pub mod Ahead
 pub mod Bounds
 pub mod Fronts
+pub mod Lines
+pub mod Precedences
+pub mod Registers
+pub mod Stages
+pub mod Steps
 pub mod Turns

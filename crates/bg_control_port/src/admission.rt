@@ -1,8 +1,8 @@
 //! Which connections are served.
 
 use bg_peers::{PeerTable, Users};
+use bg_sockets::{receive_now, send_now};
 use std::alloc::{AllocError, Global};
-use std::io::{Read, Write};
 use std::net::TcpStream;
 
 /// The reply to a connection of a user who is not served.
@@ -78,11 +78,10 @@ impl Admission {
 
 /// Tells a connection that it is not served. What has arrived of its line is read before it is closed, since a
 /// close beside unread bytes may keep the reply from its peer (RFC 2525 section 2.17).
-fn refuse(mut stream: &TcpStream) {
+fn refuse(stream: &TcpStream) {
     let mut first = [0u8; FIRST_BYTES];
     // a connection that cannot be told is closed all the same
-    let is_told = stream.set_nonblocking(true).is_ok() && stream.write(NOT_ALLOWED).is_ok();
-    if is_told {
-        let _ = stream.read(&mut first);
+    if send_now(stream, NOT_ALLOWED).is_ok() {
+        let _ = receive_now(stream, &mut first);
     }
 }

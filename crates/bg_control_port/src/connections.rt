@@ -1,202 +1,200 @@
-//! The connections of operators.
+//! The state of all connections, without their sockets.
+ghost use Rattle.std.specs.Prelude.{◌≡◌, ◌<◌, ◌≤◌, EachIndex, IfErr, IfNone, IfOk, IfSome, None, count_by, is_some, length, replicate, slice_set};
+ghost use Rattle.std.specs.Option.{option_copied};
+ghost use Rattle.bg_control_port.specs.Bounds.{IsBounded};
+ghost use Rattle.bg_control_port.specs.Registers.{Enters, Takes, at, came_by, changed, ended_by, leaves, replied_by, urgent_by, without, wrote_by};
 
-use crate::connection::{Fate, OperatorConnection};
-use crate::context::{ConnectionContext, PortContext};
-use crate::priority::LinePriority;
-use crate::readiness::Readiness;
+mod room;
+mod turns;
+
+use crate::bounds::MOST_CONNECTIONS;
+use crate::connection::{Connection, Moment};
 use crate::reply::Reply;
-use crate::turn::{MOST_CONNECTIONS, Place, Silence, has_passed, heeds_urgency, row_after};
-use slab::Slab;
+pub use room::is_long;
 use std::alloc::{AllocError, Global};
-use std::io;
-use std::net::TcpStream;
+use std::marker::Model;
+use std::mem;
+pub use turns::{Asker, NextLine};
 
-/// The number of milliseconds of silence after which a connection may be closed because an accept failed.
-const LONGEST_SILENCE: u64 = 2_000;
-
-/// The connection whose line was given, and that waits for the reply.
-#[derive(Clone, Copy, Debug, Drop, PartialEq, Eq)]
-pub struct Asker {
-    pub(crate) key: usize,
-    user: Option<u32>,
-}
-
-impl Asker {
-    /// The number of the user (`uid`) whose process sent the line, if only listed users are served.
-    pub fn user(&self) -> Option<u32> {
-        self.user
-    }
-}
-
-/// The connections of operators. Moments are milliseconds from the start of the port.
+/// The connections of operators, each at its key. The caller reads and writes their sockets, and says what came of it.
+/// Moments are milliseconds from the start of the port.
 #[derive(Drop)]
 pub struct Connections {
     alloc: Global,
-    connections: Slab<OperatorConnection>,
+    places: Vec<Option<Connection>>,
     /// The number of the next whole line.
     next_number: u64,
-    /// How many of the last lines were answered before others since they are urgent.
+    /// How many of the last lines were given before others since they are urgent.
     urgent_in_a_row: u32,
 }
 
+impl Model for Connections {
+    ghost use Rattle.std.specs.Prelude.{◌≤◌, ℕ, length};
+    ghost use Rattle.bg_control_port.specs.Bounds.{IsBounded};
+    ghost use Rattle.bg_control_port.specs.Registers.{Register, at};
+
+    ghost Value = { Register };
+
+    ghost view = { λ c. record {
+      places = c.places.items;
+      next_number = c.next_number;
+      urgent_in_a_row = c.urgent_in_a_row;
+    } };
+
+    ghost invariant = { λ c.
+        (length c.places.items ≤ 1024) × ((key : ℕ) → IsBounded (at c.places.items key)) };
+}
+
 impl Connections {
-    /// No connections. Allocates the memory for all that there can be.
-    pub fn new(alloc: Global) -> Result<Connections, AllocError> {
+    /// No connections, and places for 1,024. The only error is an allocation failure.
+    pub fn new(alloc: Global) -> Result<Connections, AllocError>
+        ensures { IfOk result (λ connections. connections ≡ record {
+          places = replicate 1024 None;
+          next_number = 0;
+          urgent_in_a_row = 0;
+        }) }
+    {
+        let mut places = Vec::with_capacity(alloc, MOST_CONNECTIONS)?;
+        for _ in 0..MOST_CONNECTIONS {
+            places.push(None)?;
+        }
         Ok(Connections {
             alloc,
-            connections: Slab::with_capacity(alloc, MOST_CONNECTIONS)?,
+            places,
             next_number: 0,
             urgent_in_a_row: 0,
         })
     }
 
-    /// The number of connections.
-    pub fn count(&self) -> usize {
-        self.connections.len()
+    /// The number of connections, at most 1,024.
+    pub fn count(&self) -> usize
+        ensures count { result ≡ count_by is_some self.now.places }
+        ensures most { result ≤ 1024 }
+    {
+        self.places.iter().filter(|place| place.is_some()).count()
     }
 
-    /// Adds a connection of this user. The next wait reports what has already arrived on it.
-    pub fn add(
+    /// The connection of a key.
+    pub fn get(&self, key: usize) -> Option<&Connection>
+        ensures { option_copied result ≡ at self.now.places key }
+    {
+        self.places.get(key)?.as_ref()
+    }
+
+    /// Adds a connection of this user that was accepted now, and gives its key; `None` only if there are 1,024.
+    pub fn add(&mut self, user: Option<u32>, now: u64) -> Option<usize>
+        ensures enters { IfSome result (λ key. Enters self.old self.new key user now) }
+        ensures none { IfNone result (self.new ≡ self.old) }
+        ensures full { IfNone result (EachIndex self.old.places (λ key. ¬ (at self.old.places key ≡ None))) }
+    {
+        let key = self.first_free()?;
+        let connection = Connection::new(self.alloc, user, now);
+        self.replace(key, Some(connection));
+        Some(key)
+    }
+
+    /// The first key without a connection.
+    fn first_free(&self) -> Option<usize>
+        ensures within { IfSome result (λ key. key < length self.now.places) }
+        ensures free { IfSome result (λ key. at self.now.places key ≡ None) }
+        ensures none { IfNone result (EachIndex self.now.places (λ key. ¬ (at self.now.places key ≡ None))) }
+    {
+        self.places.iter().position(|place| place.is_none())
+    }
+
+    /// Puts this into the place of a key, and gives what was there.
+    fn replace(&mut self, key: usize, place: Option<Connection>) -> Option<Connection>
+        requires within { key < length self.old.places }
+        requires bounded { IsBounded place }
+        ensures place { self.new ≡ record self.old { places = slice_set self.old.places key place } }
+        ensures before { result ≡ at self.old.places key }
+    {
+        mem::replace(&mut self.places[key], place)
+    }
+
+    /// Takes the connection of a key out of its place, with the moment of the step that it is taken for.
+    fn take(&mut self, key: usize, now: u64) -> Option<(Connection, Moment)>
+        ensures some { IfSome result (λ taken. Takes self.old self.new key now taken.0 taken.1) }
+        ensures none { IfNone result (at self.old.places key ≡ None) }
+        ensures kept { IfNone result (self.new ≡ self.old) }
+    {
+        if key >= self.places.len() {
+            return None;
+        }
+        let connection = self.replace(key, None)?;
+        let number = self.next_number;
+        self.next_number = number.saturating_add(1);
+        Some((connection, Moment { now, number }))
+    }
+
+    /// Notes that bytes came. If no line of the connection is awaited, nothing changes but the number of the next line.
+    /// The only error is an allocation failure, after which the connection has left.
+    pub fn came(&mut self, key: usize, bytes: &[u8], now: u64) -> Result<(), AllocError>
+        requires { length bytes.now ≤ 8192 }
+        ensures came { IfOk result (λ _. self.new ≡ changed (came_by bytes.now) now self.old key) }
+        ensures failed { IfErr result (λ _. self.new ≡ changed leaves now self.old key) }
+    {
+        if let Some((connection, moment)) = self.take(key, now) {
+            let connection = connection.came(bytes, moment)?;
+            self.replace(key, Some(connection));
+        }
+        Ok(())
+    }
+
+    /// Notes that the input of a connection has ended. Without a part of a line, the connection leaves.
+    pub fn end_input(&mut self, key: usize, now: u64)
+        ensures { self.new ≡ changed ended_by now self.old key }
+    {
+        if let Some((connection, moment)) = self.take(key, now) {
+            self.replace(key, connection.ended(moment.number));
+        }
+    }
+
+    /// Notes that the line of a connection that waits is urgent. A line that is skipped never is.
+    pub fn note_urgent(&mut self, key: usize, now: u64)
+        ensures { self.new ≡ changed urgent_by now self.old key }
+    {
+        if let Some((connection, _moment)) = self.take(key, now) {
+            self.replace(key, Some(connection.with_urgency()));
+        }
+    }
+
+    /// Notes the reply to the line that was given, and that so many bytes of it were taken at once. The rest is kept. The
+    /// connection leaves if more than 65,536 bytes would have to be kept, or if the reply was taken whole and is its
+    /// last. The only error is an allocation failure, after which the connection has left.
+    pub fn replied(
         &mut self,
-        stream: TcpStream,
-        user: Option<u32>,
-        readiness: &Readiness,
+        key: usize,
+        reply: Reply,
+        count: usize,
         now: u64,
-    ) -> io::Result<()> {
-        let connection = OperatorConnection::new(self.alloc, stream, user, now)?;
-        let Ok(key) = self.connections.insert(connection) else {
-            return Err(io::Error::from(io::ErrorKind::OutOfMemory));
-        };
-        let watched = match self.connections.get(key) {
-            Some(connection) => readiness.watch(connection.stream(), key),
-            None => Ok(()),
-        };
-        if watched.is_err() {
-            self.connections.try_remove(key);
+    ) -> Result<(), AllocError>
+        ensures replied { IfOk result (λ _. self.new ≡ changed (replied_by reply.entry.bytes.now reply.entry.after count) now self.old key) }
+        ensures failed { IfErr result (λ _. self.new ≡ changed leaves now self.old key) }
+    {
+        if let Some((connection, moment)) = self.take(key, now) {
+            let connection = connection.replied(self.alloc, reply, count, moment)?;
+            self.replace(key, connection);
         }
-        watched
+        Ok(())
     }
 
-    /// Handles that a connection is ready.
-    pub fn attend<P: LinePriority>(&mut self, key: usize, has_ended: bool, port: &PortContext<P>) {
-        let Some(connection) = self.connections.get_mut(key) else {
-            return;
-        };
-        let number = next(&mut self.next_number);
-        let context = ConnectionContext { port, key, number };
-        let fate = connection.attend(has_ended, &context);
-        self.end_if(fate, key);
-    }
-
-    /// Whether a whole line waits.
-    pub fn has_line(&self) -> bool {
-        self.first().is_some()
-    }
-
-    /// The connection whose line is next, and whether that line is next since it is urgent.
-    fn first(&self) -> Option<(usize, bool)> {
-        let heeds = heeds_urgency(self.urgent_in_a_row);
-        let mut first: Option<(usize, Place)> = None;
-        for (key, connection) in self.connections.iter() {
-            if let Some(place) = connection.place() {
-                let place = place.if_urgency_counts(heeds);
-                match first {
-                    Some((_, least)) if !place.goes_before(least) => {}
-                    _ => first = Some((key, place)),
-                }
-            }
-        }
-        first.map(|(key, place)| (key, place.is_urgent))
-    }
-
-    /// Takes the next line, and returns whose it is; `None` if no line waits, or the connection failed.
-    pub fn take_line(&mut self, line: &mut Vec<u8>) -> Option<Asker> {
-        let (key, is_urgent) = self.first()?;
-        self.urgent_in_a_row = row_after(self.urgent_in_a_row, is_urgent);
-        let connection = self.connections.get_mut(key)?;
-        if connection.take_line(line) {
-            let user = connection.user();
-            return Some(Asker { key, user });
-        }
-        self.connections.try_remove(key);
-        None
-    }
-
-    /// Gives the reply to the line that was taken from a connection.
-    pub fn reply<P: LinePriority>(&mut self, key: usize, reply: Reply, port: &PortContext<P>) {
-        let Some(connection) = self.connections.get_mut(key) else {
-            return;
-        };
-        let number = next(&mut self.next_number);
-        let context = ConnectionContext { port, key, number };
-        let fate = connection.reply(self.alloc, reply, &context);
-        self.end_if(fate, key);
-    }
-
-    /// Closes a connection that ends.
-    fn end_if(&mut self, fate: Fate, key: usize) {
-        if fate == Fate::Ends {
-            self.connections.try_remove(key);
+    /// Notes that so many bytes of the rest of a reply were taken. The connection leaves if the reply was taken whole and
+    /// is its last.
+    pub fn wrote(&mut self, key: usize, count: usize, now: u64)
+        ensures { self.new ≡ changed (wrote_by count) now self.old key }
+    {
+        if let Some((connection, moment)) = self.take(key, now) {
+            self.replace(key, connection.wrote(count, moment));
         }
     }
 
-    /// Closes a connection.
-    pub fn end(&mut self, key: usize) {
-        self.connections.try_remove(key);
-    }
-
-    /// Closes each connection that has taken nothing of a reply for ten seconds.
-    pub fn end_given_up(&mut self, now: u64) {
-        self.connections
-            .retain(|_key, connection| !connection.is_given_up(now));
-    }
-
-    /// Whether a connection can be closed to make room.
-    pub fn can_make_room(&self) -> bool {
-        self.first_to_close().is_some()
-    }
-
-    /// Closes the connection that has been silent for the longest time, so that another one has room.
-    pub fn make_room(&mut self) {
-        if let Some((key, _silence)) = self.first_to_close() {
-            self.connections.try_remove(key);
+    /// Notes that a connection has failed or was ended. It leaves.
+    pub fn end(&mut self, key: usize)
+        ensures { self.new ≡ without self.old key }
+    {
+        if key < self.places.len() {
+            self.replace(key, None);
         }
     }
-
-    /// Closes the connection that has been silent for the longest time, if that is at least two seconds and
-    /// no whole line of it waits.
-    pub fn close_silent(&mut self, now: u64) {
-        if let Some((key, silence)) = self.first_to_close()
-            && !silence.has_line
-            && has_passed(LONGEST_SILENCE, silence.since, now)
-        {
-            self.connections.try_remove(key);
-        }
-    }
-
-    /// The connection that is closed first if there is no room.
-    fn first_to_close(&self) -> Option<(usize, Silence)> {
-        let mut first: Option<(usize, Silence)> = None;
-        for (key, connection) in self.connections.iter() {
-            if let Some(silence) = connection.silence() {
-                match first {
-                    Some((_, longest)) if !silence.is_closed_before(longest) => {}
-                    _ => first = Some((key, silence)),
-                }
-            }
-        }
-        first
-    }
-
-    /// Closes all connections.
-    pub fn close(&mut self) {
-        self.connections.clear();
-    }
-}
-
-/// The next number.
-fn next(number: &mut u64) -> u64 {
-    let given = *number;
-    *number = given.saturating_add(1);
-    given
 }

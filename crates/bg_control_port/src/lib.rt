@@ -10,16 +10,19 @@
 
 mod acceptor;
 mod admission;
+mod bounds;
+mod buffer;
 mod connection;
 mod connections;
-mod context;
 mod events;
-mod line_buffer;
+pub mod laws;
+mod operators;
 mod port;
 mod priority;
 mod readiness;
 mod reply;
 mod turn;
+mod writing;
 
 pub use connections::Asker;
 pub use events::ControlEvents;

@@ -1,22 +1,22 @@
 //! The control port.
 
-use crate::acceptor::{AcceptedOperator, Acceptor};
+use crate::acceptor::Acceptor;
 use crate::admission::{Admission, Admitted};
-use crate::connections::{Asker, Connections};
-use crate::context::PortContext;
+use crate::bounds::most_connections;
+use crate::connections::Asker;
 use crate::events::ControlEvents;
+use crate::operators::{Operators, PortContext};
 use crate::priority::LinePriority;
 use crate::readiness::{MOST_READY, Readiness, Ready};
 use crate::reply::Reply;
-use crate::turn::{MOST_CONNECTIONS, most_connections};
+use crate::turn::Precedence;
 use bg_peers::Users;
-use libc::RLIMIT_NOFILE;
-use libc::types::rlimit;
-use std::alloc::{AllocError, Global};
+use bg_sockets::{PortClock, descriptor_limits};
+use std::alloc::Global;
 use std::io;
-use std::net::{Net, TcpListener, TcpStream};
+use std::net::{TcpListener, TcpStream};
 use std::sync::{Mutex, Wait};
-use std::time::{Clock, Duration, Instant};
+use std::time::Clock;
 
 /// The number of accepts in a row before other events are handled.
 const MOST_ACCEPTS: usize = 64;
@@ -29,7 +29,7 @@ const SECOND: u64 = 1_000;
 pub struct ControlPort {
     readiness: Readiness,
     state: Mutex<State>,
-    start: Instant,
+    clock: PortClock,
 }
 
 /// The state that changes.
@@ -39,7 +39,7 @@ struct State {
     /// `None` after the port was closed.
     acceptor: Option<Acceptor>,
     admission: Admission,
-    connections: Connections,
+    operators: Operators,
     /// When the next call of `second_passed` is due.
     next_second: u64,
 }
@@ -47,16 +47,11 @@ struct State {
 /// The calls that are due to the events.
 #[derive(Drop)]
 struct News {
-    accepts: AcceptNews,
-    second_passed: bool,
-}
-
-/// What accepts have to report.
-#[derive(Drop)]
-struct AcceptNews {
+    /// Why an accept failed.
     failure: Option<io::Error>,
     /// The number of connections that were refused.
     refused: u64,
+    second_passed: bool,
 }
 
 impl ControlPort {
@@ -66,25 +61,25 @@ impl ControlPort {
     ///
     /// A connection of another user, and one of which the system does not tell the user ([`bg_peers::PeerTable::user_of`]), is
     /// sent `refused NotAllowed` and closed. No line of it is given.
-    pub fn new<R: Net + Clock>(
+    pub fn new<R: Clock>(
         rt: &R,
         alloc: Global,
         listener: TcpListener,
         operators: Option<Users>,
     ) -> io::Result<ControlPort> {
         let acceptor = Acceptor::new(listener)?;
-        let readiness = Readiness::new(rt, acceptor.listener())?;
+        let readiness = Readiness::new(acceptor.listener())?;
         let state = State {
             alloc,
             acceptor: Some(acceptor),
             admission: Admission::new(alloc, operators),
-            connections: Connections::new(alloc)?,
+            operators: Operators::new(alloc)?,
             next_second: SECOND,
         };
         Ok(ControlPort {
             readiness,
             state: Mutex::new(state),
-            start: Instant::now(rt)?,
+            clock: PortClock::start(rt)?,
         })
     }
 
@@ -117,7 +112,7 @@ impl ControlPort {
     ) -> Asker {
         for _ in rt.forever() {
             self.attend(rt, events, priority);
-            if let Some(asker) = self.state.lock(rt).connections.take_line(line) {
+            if let Some(asker) = self.state.lock(rt).operators.take_line(line) {
                 return asker;
             }
         }
@@ -136,13 +131,13 @@ impl ControlPort {
         let context = self.context(rt, priority);
         self.state
             .lock(rt)
-            .connections
+            .operators
             .reply(asker.key, reply, &context);
     }
 
     /// Closes the connection of a line, without a reply.
     pub fn end<R: Wait>(&self, rt: &R, asker: Asker) {
-        self.state.lock(rt).connections.end(asker.key);
+        self.state.lock(rt).operators.end(asker.key);
     }
 
     /// Closes the listener and all connections. From then on no line comes, so a call of
@@ -150,23 +145,15 @@ impl ControlPort {
     pub fn close<R: Wait>(&self, rt: &R) {
         let mut state = self.state.lock(rt);
         state.acceptor = None;
-        state.connections.close();
+        state.operators.close();
     }
 
     /// What the handling of connections needs at this moment.
     fn context<'a, R: Clock, P>(&'a self, rt: &R, priority: &'a P) -> PortContext<'a, P> {
         PortContext {
-            now: self.now(rt),
+            now: self.clock.now(rt),
             readiness: &self.readiness,
             priority,
-        }
-    }
-
-    /// The number of milliseconds since the start; 0 if the clock fails.
-    fn now<R: Clock>(&self, rt: &R) -> u64 {
-        match self.start.elapsed(rt) {
-            Ok(passed) => millis(passed),
-            Err(_) => 0,
         }
     }
 
@@ -183,11 +170,11 @@ impl ControlPort {
         let mut state = self.state.lock(rt);
         let news = state.attend(&ready[..count], &context);
         drop(state);
-        if let Some(reason) = &news.accepts.failure {
+        if let Some(reason) = &news.failure {
             events.accept_failed(reason);
         }
-        if news.accepts.refused > 0 {
-            events.connections_refused(news.accepts.refused);
+        if news.refused > 0 {
+            events.connections_refused(news.refused);
         }
         if news.second_passed {
             events.second_passed();
@@ -197,9 +184,14 @@ impl ControlPort {
     /// The number of milliseconds that a wait may last: none if a line waits, and otherwise up to the next
     /// second and the next accept.
     fn millis_to_wait<R: Clock + Wait>(&self, rt: &R) -> i32 {
-        let now = self.now(rt);
+        let now = self.clock.now(rt);
         let state = self.state.lock(rt);
-        if state.connections.has_line() {
+        if state
+            .operators
+            .connections()
+            .first(Precedence::Lines)
+            .is_some()
+        {
             return 0;
         }
         let mut millis = state.next_second.saturating_sub(now).min(SECOND);
@@ -217,43 +209,30 @@ impl State {
     fn attend<P: LinePriority>(&mut self, ready: &[Ready], context: &PortContext<P>) -> News {
         for one in ready {
             match *one {
-                Ready::Listener => self.note_listener(),
+                // its connections are accepted after all else, so that no key of a connection that was closed is given
+                // again before
+                Ready::Listener => {
+                    if let Some(acceptor) = &mut self.acceptor {
+                        acceptor.note_ready(context.now);
+                    }
+                }
                 Ready::Connection { key, has_ended } => {
-                    self.connections.attend(key, has_ended, context);
+                    self.operators.attend(key, has_ended, context);
                 }
             }
         }
         let second_passed = self.passes_second(context.now);
         if second_passed {
-            self.connections.end_given_up(context.now);
+            self.operators.end_given_up(context.now);
         }
-        News {
-            accepts: self.accept_due(context.now, context.readiness),
-            second_passed,
-        }
-    }
-
-    /// Notes that the listener is ready. Its connections are accepted after all else, so that no key of a
-    /// connection that was closed is given again before.
-    fn note_listener(&mut self) {
-        if let Some(acceptor) = &mut self.acceptor {
-            acceptor.note_ready();
-        }
-    }
-
-    /// Accepts the connections that have come, and keeps those that are served.
-    fn accept_due(&mut self, now: u64, readiness: &Readiness) -> AcceptNews {
         let mut arrived = Vec::new(self.alloc);
-        let failure = self.accept_arrived(now, &mut arrived);
+        let failure = self.accept_arrived(context.now, &mut arrived);
         let count = arrived.len();
-        // without memory, none of them is served
-        let served = match self.admission.admit(arrived) {
-            Ok(admitted) => self.keep(admitted, readiness, now),
-            Err(AllocError) => 0,
-        };
-        AcceptNews {
+        let served = self.keep_served(arrived, context.readiness, context.now);
+        News {
             failure,
             refused: count.saturating_sub(served) as u64,
+            second_passed,
         }
     }
 
@@ -264,17 +243,18 @@ impl State {
             if acceptor.millis_to_wait(now) != Some(0) {
                 return None;
             }
-            let count = self.connections.count().saturating_add(arrived.len());
-            if count >= most_connections_now() && !self.connections.can_make_room() {
+            let connections = self.operators.connections();
+            let count = connections.count().saturating_add(arrived.len());
+            if count >= most_connections_now() && connections.first(Precedence::Silence).is_none() {
                 acceptor.put_off(now);
                 return None;
             }
             match acceptor.accept(now) {
                 // without memory, it is closed
-                AcceptedOperator::Stream(stream) => drop(arrived.push(stream)),
-                AcceptedOperator::Nothing => {}
-                AcceptedOperator::Failed(reason) => {
-                    self.connections.close_silent(now);
+                Ok(Some(stream)) => drop(arrived.push(stream)),
+                Ok(None) => {}
+                Err(reason) => {
+                    self.operators.close_silent(now);
                     return acceptor.is_first_failure().then_some(reason);
                 }
             }
@@ -282,16 +262,18 @@ impl State {
         None
     }
 
-    /// Keeps connections that are served, and returns their number. Each takes the place of another one if there is
-    /// no room.
-    fn keep(&mut self, admitted: Vec<Admitted>, readiness: &Readiness, now: u64) -> usize {
+    /// Keeps those of these connections that are served, and returns their number. Each takes the place of another one if
+    /// there is no room. Without memory, none of them is served.
+    fn keep_served(&mut self, arrived: Vec<TcpStream>, readiness: &Readiness, now: u64) -> usize {
+        let Ok(admitted) = self.admission.admit(arrived) else {
+            return 0;
+        };
         let count = admitted.len();
         for Admitted { stream, user } in admitted {
-            if self.connections.count() >= most_connections_now() {
-                self.connections.make_room();
+            if self.operators.connections().count() >= most_connections_now() {
+                self.operators.make_room();
             }
-            // a connection that cannot be watched is closed
-            drop(self.connections.add(stream, user, readiness, now));
+            self.operators.add(stream, user, readiness, now);
         }
         count
     }
@@ -308,19 +290,5 @@ impl State {
 
 /// The maximum number of connections now. The limit of descriptors may change.
 fn most_connections_now() -> usize {
-    let mut limit = rlimit {
-        rlim_cur: 0,
-        rlim_max: 0,
-    };
-    if libc::getrlimit(RLIMIT_NOFILE, &mut limit) != 0 {
-        return MOST_CONNECTIONS;
-    }
-    most_connections(limit.rlim_cur)
-}
-
-fn millis(duration: Duration) -> u64 {
-    duration
-        .as_secs()
-        .saturating_mul(1_000)
-        .saturating_add(u64::from(duration.subsec_millis()))
+    most_connections(descriptor_limits().soft)
 }

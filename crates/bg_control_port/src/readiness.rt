@@ -1,16 +1,14 @@
 //! Which sockets of the port are ready.
 ghost use Rattle.std.specs.Prelude.{◌≤◌, length};
 
-use libc::net::{
-    EPOLL_CTL_ADD, EPOLL_CTL_MOD, EPOLLERR, EPOLLET, EPOLLHUP, EPOLLIN, EPOLLOUT, EPOLLRDHUP,
-};
-use mio::Poll;
-use os::{EpollEvent, epoll_ctl, epoll_wait, errno};
+use bg_sockets::{EpollSet, Watched};
+use libc::net::{EPOLLERR, EPOLLET, EPOLLHUP, EPOLLIN, EPOLLOUT, EPOLLRDHUP};
+use os::EpollEvent;
 use std::io;
-use std::net::{Net, TcpListener, TcpStream};
-use std::os::fd::{AsRawFd, RawFd};
+use std::net::{TcpListener, TcpStream};
+use std::os::fd::AsRawFd;
 
-/// The key of the events of the listener. The key of a connection is smaller.
+/// The number of the events of the listener. The key of a connection is smaller.
 const LISTENER: u64 = u64::MAX;
 
 /// The maximum number of sockets that a wait reports.
@@ -29,42 +27,34 @@ pub enum Ready {
 /// line that is not complete yet is reported once. A socket that is watched again is reported if it is ready.
 #[derive(Drop)]
 pub struct Readiness {
-    set: Poll,
+    set: EpollSet,
 }
 
 impl Readiness {
-    /// Watches the listener.
-    pub fn new(net: &impl Net, listener: &TcpListener) -> io::Result<Readiness> {
-        let readiness = Readiness {
-            set: Poll::new(net)?,
-        };
-        readiness.control(EPOLL_CTL_ADD, listener.as_raw_fd(), EPOLLIN, LISTENER)?;
-        Ok(readiness)
+    /// Watches the listener. An error if a system call fails.
+    pub fn new(listener: &TcpListener) -> io::Result<Readiness> {
+        let set = EpollSet::new()?;
+        set.add(Watched {
+            descriptor: listener.as_raw_fd(),
+            events: EPOLLIN | EPOLLET,
+            number: LISTENER,
+        })?;
+        Ok(Readiness { set })
     }
 
-    /// Watches the input of a new connection.
+    /// Watches the input of a new connection. An error if the system call fails.
     pub fn watch(&self, stream: &TcpStream, key: usize) -> io::Result<()> {
-        let events = EPOLLIN | EPOLLRDHUP;
-        self.control(EPOLL_CTL_ADD, stream.as_raw_fd(), events, key as u64)
+        self.set.add(watched(stream, EPOLLIN | EPOLLRDHUP, key))
     }
 
-    /// Watches the input of a connection again. What has arrived already is reported.
+    /// Watches the input of a connection again. What has arrived already is reported. An error if the system call fails.
     pub fn watch_input(&self, stream: &TcpStream, key: usize) -> io::Result<()> {
-        let events = EPOLLIN | EPOLLRDHUP;
-        self.control(EPOLL_CTL_MOD, stream.as_raw_fd(), events, key as u64)
+        self.set.change(watched(stream, EPOLLIN | EPOLLRDHUP, key))
     }
 
-    /// Watches whether a connection takes bytes, and not its input.
+    /// Watches whether a connection takes bytes, and not its input. An error if the system call fails.
     pub fn watch_output(&self, stream: &TcpStream, key: usize) -> io::Result<()> {
-        self.control(EPOLL_CTL_MOD, stream.as_raw_fd(), EPOLLOUT, key as u64)
-    }
-
-    fn control(&self, operation: i32, fd: RawFd, events: u32, number: u64) -> io::Result<()> {
-        let set = self.set.as_raw_fd();
-        if epoll_ctl(set, operation, fd, events | EPOLLET, number) == 0 {
-            return Ok(());
-        }
-        Err(io::Error::from_raw_os_error(errno()))
+        self.set.change(watched(stream, EPOLLOUT, key))
     }
 
     /// Waits until a socket is ready, for at most `millis` milliseconds, and puts what is ready at the front of
@@ -73,11 +63,19 @@ impl Readiness {
         ensures { result ≤ 64 }
     {
         let mut events = [EpollEvent { events: 0, data: 0 }; MOST_READY];
-        let count = epoll_wait(self.set.as_raw_fd(), &mut events, millis);
+        let count = self.set.wait(&mut events, millis);
         for (place, event) in ready.iter_mut().zip(events.iter()) {
             *place = ready_of(*event);
         }
         count
+    }
+}
+
+fn watched(stream: &TcpStream, events: u32, key: usize) -> Watched {
+    Watched {
+        descriptor: stream.as_raw_fd(),
+        events: events | EPOLLET,
+        number: key as u64,
     }
 }
 

@@ -1,0 +1,5 @@
+pub mod AheadLemmas
+pub mod Bounded
+pub mod Firsts
+pub mod LineLemmas
+pub mod Stepping

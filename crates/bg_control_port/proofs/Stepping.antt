@@ -1,0 +1,17 @@
+-- A step changes the connection of its key.
+use Rattle.std.proofs.Common.{◌≡◌, ℕ, Option, None, set, ap, sym, ◌∙◌}
+use Rattle.std.proofs.lemmas.List.{set-set}
+use Rattle.bg_control_port.specs.Registers.{Register, Takes, changed, changed_from, number_after}
+use Rattle.bg_control_port.specs.declared.connection.Connection.{Connection}
+use Rattle.bg_control_port.specs.declared.connection.Moment.{Moment}
+
+pub stepped : (old mid new : Register) (key now : ℕ) (c : Connection) (moment : Moment)
+    → (step : Moment → Connection → Option Connection) (place : Option Connection) → Takes old mid key now c moment
+    → new ≡ record mid { places = set mid.places key place } → place ≡ step moment c → new ≡ changed step now old key
+stepped old mid new key now c moment step place takes is to =
+    is
+    ∙ ap (λ (r : Register). record r { places = set r.places key place }) takes.now_is
+    ∙ ap (λ ps. record old { places = ps; next_number = number_after old.next_number }) (set-set old.places key None place)
+    ∙ ap (λ p. record old { places = set old.places key p; next_number = number_after old.next_number })
+    (to ∙ ap (λ a. step a c) takes.moment_is)
+    ∙ ap (λ p. changed_from p step now old key) (sym takes.was)
