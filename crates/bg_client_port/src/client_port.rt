@@ -32,9 +32,8 @@ pub struct ClientPortSettings {
 ///
 /// A worker is given a connection only after its request is over: the request is complete or faulty,
 /// the client has ended it, its timeout has passed, or the port has closed the connection to make room
-/// or to shut down. Before that, and after the worker has ended the
-/// connection, the event loop reads and writes it and checks its timeouts. Each accepted connection is
-/// given to a worker exactly once.
+/// or to shut down. Before that, and after the worker has ended the connection, the event loop reads and
+/// writes it and checks its timeouts. Each accepted connection is given to a worker exactly once.
 pub struct ClientPort {
     pub(crate) alloc: Global,
     pub(crate) listener: CountedListener,

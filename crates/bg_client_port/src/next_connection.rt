@@ -57,9 +57,8 @@ impl ClientPort {
     /// closed, and no request is pending. Another worker may still handle a connection that it accepted.
     ///
     /// The error is `ResourceBusy` if more workers are at work than the port has. Any other error counts
-    /// as a connection. It is
-    /// the error of an accept if ten accepts of this call failed in a row, with pauses of up to 100
-    /// milliseconds between them, and the number of connections is limited.
+    /// as a connection: it is the error of an accept if ten accepts of this call failed in a row, with pauses
+    /// of up to 100 milliseconds between them, and the number of connections is limited.
     pub fn next<'a, R: Clock + Wait>(
         &'a self,
         rt: &'a R,
