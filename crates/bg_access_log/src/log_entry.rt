@@ -30,12 +30,11 @@ pub struct LogEntry<'a> {
     pub end: &'static str,
     /// Why the client was refused.
     pub reason: Option<&'static str>,
-    /// The number of bytes of the request that the worker read.
+    /// The number of bytes that came of the request.
     pub request_bytes: u64,
     /// The number of bytes that the worker gave for the client. They may not be written yet.
     pub response_bytes: u64,
-    /// The number of milliseconds from the accept until the worker ended the connection, without the time
-    /// for which the request was paused.
+    /// The number of milliseconds from the accept until the worker ended the connection.
     pub duration_ms: u64,
     /// The number of milliseconds from when a worker got the connection to the first bytes of the response.
     pub upstream_ms: Option<u64>,
