@@ -151,7 +151,7 @@ pub struct Outcome {
 #[derive(Clone, Copy, Drop)]
 struct Reception<'a> {
     setting: &'a Setting<'a>,
-    received: Option<&'a Received>,
+    received: &'a Option<Received>,
 }
 
 /// A connection, and what serves it.
@@ -161,7 +161,7 @@ struct Trial<'a, R, D> {
     alloc: Global,
     setting: &'a Setting<'a>,
     /// What was received before; `None` if the request is read while the connection is served.
-    received: Option<&'a Received>,
+    received: &'a Option<Received>,
     dial: &'a D,
     /// The number of times that the gate of the desk was asked whether the request goes on.
     questions: &'a AtomicU64,
@@ -279,8 +279,8 @@ pub fn serve<R: Wait>(
     let mut stream = setting.stream(alloc);
     let received = setting.receive(alloc, &mut stream);
     let reception = Reception {
-        setting,
-        received: received.as_ref(),
+        setting: &*setting,
+        received: &received,
     };
     serve_stream(rt, alloc, &reception, stream, answer)
 }
