@@ -1,64 +1,73 @@
-# check: for the working day.  build: proves and builds the program.  test: the gate.  demo: the examples.  demo-live: a
-# rollout under traffic, and one that its analysis takes back.  demo-fleet: a fleet of three machines on one.  bench: times,
-# and ratios beside the baseline.  tools: one file of the Python tools.  share: completions and manual pages of bgctl.  lint:
-# judges what no proof reads.  test-tools: the tests of the tools.  model: all searches of the model of a fleet.  NAME: proves
-# and builds the library NAME and what it stands on.
+# check: for the working day.  try: runs the program in a minute or two, without a proof.  quick: proves, tests and tries with its
+# edits what differs from main.  build: proves and builds the program.  test: the gate.  demo: the examples.  demo-live: a rollout
+# under traffic, and one that its analysis takes back.  demo-fleet: a fleet of three machines on one.  bench: times, and ratios
+# beside the baseline.  tools: one file of the Python tools.  share: completions and manual pages of bgctl.  lint: judges what no
+# proof reads.  test-tools: the tests of the tools.  model: all searches of the model of a fleet.  NAME: proves and builds the
+# library NAME and what it stands on.
 CRATES := $(shell sed -n 's/^\([a-z_]*\)[^:]*:.*/\1/p' crates.txt)
 LIBRARIES := $(foreach crate,$(CRATES),$(if $(wildcard crates/$(crate)/src/lib.rt),$(crate)))
 # The libraries that a crate stands on, by its line of crates.txt.
 below = $(filter $(LIBRARIES),$(shell sed -n 's/^$(1)\( [^:]*\)*: *//p' crates.txt))
+PROCESSORS := $(shell nproc)
 # How many checks the gate makes side by side, each with one job: memory holds three, and one that is split into four jobs
 # costs a sixth more processor time.
-PROCESSORS := $(shell nproc)
 CHECKS := $(shell count=$$(nproc); [ $$count -lt 3 ] || count=3; echo $$count)
-GROUPS := group-rules group-http group-others
+# How many checks a build begins. Half of them wait for crates below, so this is more than there are processors.
+BUILDS := $(shell count=$$(nproc); [ $$count -lt 4 ] || count=4; echo $$((count * 3 / 2)))
 BENCHES := $(filter-out bench/run.sh,$(wildcard bench/*.sh)) bench/sick_endpoint.py
 ARCHIVE := out/bg_switch_tools.pyz
+# Parts of the gate that wait for no clock, so they run side by side.
+APART := model-small whole-program refused-memory package
 
-.PHONY: check build test lint tools share test-tools model deb dist demo demo-live demo-fleet bench $(GROUPS) $(LIBRARIES)
+.PHONY: check try quick build test gate lint tools share test-tools model deb dist demo demo-live demo-fleet bench $(APART) $(LIBRARIES)
 
 check:
 	rt all check
 	scripts/whole_program.sh
 
-# What the program stands on, from the bottom up. rt locks a crate and all crates below it, so libraries that share one
-# can't be proved at the same time: each group is a loop, and the groups run side by side. The order matters: where a library
-# below isn't proved yet, rt first reads the sources of all of them, and after that proves them.
-RULE_BASE := bg_strategy bg_revisions bg_history bg_scaledown bg_history_laws bg_promotion
-RULE_CHAIN := bg_rollout bg_book bg_operator bg_report bg_script bg_forward bg_endpoints
-HTTP := bg_http bg_http_read bg_port bg_peers bg_sockets bg_client_port bg_control_port
-OTHERS := bg_openlist bg_ledger bg_command_line bg_access_log
+# Interprets the program from its sources, with these words and this input. No proof is made, and the last line says so.
+WORDS := check
+INPUT := examples/direct.json
+try:
+	cd crates/bg_switch && rt try -- $(WORDS) < $(abspath $(INPUT))
+	@echo 'try: the program was interpreted, and nothing of it was proved'
 
-# A check that is split into several jobs costs more processor time in all, since each job reads the libraries. So it has
-# one job, except in the longest chain once the other groups have ended and processors would be idle. The program has one
-# job too: two thirds of its check is work that each job would do again.
-prove = for crate in $(2); do (cd crates/$$crate && rt lib --jobs $(1)) || exit; done
+# FROM is a commit; without it, what differs is told from where the branch left main.
+quick:
+	scripts/quick.py $(FROM)
 
+# What is built already is kept up by one command, since rt locks a crate and all crates below it. Each check has one job: a check
+# that is split into several jobs costs more processor time in all, since each job reads the libraries.
 build:
-	@$(MAKE) --no-print-directory --jobs=$(CHECKS) $(GROUPS)
+	scripts/first_build.py
+	cd crates/bg_switch && rt all check --jobs $(BUILDS)
 	cd crates/bg_switch && rt run --jobs 1 -- check < ../../examples/direct.json > /dev/null
-
-group-rules:
-	$(call prove,1,$(RULE_BASE))
-	$(call prove,$(PROCESSORS),$(RULE_CHAIN))
-group-http:
-	$(call prove,1,$(HTTP))
-group-others:
-	$(call prove,1,$(OTHERS))
 
 $(foreach crate,$(LIBRARIES),$(eval $(crate): $(call below,$(crate))))
 
 $(LIBRARIES):
 	cd crates/$@ && rt lib
 
-test: lint
-	python3 -m unittest -q scripts/test_gate_cost.py
-	RT_JOBS=$(CHECKS) scripts/gate_cost.py rt ci
+# What each crate and the whole gate cost stands at the end, in units of bg_openlist's proof.
+test:
+	RT_JOBS=$(CHECKS) scripts/gate_cost.py $(MAKE) --no-print-directory gate
+
+gate: lint
+	python3 -m unittest discover -q -s scripts
+	rt ci
+	scripts/try_edits.py
+	bin/bg_switch check < examples/direct.json > /dev/null
+	$(MAKE) --no-print-directory --jobs=$(PROCESSORS) --output-sync=target --keep-going $(APART)
 	$(MAKE) --no-print-directory test-tools
-	model/check.py small
-	scripts/whole_program.sh
 	scripts/live.sh
+
+model-small:
+	model/check.py small
+whole-program:
+	scripts/whole_program.sh
+refused-memory:
 	scripts/refused_memory.sh
+package:
 	scripts/package.sh
 
 lint:

@@ -13,7 +13,7 @@ import sys
 import textwrap
 from collections.abc import Iterator, Mapping
 
-from gate_cost import Crate, crates_in
+from crate_list import Crate, crates_in
 
 TOP = pathlib.Path(__file__).resolve().parents[1]
 PAGE = TOP / "docs" / "ARCHITECTURE.md"

@@ -33,6 +33,8 @@ from collections.abc import Iterable, Iterator, Mapping, Sequence
 from dataclasses import dataclass, field
 from typing import NamedTuple, TextIO
 
+from crate_list import Crate, crates_in
+
 UNIT = "bg_openlist"
 PERIOD = 0.25
 TICKS = os.sysconf("SC_CLK_TCK")
@@ -57,14 +59,6 @@ class ProcessTime(NamedTuple):
 
 
 @dataclass
-class Crate:
-    """A line of crates.txt."""
-
-    below: list[str]
-    may_wait: int
-
-
-@dataclass
 class Costs:
     """The processor seconds of each process that worked on a crate."""
 
@@ -81,17 +75,6 @@ class Costs:
 
     def sum(self) -> float:
         return sum(sum(each) for each in self.of.values())
-
-
-def crates_in(text: str) -> dict[str, Crate]:
-    """The crates of a crates.txt, each with those of the repository that it stands on."""
-    lines = [re.fullmatch(r"(\w+)([^:#]*):(.*)", line) for line in text.splitlines()]
-    found = {line[1]: (line[2], line[3].split()) for line in lines if line}
-    crates = {}
-    for name, (options, below) in found.items():
-        count = re.search(r"\bmay_wait=(\d+)", options)
-        crates[name] = Crate([it for it in below if it in found], int(count[1]) if count else 0)
-    return crates
 
 
 def work_of(words: Sequence[str], folder: str) -> Work | None:

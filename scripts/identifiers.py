@@ -6,7 +6,8 @@ usage: scripts/identifiers.py     prints each place, one a line; the exit status
 The column "Not" of docs/GLOSSARY.md has the words that a term replaces. A word in code font there is one that no
 identifier of the code has: in lower case, it is no part of an identifier (`owner` forbids `owner_of`, `has-owner` and
 `TheOwner`); with a capital, no type has this name (`Order`). A word without code font has other meanings too, and is for
-reviews. Text in comments and in strings is not looked at, since it says what a reader sees.
+reviews. Text in comments and in strings is not looked at, since it says what a reader sees. A template of JavaScript counts
+as text with the code in it, which only uses names that stand elsewhere too.
 """
 import functools
 import pathlib
@@ -21,11 +22,19 @@ GLOSSARY = "docs/GLOSSARY.md"
 FOLDERS = ("crates", "lib", "scripts", "tests", "bench", "examples", "packaging")
 # Names that libraries give.
 OF_LIBRARIES = {"compare_exchange", "compare_exchange_weak", "SO_LINGER"}
-COMMENTS = {".rt": r"//.*", ".antt": r"--.*", ".py": r"#.*"}
+
+
+def template(inner: str) -> str:
+    """The pattern of a template of JavaScript, whose code has templates of the pattern `inner`."""
+    return rf"`(?:\\.|\$(?!\{{)|[^\\`$]|\$\{{(?:[^`{{}}]|{inner})*\}})*`"
+
+
+COMMENTS = {".rt": r"//.*", ".antt": r"--.*", ".py": r"#.*", ".js": r"//.*|/\*[\s\S]*?\*/"}
 TEXTS = {
     ".rt": r'"(?:\\.|[^"\\])*"|\'(?:\\.|[^\'\\])\'',
     ".antt": r'"(?:\\.|[^"\\])*"',
     ".py": r'"""[\s\S]*?"""|"(?:\\.|[^"\\\n])*"|\'(?:\\.|[^\'\\\n])*\'',
+    ".js": r'"(?:\\.|[^"\\\n])*"|\'(?:\\.|[^\'\\\n])*\'|' + template(template("`[^`]*`")),
 }
 IDENTIFIER = re.compile(r"[A-Za-z_][A-Za-z0-9_]*(?:-[A-Za-z0-9_]+)*")
 

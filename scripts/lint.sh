@@ -1,14 +1,16 @@
 #!/bin/sh
-# Judges the files that no proof reads: the types of the Python files (mypy), their style (ruff, by pyproject.toml), the shell
-# scripts (shellcheck), and the syntax of the scripts of the dashboard's page (node). It needs mypy. Where another of these
-# programs is not installed, a line says what was not checked.
+# Judges the files that no proof reads: the types of the Python files (mypy) and their faults (flake8, by .flake8), the shell
+# scripts (shellcheck), and the syntax of the scripts of the dashboard's page (node). Without one of these programs it fails.
 set -eu
 cd "$(dirname -- "$0")/.."
 failed=0
 
-# is_there PROGRAM WHAT: whether the program is installed. If not, it prints what was not checked.
-is_there() {
-    command -v "$1" > /dev/null || { echo "lint: not checked, since $1 is not installed: $2"; false; }
+# need PROGRAM..: fails, and names each of these programs that is not installed.
+need() {
+    for program in "$@"; do
+        command -v "$program" > /dev/null || { echo "lint needs $program: apt-get install mypy flake8 shellcheck nodejs" >&2; failed=1; }
+    done
+    [ "$failed" -eq 0 ] || exit 1
 }
 
 # shell_scripts: the files whose first line names a shell.
@@ -21,17 +23,11 @@ has_syntax() {
     node --input-type=module --check < "$1" || { echo "lint: the fault is in $1"; false; }
 }
 
-command -v mypy > /dev/null || { echo 'lint needs mypy: apt-get install mypy, or pip install mypy' >&2; exit 1; }
+need mypy flake8 shellcheck node
 git ls-files '*.py' | MYPYPATH=lib:scripts xargs mypy --strict --cache-dir out/mypy || failed=1
-if [ -e pyproject.toml ] && is_there ruff 'the style of the Python files'; then
-    ruff check || failed=1
-fi
-if is_there shellcheck 'the shell scripts'; then
-    shell_scripts | xargs shellcheck || failed=1
-fi
-if is_there node 'the scripts of the page'; then
-    for file in $(git ls-files '*.js'); do
-        has_syntax "$file" || failed=1
-    done
-fi
+git ls-files '*.py' | xargs flake8 || failed=1
+shell_scripts | xargs shellcheck || failed=1
+for file in $(git ls-files '*.js'); do
+    has_syntax "$file" || failed=1
+done
 exit "$failed"

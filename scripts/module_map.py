@@ -20,11 +20,11 @@ TABLE = re.compile(r"(<!-- modules -->\n)(.*?)(?=<!-- end of modules -->\n)", re
 # By package, lowest first: the packages that it may import.
 BELOW: Mapping[str, tuple[str, ...]] = {
     "switch": (),
-    "controller": ("switch",),
     "analysis": ("switch",),
+    "controller": ("switch", "analysis"),
     "operator": ("switch", "controller"),
     "fleet": ("switch", "controller", "analysis", "operator"),
-    "dashboard": ("switch", "fleet"),
+    "dashboard": ("switch", "controller", "fleet"),
     "bgctl": ("switch", "controller", "analysis", "operator", "dashboard"),
 }
 

@@ -10,6 +10,7 @@ import unittest
 sys.path.insert(0, os.path.dirname(os.path.abspath(__file__)))
 
 import gate_cost  # noqa: E402  (the path stands above)
+from crate_list import crates_in  # noqa: E402
 from gate_cost import EDITS, PROOF, TESTS, Costs, Work  # noqa: E402
 
 CRATES = """# a comment: passed over
@@ -19,14 +20,15 @@ bg_middle tests_may=Threads+Wait: bg_low std
 bg_top: bg_middle bg_openlist
 """
 
-# Stands for the gate: it begins three processes that look like a prover's, in the folders in which the gate begins them.
+# Stands for the gate: it begins three processes that look like a prover's, in the folders in which the gate begins them. The
+# crate is no crate of the repository, since the gate counts the processes of this test too.
 GATE = """
 import subprocess, sys
 prover, crate, other = sys.argv[1:]
 burn = "import time\\nwhile time.process_time() < 0.6: pass"
-print("== bg_openlist", flush=True)
+print("== bg_sample", flush=True)
 for folder, words in ((crate, []), (crate, ["--test"]), (other, [])):
-    subprocess.run([prover, "-c", burn, "--crate-name", "bg_openlist", *words], cwd=folder, check=True)
+    subprocess.run([prover, "-c", burn, "--crate-name", "bg_sample", *words], cwd=folder, check=True)
 print("logic=proved functions=1 may-wait=3 sum=0")
 sys.exit(3)
 """
@@ -43,7 +45,7 @@ def costs_of(**each: float) -> Costs:
 
 class GateCost(unittest.TestCase):
     def test_reads_the_crates_and_what_they_stand_on(self) -> None:
-        crates = gate_cost.crates_in(CRATES)
+        crates = crates_in(CRATES)
         self.assertEqual(list(crates), ["bg_openlist", "bg_low", "bg_middle", "bg_top"])
         self.assertEqual(crates["bg_middle"].below, ["bg_low"])
         self.assertEqual([it.may_wait for it in crates.values()], [0, 2, 0, 0])
@@ -58,7 +60,7 @@ class GateCost(unittest.TestCase):
         self.assertIsNone(gate_cost.work_of([], "/"))
 
     def test_finds_the_longest_chain(self) -> None:
-        crates = gate_cost.crates_in(CRATES)
+        crates = crates_in(CRATES)
         costs = costs_of(bg_openlist_proof=10, bg_low_proof=3, bg_middle_proof=4, bg_top_proof=1)
         self.assertEqual(gate_cost.longest_chain(crates, costs), (11, ["bg_openlist", "bg_top"]))
         costs.add(Work("bg_middle", TESTS), 6)
@@ -67,7 +69,7 @@ class GateCost(unittest.TestCase):
         self.assertEqual(gate_cost.longest_chain(crates, costs), (14, ["bg_low", "bg_middle"]))
 
     def test_prints_units(self) -> None:
-        crates = gate_cost.crates_in(CRATES)
+        crates = crates_in(CRATES)
         costs = costs_of(bg_openlist_proof=10, bg_low_proof=5, bg_low_edits=25)
         self.assertEqual(
             [line.split()[1:] for line in gate_cost.table(crates, costs, 10)],
@@ -83,26 +85,26 @@ class GateCost(unittest.TestCase):
         lines += ["== bg_top\n", "logic=proved functions=3 sum=0\n"]
         counts = gate_cost.counted(lines)
         self.assertEqual(counts, {"bg_low": 1, "bg_top": 0})
-        found = list(gate_cost.miscounted(gate_cost.crates_in(CRATES), counts))
+        found = list(gate_cost.miscounted(crates_in(CRATES), counts))
         self.assertEqual(found, ["gate_cost: crates.txt has may_wait=2 of bg_low, and its proof counts 1"])
 
     def test_measures_what_a_command_begins(self) -> None:
         with tempfile.TemporaryDirectory() as room:
             prover = pathlib.Path(room, "rattle")
             prover.symlink_to(sys.executable)
-            crate, other = pathlib.Path(room, "crates", "bg_openlist"), pathlib.Path(room, "copy")
+            crate, other = pathlib.Path(room, "crates", "bg_sample"), pathlib.Path(room, "copy")
             crate.mkdir(parents=True)
             other.mkdir()
             out = io.StringIO()
             command = [sys.executable, "-c", GATE, str(prover), str(crate), str(other)]
             status, lines, costs, every = gate_cost.run(command, out)
         self.assertEqual(status, 3)
-        self.assertEqual(out.getvalue().splitlines()[0], "== bg_openlist")
-        self.assertEqual(gate_cost.counted(lines), {"bg_openlist": 3})
+        self.assertEqual(out.getvalue().splitlines()[0], "== bg_sample")
+        self.assertEqual(gate_cost.counted(lines), {"bg_sample": 3})
         for kind in gate_cost.KINDS:
-            self.assertEqual(len(costs.of[Work("bg_openlist", kind)]), 1, kind)
-            self.assertGreater(costs.total("bg_openlist", kind), 0.1, kind)
-            self.assertLess(costs.total("bg_openlist", kind), 1, kind)
+            self.assertEqual(len(costs.of[Work("bg_sample", kind)]), 1, kind)
+            self.assertGreater(costs.total("bg_sample", kind), 0.1, kind)
+            self.assertLess(costs.total("bg_sample", kind), 1, kind)
         self.assertGreater(every, 1.8)
 
     def test_says_how_it_is_used(self) -> None:

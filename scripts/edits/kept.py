@@ -1,0 +1,47 @@
+"""The refusals that earlier runs in this checkout saw, each under the sum of all that it rests on."""
+import hashlib
+import pathlib
+from collections.abc import Iterator
+
+from crate_list import all_below
+from edits.crate import PARTS, Repository
+
+
+def sum_of(repository: Repository, name: str) -> bytes:
+    """The sum of what a verdict on an edit of a crate rests on, but the edit: the kit, these scripts, the crate and all below it."""
+    total = hashlib.sha256()
+    for path in _files(repository, name):
+        text = path.read_bytes()
+        total.update(f"{path} {len(text)}\n".encode() + text)
+    return total.digest()
+
+
+def _files(repository: Repository, name: str) -> Iterator[pathlib.Path]:
+    yield repository.kit / "KIT-ID"
+    yield repository.top / "crates.txt"
+    yield from sorted(pathlib.Path(__file__).parent.glob("*.py"))
+    for crate in (*all_below(repository.crates, name), name):
+        for part in PARTS:
+            yield from sorted(it for it in (repository.folder(crate) / part).rglob("*") if it.is_file())
+
+
+class Kept:
+    """A folder with a file for each refusal."""
+
+    def __init__(self, folder: pathlib.Path) -> None:
+        self.folder = folder
+
+    def reason(self, crate: bytes, edit: pathlib.Path) -> str:
+        """Why this edit was refused by an earlier run; nothing where none has tried it."""
+        try:
+            return self._place(crate, edit).read_text(encoding="utf-8")
+        except OSError:
+            return ""
+
+    def keep(self, crate: bytes, edit: pathlib.Path, reason: str) -> None:
+        """Keeps why this edit is refused."""
+        self.folder.mkdir(parents=True, exist_ok=True)
+        self._place(crate, edit).write_text(reason, encoding="utf-8")
+
+    def _place(self, crate: bytes, edit: pathlib.Path) -> pathlib.Path:
+        return self.folder / hashlib.sha256(crate + edit.name.encode() + b"\n" + edit.read_bytes()).hexdigest()
