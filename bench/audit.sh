@@ -4,7 +4,7 @@
 # history fits into the processor's caches.
 set -eu
 bench=$(dirname -- "$0")
-printed=$("$bench/run.sh" audit "bg_strategy bg_revisions bg_history bg_audit")
+printed=$("$bench/run.sh" audit "bg_strategy bg_strategy_text bg_revisions bg_history bg_audit")
 echo "$printed" | grep 'entries audited'
 test "$(echo "$printed" | grep -c 'audited true')" -eq 2
 percent=$(echo "$printed" | sed -n 's/^ratio in percent: //p')

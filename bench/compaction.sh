@@ -7,7 +7,7 @@
 # of seats, would make it a hundred.
 set -eu
 bench=$(dirname -- "$0")
-printed=$("$bench/run.sh" compaction 'bg_strategy bg_revisions bg_history bg_ledger bg_rollout bg_book')
+printed=$("$bench/run.sh" compaction 'bg_strategy bg_strategy_text bg_revisions bg_history bg_ledger bg_rollout bg_book')
 echo "$printed" | awk '
     { cost = $4 / $2; printf "%s, %d seats: %d entries, of which %d stay: %.1f ns an entry, %.2f ms\n", $1, $5, $2, $3, cost, $4 / 1e6 }
     !($1 in first) { first[$1] = cost }

@@ -4,7 +4,7 @@
 # open requests as with 1, or with 64 revisions as with one.
 set -eu
 bench=$(dirname -- "$0")
-printed=$("$bench/run.sh" lists 'bg_strategy bg_revisions bg_history bg_ledger bg_rollout bg_book')
+printed=$("$bench/run.sh" lists 'bg_strategy bg_strategy_text bg_revisions bg_history bg_ledger bg_rollout bg_book')
 echo "$printed" | awk '
     { printf "%d open, %d revision%s: %.0f ns a pair\n", $1, $2, ($2 > 1 ? "s" : ""), $3 / 400000; time[$1, $2] = $3 }
     END { few = time[8, 1] / time[1, 1]; many = time[8, 64] / time[1, 64]; revisions = time[1, 64] / time[1, 1]

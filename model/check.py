@@ -10,9 +10,11 @@ Each check prints a line: its name, what came of it, the stored states, and the 
 a search does not end within its limits. Where spin or a C compiler is not installed, a line says so, and the status is 0.
 """
 import dataclasses
+import os
 import pathlib
 import re
 import shutil
+import signal
 import subprocess
 import sys
 import tempfile
@@ -160,11 +162,17 @@ def is_expected(check: Check, outcome: Outcome) -> bool:
 
 
 def step(words: Sequence[str], folder: str, longest: float) -> "subprocess.CompletedProcess[str]":
-    """Runs a program in a folder. Raises `Failed` if it does not end within so many seconds."""
-    try:
-        return subprocess.run(words, cwd=folder, capture_output=True, text=True, timeout=longest, check=False)
-    except subprocess.TimeoutExpired:
-        raise Failed(f"{words[0]} has not ended after {longest:g} seconds") from None
+    """Runs a program in a folder. Raises `Failed` if it does not end within so many seconds. What it has started ends with it."""
+    with subprocess.Popen(words, cwd=folder, stdout=subprocess.PIPE, stderr=subprocess.PIPE, text=True, start_new_session=True) as process:
+        try:
+            printed, told = process.communicate(timeout=longest)
+        except BaseException as error:
+            os.killpg(process.pid, signal.SIGKILL)
+            process.communicate()
+            if isinstance(error, subprocess.TimeoutExpired):
+                raise Failed(f"{words[0]} has not ended after {longest:g} seconds") from None
+            raise
+    return subprocess.CompletedProcess(words, process.returncode, printed, told)
 
 
 def search(check: Check, compiler: str, model: pathlib.Path = MODEL, longest: float = LONGEST) -> Outcome:

@@ -2,7 +2,7 @@
 # Makes the package of the program and its tools, from the built program (or the one that BG_SWITCH_PROGRAM names):
 #   packaging/build.sh version        prints the version
 #   packaging/build.sh stage FOLDER   puts the files of the package into FOLDER, which is new, as they lie below /; without the
-#                                     completions and the manual pages of bgctl
+#                                     completions of bgctl and the manual pages of the tools
 #   packaging/build.sh dist           makes out/bg-switch-VERSION-linux-ARCHITECTURE.tar.gz of them
 #   packaging/build.sh deb            makes out/bg-switch_VERSION_ARCHITECTURE.deb of them
 # `deb` needs Debian's dpkg-dev and debhelper.
@@ -11,6 +11,8 @@ cd "$(dirname -- "$0")/.."
 umask 022
 program=${BG_SWITCH_PROGRAM:-crates/bg_switch/out/bg_switch}
 archive=usr/share/bg-switch/bg_switch_tools.pyz
+executable=usr/libexec/bg-switch/bg_switch
+documents=usr/share/doc/bg-switch
 
 fail() {
     echo "packaging: $*" >&2
@@ -38,18 +40,27 @@ put_program() {
     [ -x "$program" ] || fail "there is no program $program: make build"
     printed=$("$program" --version) || fail "$program --version fails"
     [ "$printed" = "bg_switch $(version)" ] || fail "$program is $printed, and the sources are $(version): make build"
-    put 755 "$program" usr/bin/bg_switch
+    put 755 "$program" "$executable"
     # a script can stand in for the program
     if head -c 4 "$program" | grep -q ELF; then
-        strip --strip-all "$root/usr/bin/bg_switch"
+        strip --strip-all "$root/$executable"
     fi
+    put_launcher
+}
+
+# The command bg_switch, which sets the variables of the C library that bin/bg_switch sets.
+put_launcher() {
+    variables=$(grep '^export MALLOC_' bin/bg_switch) || fail 'bin/bg_switch has no line that sets the variables of the C library'
+    printf '#!/bin/sh\n%s\nexec /%s "$@"\n' "$variables" "$executable" > "$root/usr/bin/bg_switch"
+    chmod 755 "$root/usr/bin/bg_switch"
 }
 
 # put_tool NAME COMMAND: a command that runs as bin/NAME does, from the one file of the tools.
 put_tool() {
     word=$(sed -n "s|^exec .* -B .*/\.\./lib\" \([a-z]*\) \"\\\$@\"\$|\1|p" "bin/$1")
     [ -n "$word" ] || fail "bin/$1 has no line that runs a tool of lib/"
-    printf '#!/bin/sh\nexec /usr/bin/python3 -B /%s %s "$@"\n' "$archive" "$word" > "$root/usr/bin/$2"
+    printf '#!/bin/sh\nexport BG_SWITCH_DOCUMENTS=/%s\nexec /usr/bin/python3 -B /%s %s "$@"\n' \
+        "$documents" "$archive" "$word" > "$root/usr/bin/$2"
     chmod 755 "$root/usr/bin/$2"
 }
 
@@ -78,21 +89,24 @@ put_service() {
 
 # The pages keep their folders, so that links between them lead to a file.
 put_documents() {
-    documents=usr/share/doc/bg-switch
     for file in README.md CHANGELOG.md SECURITY.md docs/*; do
         put 644 "$file" "$documents/$file"
     done
-    find examples -type f ! -name '*.state*' ! -path '*/__pycache__/*' | while read -r file; do
+    # the demonstrations in python need the repository
+    find examples -type f ! -name '*.state*' ! -name '*.py' ! -path '*/__pycache__/*' | while read -r file; do
         mode=644
         [ ! -x "$file" ] || mode=755
         put "$mode" "$file" "$documents/$file"
     done
+    scripts/packaged_pages.py "$root/$documents"
+    put 644 packaging/bg_switch.1 usr/share/man/man1/bg_switch.1
 }
 
-# put_share FOLDER: the completions and the manual pages of bgctl. They are made by Debian's tools, and left out without them.
+# put_share FOLDER: the completions of bgctl, and the manual pages of the tools. They are made by Debian's tools, and left out without
+# them.
 put_share() {
     scripts/bgctl_share.py "$1/usr/share" > /dev/null ||
-        echo 'packaging: the package has no completions and no manual pages of bgctl' >&2
+        echo 'packaging: the package has no completions, and no manual pages but that of bg_switch' >&2
 }
 
 # stage FOLDER: the folder is new.

@@ -6,6 +6,7 @@
 #   live_timeouts    slow clients and endpoints, and requests that are given up
 #   live_resources   connections that are used up; descriptors and threads that can't be had
 #   live_concurrency hundreds of requests at a time, and workers that wait
+#   live_memory      the memory of uploads that come at once, and of messages of mixed sizes
 #   live_attack      hostile clients, endpoints and operators
 #   live_random      ten thousand exchanges at random
 #   live_operator    the operator's tool
@@ -32,8 +33,8 @@ work=$(mktemp -d)
 trap 'rm -rf "$work"' EXIT
 parts='live live_starting live_timeouts live_resources live_concurrency live_attack live_random live_operator live_controller
     live_readme live_operating live_clients live_endpoints live_operators live_control live_shutdown live_production
-    live_access_log live_access_log_random live_history live_analysis'
-# These run alone: one has a time limit of two seconds, a browser is slow beside all of the others, and a fleet has three of each.
+    live_access_log live_access_log_random live_history live_analysis live_memory'
+# These run alone, since they start many programs: two controllers and eight switches at a time, a browser, and fleets.
 alone='live_crash live_dashboard live_fleet live_fleet_pages'
 play() {
     for part in "$@"; do
@@ -46,17 +47,9 @@ play $parts
 for part in $alone; do
     play "$part"
 done
-# The limits in seconds assume a free processor. So a part that failed runs once more, alone. What its first run printed
-# is shown too.
-for part in $parts $alone; do
-    if [ ! -e "$work/$part.passed" ]; then
-        sed "s/^/$part, first run: /" "$work/$part"
-        play "$part"
-    fi
-done
 failed=0
 for part in $parts $alone; do
     cat "$work/$part"
-    [ -e "$work/$part.passed" ] || failed=1
+    [ -e "$work/$part.passed" ] || { echo "live: $part has failed"; failed=1; }
 done
 exit "$failed"

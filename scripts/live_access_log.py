@@ -10,7 +10,7 @@ import time
 from collections.abc import Callable, Iterator
 from functools import partial
 
-from support.checks import check, check_within, comes, run
+from support.checks import check, check_soon, comes, run
 from support.clients import at_once, connect, get, reset, timed
 from support.endpoints import Endpoint, by_target
 from support.messages import NO_PREVIEW, answer, head_of, request
@@ -208,7 +208,7 @@ def full_disk() -> None:
         start = time.monotonic()
         answers = {get(switch.active) for _ in range(50)}
         check("answers beside a full disk", answers, {(200, b"one")})
-        check_within("they wait for no disk", time.monotonic() - start, 10)
+        check_soon("they wait for no disk", time.monotonic() - start, 10)
 
 
 class Fifo:
@@ -257,7 +257,7 @@ def slow_disk() -> None:
         time.sleep(WRITTEN)
         start = time.monotonic()
         waits = at_once([lambda: longest_wait(switch.active, WIDE_REQUESTS // CLIENTS)] * CLIENTS)
-        check_within("requests beside a slow disk", max(waits), STILL)
+        check_soon("requests beside a slow disk", max(waits), STILL)
         time.sleep(max(STILL - (time.monotonic() - start), 0))
         count = FIRST_REQUESTS + WIDE_REQUESTS
         check("each line is written or counted", fifo.has(count), True)

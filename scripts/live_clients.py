@@ -9,20 +9,21 @@ from collections import Counter
 from collections.abc import Callable, Iterator
 from functools import partial
 
-from support import checks, clients, processes
-from support.checks import check, check_within, comes
+from support import checks, clients, faults, processes
+from support.checks import check, check_soon, comes
 from support.clients import SMALL_BUFFER, Crowd, at_once, connect, received, reset, timed, timed_for
 from support.endpoints import Endpoint, Held, Request, by_target, held_at
 from support.messages import (BAD_REQUEST, CONTINUE, HEAD_TOO_LARGE, LARGEST_BODY, NOT_IMPLEMENTED, TOO_LARGE, answer,
                               head_of, request, response)
-from support.ports import HOST, connections_at, is_refused
-from support.switch import Switch, opened, serving
+from support.ports import HOST, connections_at, is_refused, unread_at
+from support.switch import LaterEnd, Switch, opened, serving
 
 # How long, in seconds, a polite client waits at most beside slow ones. Where one of them kept a worker, it would wait
 # for the timeout of the switch or longer.
 POLITE = 8.0
 TIMEOUT = 40
-# What a wait may take, in seconds, beyond its limit: the machine may be busy.
+ABORT_ON_CLOSE = "--abort-on-close"
+# What a wait may take, in seconds, beyond its limit.
 SLACK = 5.0
 BIG = b"x" * 4000000
 HEAD_OF_CHUNKS = b"POST / HTTP/1.1\r\nHost: x\r\nTransfer-Encoding: chunked\r\n\r\n"
@@ -33,7 +34,7 @@ def check_polite(name: str, port: int, count: int, body: bytes, most: float = PO
     """Checks that a client that asks so often is answered this body, and how long it waits at most."""
     waits = clients.polite(port, count, 0.05)
     check(f"polite clients beside {name}", set(waits.answers), {answer(body)})
-    check_within(f"the wait beside {name}", waits.longest, most)
+    check_soon(f"the wait beside {name}", waits.longest, most)
 
 
 def drips() -> None:
@@ -154,16 +155,16 @@ def late_requests() -> None:
     firsts = {"that is silent": b"", "in its head": b"GET / HTTP/1.1\r\nHo", "in its body": head_of(1000) + b"abc",
               "in its chunks": HEAD_OF_CHUNKS + b"ffff\r\nabc"}
     with serving(Endpoint(by_target(b"one")).port, workers=2, timeout=timeout) as switch:
-        silent = at_once([partial(timed_for, switch.active, 2 * timeout + SLACK, [first])
-                          for first in firsts.values()])
-        dripped = at_once([partial(timed_for, switch.active, SLACK, [first, *[b"a"] * 50], 0.2)
-                           for first in firsts.values()])
+        later = LaterEnd(3 * timeout)
+        silent, dripped = at_once([
+            lambda: at_once([partial(timed, switch.active, [first]) for first in firsts.values()]),
+            lambda: at_once([partial(timed, switch.active, [first, *[b"a"] * 500], 0.2) for first in firsts.values()])])
         in_time = timed(switch.active, in_pieces(request(), 8), 0.3)
     for what, ends in (("that says no more", silent), ("that drips", dripped)):
         for where, end in zip(firsts, ends):
             check(f"a client {where} and {what} is answered nothing", end.answer, b"")
             check(f"a client {where} and {what} has its time", end.seconds > timeout - 1, True)
-            check_within(f"a request past its time is ended ({where}, {what})", end.seconds, timeout + SLACK)
+            check(f"a request past its time is ended ({where}, {what})", later.is_after(end.seconds), True)
     check("a request that is whole in time", in_time.answer, answer(b"one"))
 
 
@@ -205,7 +206,7 @@ def slow_readers() -> None:
         check("slow readers have reached the endpoint", comes(lambda: one.served == 41), True)
         start = time.monotonic()
         check("slow readers hold no request", comes(lambda: operator.open_requests() == [0]), True)
-        check_within("the wait until no request of slow readers is open", time.monotonic() - start, POLITE)
+        check_soon("the wait until no request of slow readers is open", time.monotonic() - start, POLITE)
         check_polite("clients that read slowly", switch.active, 20, b"one")
         operator.check(f"deploy two {two.port}", "ok 0")
         operator.check("available 2 1", "ok 4")
@@ -328,23 +329,28 @@ def full_port() -> None:
         with Crowd(switch.active, 1130, b""):
             check("a port that is full", comes(lambda: connections_at(switch.active) >= 1024), True)
             check_polite("more silent clients than a port keeps", switch.active, 10, b"one", 10.0)
-            check("connections that a port keeps", connections_at(switch.active) < 1100, True)
+            check("connections that a port keeps", comes(lambda: connections_at(switch.active) < 1100), True)
 
 
 def is_accepted(switch: Switch, before: int) -> bool:
-    """Whether the switch has more descriptors than before."""
-    return switch.count_descriptors() > before
+    """Whether the switch has accepted more connections than before."""
+    return connections_at(switch.active) > before
 
 
 def filled(switch: Switch, uploads: list[socket.socket]) -> socket.socket:
     """Adds uploads until the port is full. Gives the first client that has to wait for an accept."""
     while True:
-        before = switch.count_descriptors()
+        before = connections_at(switch.active)
         client = connect(switch.active)
         if not comes(partial(is_accepted, switch, before), 1.0):
             return client
         client.sendall(head_of(MEGABYTE).replace(b"/", b"/slow", 1) + b"x" * 4096)
         uploads.append(client)
+
+
+def has_bytes(client: socket.socket) -> bool:
+    """Whether something has come to a client, or its connection has ended."""
+    return is_told(client, select.POLLIN)
 
 
 def room_is_noticed() -> None:
@@ -362,9 +368,8 @@ def room_is_noticed() -> None:
                 stack.enter_context(client)
             late.sendall(request())
             uploads[-1].sendall(b"x" * MEGABYTE)
-            start = time.monotonic()
             check("a client that waited for room", received(late), answer(b"one"))
-            check_within("a client that waited for room while a worker is free", time.monotonic() - start, POLITE)
+            check("a worker was free: the other one still waits for its endpoint", has_bytes(uploads[-1]), False)
 
 
 def memory_of_pending_requests() -> None:
@@ -438,7 +443,6 @@ def all_workers_busy() -> None:
         reader.sendall(request(b"/big"))
         late.sendall(b"GET / HT")
         expecting.sendall(head_of(3)[:-2])
-        start = time.monotonic()
         check("the answer of the reader is pending",
               comes(lambda: endpoint.served == 1 and switch.open_requests() == [0]), True)
         time.sleep(timeout / 3)
@@ -448,20 +452,71 @@ def all_workers_busy() -> None:
             expecting.sendall(b"Expect: 100-continue\r\n\r\n")
             check("a request is read while all workers wait", (expecting.recv(100), held.closed), (CONTINUE, 0))
             expecting.sendall(b"abc")
-            late.settimeout(start + timeout + timeout / 4 - time.monotonic())
-            with contextlib.suppress(TimeoutError):
-                check("a late request is answered nothing while all workers wait", received(late), b"")
-            check_within("a request past its time is ended while all workers wait", time.monotonic() - start,
-                         timeout + timeout / 4 - 0.1)
+            check("a late request is answered nothing while all workers wait", received(late), b"")
             check("all workers have waited meanwhile", (held.pending, held.closed), (2, 0))
         check("the request that was read meanwhile", received(expecting), answer(b"oneabc"))
 
 
-def leave_by(way: Callable[[socket.socket], None]) -> None:
+@contextlib.contextmanager
+def requests_that_wait(switch: Switch, held: Held, count: int) -> Iterator[list[socket.socket]]:
+    """So many clients whose requests are whole, and wait for the one worker, which waits for its endpoint."""
+    waiting = [connect(switch.active) for _ in range(count)]
+    for number, client in enumerate(waiting):
+        client.sendall(request(b"/%d" % number)[:-1])
+    check("they are accepted", comes(lambda: connections_at(switch.active) == count), True)
+    check("they are read", comes(lambda: unread_at(switch.active) == 0), True)
+    with connect_and_send(switch.active, request(b"/held")):
+        check("the worker waits for its endpoint", held.holds(1), True)
+        for number, client in enumerate(waiting, 1):
+            client.sendall(b"\n")
+            check("a request waits for the worker", comes(partial(has_posts, switch, number)), True)
+        yield waiting
+        for client in waiting:
+            client.close()
+
+
+def has_posts(switch: Switch, count: int) -> bool:
+    """Whether so many signals between the threads of a switch wait to be taken."""
+    return processes.posts(switch.process.pid) == count
+
+
+def connect_and_send(port: int, text: bytes) -> socket.socket:
+    client = connect(port)
+    client.sendall(text)
+    return client
+
+
+def first_come_first_served() -> None:
+    """A worker takes the requests that wait, in their order, before it accepts clients that came later."""
+    held, order = Held(b"held"), list[bytes]()
+
+    def note(asked: Request, connection: socket.socket) -> None:
+        order.append(asked.target)
+        connection.sendall(response(b"one"))
+
+    with serving(Endpoint(held_at(b"/held", held, note)).port, workers=1, timeout=TIMEOUT) as switch:
+        with requests_that_wait(switch, held, 5) as waiting:
+            later = [connect_and_send(switch.active, request(b"/later")) for _ in range(5)]
+            held.is_free.set()
+            check("all are answered", [received(client) for client in (*waiting, *later)], [answer(b"one")] * 10)
+    check("the order of the requests", order, [b"/%d" % number for number in range(5)] + [b"/later"] * 5)
+
+
+def missed_signal() -> None:
+    """A request that waits is served though no worker has seen the signal for it."""
+    held = Held(b"held")
+    with serving(Endpoint(held_at(b"/held", held, by_target(b"one"))).port, workers=1, timeout=TIMEOUT) as switch:
+        with requests_that_wait(switch, held, 3) as waiting:
+            faults.take_posts(switch.process.pid)
+            held.is_free.set()
+            check("requests whose signal was lost", [received(client) for client in waiting], [answer(b"one")] * 3)
+
+
+def leave_by(way: Callable[[socket.socket], None], *flags: str) -> None:
     """Clients that have gone in this way keep no worker."""
     held = Held(b"held")
     endpoint = Endpoint(held_at(b"/held", held, by_target(b"one")))
-    with serving(endpoint.port, workers=2, timeout=TIMEOUT) as switch:
+    with serving(endpoint.port, workers=2, timeout=TIMEOUT, flags=flags) as switch:
         for number in range(2, 7, 2):
             gone = [connect(switch.active) for _ in range(2)]
             for client in gone:
@@ -471,14 +526,22 @@ def leave_by(way: Callable[[socket.socket], None]) -> None:
                 way(client)
             start = time.monotonic()
             check("a polite client after clients that have gone", timed(switch.active).answer, answer(b"one"))
-            check_within("a client that has gone frees its worker", time.monotonic() - start, POLITE)
+            check_soon("a client that has gone frees its worker", time.monotonic() - start, POLITE)
             check("the endpoint of a client that has gone sees its connection closed",
                   comes(lambda: held.closed == number, POLITE), True)
         check("no request of clients that have gone is open", comes(lambda: switch.open_requests() == [0], SLACK), True)
 
 
 def clients_that_close() -> None:
-    leave_by(socket.socket.close)
+    leave_by(socket.socket.close, ABORT_ON_CLOSE)
+
+
+def clients_that_end_their_input() -> None:
+    leave_by(end_input, ABORT_ON_CLOSE)
+
+
+def end_input(client: socket.socket) -> None:
+    client.shutdown(socket.SHUT_WR)
 
 
 def clients_that_reset() -> None:
@@ -509,8 +572,7 @@ def dual_stack(port: int) -> socket.socket:
 
 
 def dual_stack_clients() -> None:
-    """A client with a socket for both IPv6 and IPv4 that shut its writing side is answered, and one that closed has
-    gone."""
+    """A client with a socket for both IPv6 and IPv4 that shut its writing side is answered, and one that resets has gone."""
     held = Held(b"held")
     with serving(Endpoint(held).port, workers=2, timeout=TIMEOUT) as switch:
         with dual_stack(switch.active) as client, dual_stack(switch.active) as other:
@@ -520,8 +582,8 @@ def dual_stack_clients() -> None:
             check("requests of clients of both kinds", held.holds(2), True)
             time.sleep(4)
             check("a client of both kinds that shut its writing side hasn't gone", held.closed, 0)
-            other.close()
-            check("a client of both kinds that closed has gone", comes(lambda: held.closed == 1), True)
+            reset(other)
+            check("a client of both kinds that resets has gone", comes(lambda: held.closed == 1), True)
             held.is_free.set()
             check("a client of both kinds that shut its writing side is answered", received(client), answer(b"held"))
 
@@ -536,7 +598,7 @@ def stuck_uploads() -> None:
         start = time.monotonic()
         got = at_once([partial(clients.upload, switch.active, 300000, 65536, 0.0)] * 5)
         check("uploads beside stuck ones", clients.counted(got), {b"200": 5})
-        check_within("uploads beside stuck ones", time.monotonic() - start, POLITE)
+        check_soon("uploads beside stuck ones", time.monotonic() - start, POLITE)
 
 
 def paused_uploads() -> None:
@@ -562,8 +624,13 @@ def paused_uploads() -> None:
 
 def has_ended(client: socket.socket) -> bool:
     """Whether the switch has ended its side of a connection."""
+    return is_told(client, select.POLLRDHUP)
+
+
+def is_told(client: socket.socket, event: int) -> bool:
+    """Whether the system tells this event of a connection now."""
     poll = select.poll()
-    poll.register(client, select.POLLRDHUP)
+    poll.register(client, event)
     return poll.poll(0) != []
 
 
@@ -590,25 +657,25 @@ def gone_while_answered() -> None:
     ended = threading.Event()
 
     def drip(_: Request, connection: socket.socket) -> None:
-        clients.send_in_pieces(connection, [response(bytes(1000))[:-1000], *[b"x"] * 300], 0.1)
+        clients.send_in_pieces(connection, [response(bytes(1000))[:-1000], *[b"x"] * 900], 0.1)
         ended.set()
 
     endpoint = Endpoint(drip)
     with serving(endpoint.port, workers=1, timeout=TIMEOUT) as switch:
-        with connect(switch.active) as client:
-            client.sendall(request())
-            check("the endpoint answers slowly", comes(lambda: endpoint.served == 1), True)
-            time.sleep(0.5)
+        client = connect(switch.active)
+        client.sendall(request())
+        check("the endpoint answers slowly", comes(lambda: endpoint.served == 1), True)
+        time.sleep(0.5)
+        reset(client)
         start = time.monotonic()
-        check("an endpoint that answers slowly is let go", ended.wait(15), True)
-        check_within("an endpoint that answers slowly sees that its client has gone", time.monotonic() - start,
-                     2 + SLACK)
+        check("an endpoint that answers slowly is let go", ended.wait(clients.LONGEST), True)
+        check_soon("an endpoint that answers slowly sees that its client has gone", time.monotonic() - start, 2 + SLACK)
 
 
 if __name__ == "__main__":
     checks.run("live_clients", (
         stalled_reader, drips, refusals, long_chunks, served_once, late_requests, continues, slow_readers, many_answers,
         steady_readers, large_bodies, endless_bodies, uploads, few_descriptors, full_port, room_is_noticed, memory_of_pending_requests, steady_clients,
-        all_workers_busy, clients_that_close, clients_that_reset, half_closed_client, dual_stack_clients, stuck_uploads,
+        all_workers_busy, first_come_first_served, missed_signal, clients_that_close, clients_that_end_their_input, clients_that_reset, half_closed_client, dual_stack_clients, stuck_uploads,
         paused_uploads, gone_while_answered), 4, by_hand=(
             two_thousand_uploads, many_steady_clients, ten_thousand_left_open))

@@ -12,7 +12,7 @@ import time
 from collections.abc import Iterator
 
 from support import checks, clients, processes
-from support.checks import check, check_within, comes
+from support.checks import check, check_soon, check_within, comes
 from support.endpoints import Endpoint, Request
 from support.messages import BAD_GATEWAY, BY_HAND, UNAVAILABLE, answer, request, response
 from support.processes import descriptors, resident_memory, threads
@@ -109,7 +109,7 @@ def a_slow_route_beside_a_fast_one() -> None:
         began = time.monotonic()
         for _ in range(50):
             check("the fast route", clients.asked(switch.active, request()), answer(b"ok"))
-        check_within("50 requests of the fast route", time.monotonic() - began, 5)
+        check_soon("50 requests of the fast route", time.monotonic() - began, 5)
         gate.opening.set()
         check("the slow route", {clients.received(client) for client in pending}, {answer(b"ok")})
 

@@ -2,23 +2,26 @@
 requests of browsers, and accepts that fail."""
 import contextlib
 import os
+import pathlib
 import signal
 import socket
+import statistics
 import threading
 import time
 from collections.abc import Iterator
 
 from support import checks, processes
-from support.checks import check, check_within, comes
+from support.checks import check, check_beside, check_soon, check_within, comes
 from support.clients import SMALL_BUFFER, connect, received, send_in_pieces, timed_for
 from support.messages import BY_HAND
+from support.ports import HOST
 from support.stderr_lines import accepts_fail, check_told_once, told
 from support.switch import Switch, book
 
 # How long, in seconds, an order waits at most. Where another connection kept it out, it would wait for as long as that
 # one stays.
 SOON = 4.0
-# How long an order waits at most beside connections that take turns, and an urgent one. A busy machine keeps it.
+# How long an order waits at most beside connections that take turns, and an urgent one.
 PROMPT, AT_ONCE = 1.0, 0.3
 # How long a connection may take nothing of its replies.
 NOT_TAKEN = 10.0
@@ -26,9 +29,13 @@ NOT_TAKEN = 10.0
 MANY_REVISIONS = BY_HAND.replace('"replicas": 1', '"replicas": 1, "revisionHistoryLimit": 60')
 # How many bytes the system of a connection takes ahead that reads its replies late.
 MIDDLE_BUFFER = 262_144
-SLACK = 4.0
+# For how long it is seen that a line that has not ended has no reply.
+SEEN = 4.0
 # How long, in seconds, the switch has for a line before another connection sends one: much less than a silence.
 BETWEEN_LINES = 0.1
+# How many connections wait at a port while the switch is stopped: more than the 128 that a listener of Rattle's library has
+# room for, and no more than the system allows.
+WAITING = min(400, int(pathlib.Path("/proc/sys/net/core/somaxconn").read_text(encoding="ascii")))
 # What comes before the lines that a web page would have carried out.
 BROWSERS = {
     "a form": b"POST / HTTP/1.1\r\nHost: 127.0.0.1\r\nContent-Type: text/plain\r\nContent-Length: 60\r\n\r\n",
@@ -49,7 +56,7 @@ def check_line(name: str, switch: Switch, line: str, most: float = SOON) -> None
     """Checks that a line of another operator is carried out, and how long that takes at most."""
     start = time.monotonic()
     check(f"an order beside {name}", switch.answer_to(line), "ok 0")
-    check_within(f"the wait of an order beside {name}", time.monotonic() - start, most)
+    check_soon(f"the wait of an order beside {name}", time.monotonic() - start, most)
 
 
 def idle_connections() -> None:
@@ -60,7 +67,7 @@ def idle_connections() -> None:
             idle.sendall(b"quit"[:number % 5])
         start = time.monotonic()
         check("open beside idle connections", switch.answer_to("open one 9"), "ok 0")
-        check_within("the wait of open beside idle connections", time.monotonic() - start, SOON)
+        check_soon("the wait of open beside idle connections", time.monotonic() - start, SOON)
         check_line("idle connections", switch, "tick 1")
         check_line("idle connections", switch, "tick 2")
     with book() as switch, connect(switch.control) as idle:
@@ -144,34 +151,45 @@ def send_part(connection: socket.socket, text: bytes) -> int:
     return 0
 
 
+def wait_of(switch: Switch, line: str, expected: str) -> float:
+    """How many seconds the reply to a line takes, which is checked."""
+    start = time.monotonic()
+    check(f"the reply to {line}", switch.answer_to(line), expected)
+    return time.monotonic() - start
+
+
 def abort_beside_watchers() -> None:
     """An abort, and a failed verdict, are answered at once beside 1,000 connections of any kind."""
     processes.limit_descriptors(4 * 1100)
-    switch = Switch(BY_HAND, workers=2, descriptors=4 * 1100)
-    with contextlib.closing(switch.operator()) as operator:
-        operator.check("open one 1", "ok 0")
-        operator.check("deploy two 2", "ok 0")
+    switch, calm = (Switch(BY_HAND, workers=2, descriptors=4 * 1100) for _ in range(2))
+    for each in (switch, calm):
+        with contextlib.closing(each.operator()) as operator:
+            operator.check("open one 1", "ok 0")
+            operator.check("deploy two 2", "ok 0")
     with Load(switch.control, 200) as load:
         check("watchers and pipelines are answered", comes(load.is_at_work, 10), True)
+        urgent, elsewhere, others = list[float](), list[float](), list[float]()
         for number in range(20):
             line, expected = ("verdict pre failed", "refused NoAnalysis") if number % 2 else (
                 "abort", "refused AlreadyAborted" if number else "ok 0")
-            start = time.monotonic()
-            got = switch.answer_to(line)
-            seconds = time.monotonic() - start
-            check(f"{line} beside 1,000 connections", got, expected)
-            check_within(f"the wait of {line} beside 1,000 connections", seconds, AT_ONCE)
+            urgent.append(wait_of(switch, line, expected))
+            elsewhere.append(wait_of(calm, line, expected))
+            others.append(wait_of(switch, "tick 0", "ok 0"))
             time.sleep(0.1)
+        check_beside("the wait of an abort, or of a failed verdict, beside 1,000 connections", urgent, elsewhere, AT_ONCE)
+        check_within("twice such a wait, where a line that takes its turn is answered later", 2 * statistics.median(urgent),
+                     statistics.median(others))
         start = time.monotonic()
         check("a report beside 1,000 connections", "phase aborted" in report(switch), True)
-        check_within("the wait of a report beside 1,000 connections", time.monotonic() - start, SOON)
+        check_soon("the wait of a report beside 1,000 connections", time.monotonic() - start, SOON)
     switch.stop()
+    calm.stop()
 
 
 @contextlib.contextmanager
 def stopped(switch: Switch) -> Iterator[None]:
     """The program is stopped for a while, so that lines wait."""
-    switch.process.send_signal(signal.SIGSTOP)
+    processes.pause(switch.process.pid)
     try:
         yield
         time.sleep(BETWEEN_LINES)
@@ -243,6 +261,7 @@ def replies_not_taken_hold_nobody() -> None:
             client.sendall(b"report\n" * count)
         for _ in range(4):
             check_line("connections that read no replies", switch, "tick 0")
+            check("they are still there", switch.count_descriptors() >= before + len(clients), True)
             time.sleep(0.5)
         got = b""
         while len(got) < count * length and (piece := late.recv(1 << 20)):
@@ -283,6 +302,42 @@ def full_port() -> None:
     switch.stop()
 
 
+@contextlib.contextmanager
+def connecting(port: int) -> Iterator[socket.socket]:
+    """A connection to a port that may not be made yet."""
+    with socket.socket() as connection:
+        connection.setblocking(False)
+        connection.connect_ex((HOST, port))
+        yield connection
+
+
+def connected(connections: list[socket.socket]) -> int:
+    """How many of these connections are made."""
+    made = 0
+    for connection in connections:
+        with contextlib.suppress(OSError):
+            made += connection.getpeername() is not None
+    return made
+
+
+def waiting_at(port: int) -> int:
+    """How many of many new connections to a port are made."""
+    with contextlib.ExitStack() as stack:
+        begun = [stack.enter_context(connecting(port)) for _ in range(WAITING)]
+        comes(lambda: connected(begun) == WAITING)
+        made = connected(begun)
+    return made
+
+
+def backlog() -> None:
+    """While the switch takes no connections, as many wait at the control port as at a client port."""
+    with book() as switch:
+        with stopped(switch):
+            for name, port in (("active", switch.active), ("control", switch.control)):
+                check(f"connections that wait at the {name} port", waiting_at(port), WAITING)
+        check_line("connections that have gone", switch, "tick 1")
+
+
 def lines_that_are_too_long() -> None:
     """A line that is too long has its fault once it ends, and holds nobody up before."""
     with book() as switch:
@@ -291,7 +346,7 @@ def lines_that_are_too_long() -> None:
                 with contextlib.closing(switch.operator()) as operator:
                     got = operator.answer(b"\t" * length + ending[:-1]), operator.answer_to("tick 0")
                     check(f"a line of {length} bytes", got, ([f"fault {expected}"], "ok 0"))
-            got_at_end = timed_for(switch.control, SLACK, [b"tick 0\n" + b"\t" * length])
+            got_at_end = timed_for(switch.control, SEEN, [b"tick 0\n" + b"\t" * length])
             check("a line that has not ended has no reply", got_at_end.answer, b"")
             with connect(switch.control) as client:
                 client.sendall(b"\t" * length)
@@ -329,7 +384,7 @@ def http_before_open() -> None:
 
 def sent_by_browser(switch: Switch, *pieces: bytes) -> bytes:
     """What a connection that sends this is answered up to its end, or nothing where it isn't ended soon."""
-    return timed_for(switch.control, SLACK, pieces, 0.1).answer
+    return timed_for(switch.control, SEEN, pieces, 0.1).answer
 
 
 def is_one_fault(answer: bytes) -> bool:
@@ -391,7 +446,6 @@ def accepts_that_fail() -> None:
                 time.sleep(1)
             limit.lift()
             for client in pending:
-                client.settimeout(SLACK)
                 check("a connection once there are descriptors again", client.recv(9), b"moment 4\n")
         check_line("accepts that have failed", switch, "tick 5")
         check("accepts that fail are told once", len(told(switch, accepts_fail("control"))), 1)
@@ -423,5 +477,5 @@ def notices_without_room() -> None:
 if __name__ == "__main__":
     checks.run("live_control", (
         replies_not_taken_hold_nobody, abort_beside_watchers, lines_take_turns, sequence_within_a_connection, urgent_lines,
-        full_port, idle_connections, lasting_connections, lines_that_are_too_long, lines_of_the_gone, http_before_open, http,
-        http_in_pieces, other_faults, accepts_that_fail, notices_without_room), 5)
+        full_port, backlog, idle_connections, lasting_connections, lines_that_are_too_long, lines_of_the_gone, http_before_open,
+        http, http_in_pieces, other_faults, accepts_that_fail, notices_without_room), 5)

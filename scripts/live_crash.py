@@ -11,7 +11,7 @@ from collections.abc import Callable
 from typing import NamedTuple
 
 from support import TOP, checks, clients, processes
-from support.checks import check, check_within, comes
+from support.checks import check, check_soon, comes
 from support.endpoints import Endpoint, by_target
 from support.plans import Plan
 from support.ports import free_ports
@@ -131,7 +131,7 @@ class Machine:
         """web-v2 answers soon, and nothing else does."""
         answers = self.answers()
         check(f"{what}: the first answer", answers[0].text, (200, b"web-v2"))
-        check_within(f"{what}: the first answer", answers[0].after, SOON)
+        check_soon(f"{what}: the first answer", answers[0].after, SOON)
         check(f"{what}: other answers", [answer for answer in answers if answer.text != (200, b"web-v2")], [])
         check(f"{what}: web-v3 is in its pause again", comes(lambda: self.is_at("paused", "web-v2", "web-v3"), WAIT),
               True)

@@ -21,6 +21,7 @@ from support.dashboards import failing, missing, showing
 from support.endpoints import Endpoint
 from support.looks import NARROW, PICTURES, check_no_element, check_not_cut, check_shown, picture
 from support.operators import Operator
+from support.pace import widened
 from support.ports import HOST, free_port, free_ports
 from support.switch import Switch
 from support.traffic import Traffic, ask, prepared_log
@@ -408,7 +409,7 @@ def over_http() -> None:
 def demonstration() -> None:
     """A revision that answers some requests with 500 goes live, and is taken back by its analysis."""
     run = subprocess.run([sys.executable, "-B", str(DEMONSTRATION)], capture_output=True, text=True,
-                         timeout=LONGEST_DEMONSTRATION, check=False)
+                         timeout=widened(LONGEST_DEMONSTRATION), check=False)
     check("the demonstration's status", (run.returncode, run.stderr if run.returncode else ""), (0, ""))
     for text in ("verdict post failed => ok", "phase: postAnalysis -> aborted", "requests that failed by the switch itself: 0"):
         check(f"the demonstration tells {text}", text in run.stdout, True)

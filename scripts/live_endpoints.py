@@ -13,13 +13,14 @@ from functools import partial
 from typing import NamedTuple
 
 from support import checks, clients
-from support.checks import check, check_within, comes
-from support.clients import Timed, at_once, timed, timed_for
+from support.checks import check, check_beside, check_soon, check_within, comes
+from support.clients import Timed, at_once, timed
 from support.endpoints import (CUT_HEAD, Answer, Endpoint, EndpointProcess, Request, by_target, full_backlog,
                                full_listener, in_pieces, reset_at_once)
 from support.messages import BAD_GATEWAY, ROLLOUT, answer, request, response
+from support.pace import slowness
 from support.ports import free_ports
-from support.switch import LISTENING, TIMEOUT_VARIABLE, Switch, serving
+from support.switch import LISTENING, TIMEOUT_VARIABLE, LaterEnd, Switch, serving
 from support.traffic import prepared_log
 
 # How long, in seconds, a connect takes at most, and how long an endpoint may be silent, unless the timeout is longer.
@@ -32,29 +33,30 @@ SLACK = 4.0
 SOON = 2.0
 # After how many seconds an endpoint begins to accept. The system tries a connect again after one second and after
 # three.
-BEGINS = 1.5
+BEGINS, CONNECTED = 1.5, 3
 
 
 def check_gateway(name: str, got: Timed, least: float, most: float) -> None:
     """Checks that a client was answered 502, not before a time and not after another."""
     check(f"{name}: 502", got.answer, BAD_GATEWAY)
     check(f"{name}: not before its time", got.seconds >= least, True)
-    check_within(f"{name}: no later", got.seconds, most)
+    check_soon(f"{name}: no later", got.seconds, most)
 
 
 def connects_that_hang() -> None:
     """A connect to an endpoint whose backlog is full takes 5 seconds at most, and its worker is free again."""
     with full_backlog() as port, serving(port, workers=3) as switch:
-        for got in at_once([partial(timed_for, switch.active, 3 * CONNECT)] * 6):
+        for got in at_once([partial(timed, switch.active)] * 6):
             check_gateway("a connect that hangs", got, CONNECT - 0.5, 2 * CONNECT + SLACK)
         check("no request whose connect hung is open", switch.open_requests(), [0])
 
 
 def connects_within_the_timeout() -> None:
     """Where the timeout is shorter than 5 seconds, a connect takes no longer."""
-    with full_backlog() as port, serving(port, timeout=2) as switch:
-        got = timed_for(switch.active, 2 * CONNECT)
-        check_gateway("a connect that hangs for longer than the timeout", got, 1.5, CONNECT - 0.3)
+    with full_backlog() as port, serving(port, timeout=2) as switch, serving(port) as other:
+        got, later = at_once([partial(timed, each.active) for each in (switch, other)])
+        check_gateway("a connect that hangs for longer than the timeout", got, 1.5, later.seconds)
+        check("one without a timeout is longer", got.seconds < later.seconds, True)
 
 
 def asked_of_late_endpoint(answer_by: Answer, timeout: int) -> Timed:
@@ -76,8 +78,10 @@ def connects_in_time() -> None:
 def timeout_begins_before_the_connect() -> None:
     timeout = 6
     endless = in_pieces([response(bytes(1000))[:-1000], *[b"x"] * 1000], 0.3)
-    check_gateway("a response without end behind a connect that hung", asked_of_late_endpoint(endless, timeout),
-                  timeout - 0.5, timeout + 2.5)
+    later = LaterEnd(timeout + CONNECTED - 1)
+    got = asked_of_late_endpoint(endless, timeout)
+    check_gateway("a response without end behind a connect that hung", got, timeout - 0.5, timeout + 2.5)
+    check("it has ended before one whose timeout began with the connection", later.is_after(got.seconds), True)
 
 
 def own_ports() -> None:
@@ -198,13 +202,13 @@ def traffic(port: int, become_sick: Callable[[], object], lasts: float = LASTS) 
 
 
 @contextlib.contextmanager
-def serving_two(ports: Sequence[int], options: Sequence[str] = REDISPATCH,
-                variables: Mapping[str, str] | None = None) -> Iterator[Switch]:
-    """A switch whose first revision has two endpoints."""
-    switch = Switch(TWO, instead_of_workers=("--concurrency", str(CONCURRENCY), *options), timeout=SHORT_TIMEOUT,
+def serving_two(ports: Sequence[int], options: Sequence[str] = REDISPATCH, variables: Mapping[str, str] | None = None,
+                timeout: int | None = SHORT_TIMEOUT, available: int = 2) -> Iterator[Switch]:
+    """A switch whose first revision has two endpoints, of which so many are available."""
+    switch = Switch(TWO, instead_of_workers=("--concurrency", str(CONCURRENCY), *options), timeout=timeout,
                     variables=variables)
     check("listening", switch.first, LISTENING)
-    for line in (f"open one {ports[0]} {ports[1]}", "available 1 2"):
+    for line in (f"open one {ports[0]} {ports[1]}", f"available 1 {available}"):
         check(line, switch.answer_to(line), "ok 0")
     try:
         yield switch
@@ -221,6 +225,12 @@ def failed(all_sent: Sequence[Sent]) -> list[Sent]:
     return [one for one in all_sent if one.answer not in (ONE, OTHER)]
 
 
+def check_prompt(name: str, some: Sequence[Sent], all_sent: Sequence[Sent]) -> None:
+    """Checks that these requests are prompt, beside those of the same run that ended before the endpoint became sick."""
+    before = [one.seconds for one in all_sent if one.begun + one.seconds < SICK_AFTER]
+    check_beside(name, [one.seconds for one in some], before, PROMPT)
+
+
 def killed_one(place: int) -> None:
     """One of two endpoints is killed under traffic: no request fails that begins afterwards, and each is prompt."""
     both = two_processes()
@@ -230,7 +240,8 @@ def killed_one(place: int) -> None:
     late = [one for one in failed(all_sent) if one.begun > SICK_AFTER + 0.2]
     check(f"{name}: no later request fails", late, [])
     check(f"{name}: few fail that were there", len(failed(all_sent)) <= RATE // 5, True)
-    check_within(f"{name}: each is prompt", max(one.seconds for one in all_sent), PROMPT)
+    check_prompt(f"{name}: each is prompt", all_sent, all_sent)
+    check_within(f"{name}: none waits for the timeout", max(one.seconds for one in all_sent), SHORT_TIMEOUT - 0.5)
     both[1 - place].kill()
 
 
@@ -264,13 +275,18 @@ def most_at_once(asked: Sequence[Sent]) -> int:
 
 def check_sick(name: str, all_sent: Sequence[Sent]) -> None:
     """Checks that only requests failed that were at an endpoint that is silent, and that the others were prompt. Its
-    share is half of the workers; while a busy machine lets the other one be at its own share too, it may get more."""
+    share is half of the workers. While a busy machine lets the other one be at its own share too, it may get more, and
+    requests wait for workers, so they are not counted there."""
     bad = failed(all_sent)
     check(f"{name}: some requests were at it", bool(bad), True)
     check(f"{name}: only requests that were at it fail", [one for one in bad if one.seconds < SHORT_TIMEOUT - 0.5], [])
-    check(f"{name}: it leaves workers to the other one", most_at_once(bad) <= CONCURRENCY * 3 // 4, True)
-    others = [one.seconds for one in all_sent if one not in bad]
-    check_within(f"{name}: the others are prompt", max(others), PROMPT)
+    if slowness() < 1.5:
+        check_within(f"{name}: workers that wait for it, which leaves some to the other one", most_at_once(bad), CONCURRENCY * 3 // 4)
+    others = [one for one in all_sent if one not in bad]
+    check_prompt(f"{name}: the others are prompt", others, all_sent)
+    if slowness() < 1.5:
+        shortest = min((one.seconds for one in bad), default=0.0)
+        check_within(f"{name}: the others end before those at it", max(one.seconds for one in others), shortest)
 
 
 def stopped() -> None:
@@ -402,8 +418,86 @@ def down() -> None:
         check("the other one is down in its place", {timed(switch.active).answer for _ in range(6)}, {ONE})
 
 
+class Held:
+    """Answers once it is told to."""
+
+    def __init__(self, body: bytes) -> None:
+        self.body = body
+        self.may_answer = threading.Event()
+
+    def __call__(self, _: Request, connection: socket.socket) -> None:
+        self.may_answer.wait(clients.LONGEST)
+        connection.sendall(response(self.body))
+
+
+def carry_out(switch: Switch, *lines: str) -> None:
+    for line in lines:
+        check(line, switch.answer_to(line).split()[0], "ok")
+
+
+def answers_of(switch: Switch, count: int = 6) -> set[bytes]:
+    return {timed(switch.active).answer for _ in range(count)}
+
+
+# How many requests an endpoint gets at a time while another one is free, and how many come in a row.
+LIMIT, IN_A_ROW = 4, 16
+
+
+def check_share(name: str, switch: Switch, holds: Endpoint, other: Endpoint) -> None:
+    """Checks the share of an endpoint that holds its requests: each other request is its slot's, and comes after the one before
+    is answered or held."""
+    before = holds.served, other.served
+    with concurrent.futures.ThreadPoolExecutor(IN_A_ROW) as pool:
+        asked: list[concurrent.futures.Future[Timed]] = []
+        for _ in range(IN_A_ROW):
+            asked.append(pool.submit(timed, switch.active))
+            comes(lambda: sum(one.done() for one in asked) + holds.served - before[0] == len(asked))
+        got = holds.served - before[0], other.served - before[1]
+        check(f"{name}: an endpoint that holds its requests has its share of them", got, (LIMIT, IN_A_ROW - LIMIT))
+        assert isinstance(holds.answer, Held)
+        holds.answer.may_answer.set()
+
+
+def ports_again() -> None:
+    """A revision that has the ports of one that is scaled down has redispatch, `down` and share, as the first one had."""
+    about = "the ports of a revision that is scaled down"
+    first = Endpoint(Held(b"one"))
+    second, third, fourth = (Endpoint(by_target(name)) for name in (b"two", b"three", b"four"))
+    with serving_two([first.port, second.port], (*REDISPATCH, "--endpoint-limit", str(LIMIT)), timeout=None) as switch:
+        carry_out(switch, f"deploy two {third.port} {fourth.port}", "available 2 2", "tick 1000")
+        with contextlib.closing(switch.operator()) as operator:
+            check(f"{about}: it is scaled down", operator.revisions()[0], "revision 1 one desired 0 available 0 open 0 deadline none")
+        carry_out(switch, f"deploy three {first.port} {second.port}", "available 3 2", f"down {first.port}")
+        check(f"{about}: one that is down gets no request", answers_of(switch), {OTHER})
+        carry_out(switch, "down")
+        check_share(about, switch, first, second)
+        check(f"{about}: both get requests", answers_of(switch), {ONE, OTHER})
+        first.stop()
+        check(f"{about}: a request whose endpoint refuses it is dialled at the other one", answers_of(switch), {OTHER})
+
+
+def not_available() -> None:
+    """An endpoint that is not available gets no request, however many the other one has, until a line `down` tells that it
+    stands in for the other one."""
+    name = "an endpoint that is not available"
+    held = Held(b"one")
+    first, second = Endpoint(held), Endpoint(by_target(b"two"))
+    with serving_two([first.port, second.port], timeout=None, available=1) as switch:
+        with concurrent.futures.ThreadPoolExecutor(CONCURRENCY) as pool:
+            asked = [pool.submit(timed, switch.active) for _ in range(CONCURRENCY)]
+            comes(lambda: first.served + second.served == CONCURRENCY)
+            check(f"{name} gets no request by the share", (first.served, second.served), (CONCURRENCY, 0))
+            held.may_answer.set()
+        check(f"{name}: the requests are answered", {one.result().answer for one in asked}, {ONE})
+        carry_out(switch, f"down {second.port}")
+        first.stop()
+        check(f"{name} gets no request of one that refuses it", (answers_of(switch), second.served), ({BAD_GATEWAY}, 0))
+        carry_out(switch, f"down {first.port}")
+        check(f"{name} stands in for one that is down", answers_of(switch), {OTHER})
+
+
 SICK = (killed_first, killed_second, killed_both, stopped, silent_after_the_head, resets, slow, slots_stay,
-        without_redispatch, port_of_two_revisions, logged, marked_is_asked_last, down)
+        without_redispatch, port_of_two_revisions, logged, marked_is_asked_last, down, ports_again, not_available)
 
 if __name__ == "__main__":
     checks.run("live_endpoints", (

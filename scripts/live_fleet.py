@@ -6,7 +6,6 @@ import shutil
 import signal
 import sys
 import tempfile
-import threading
 import time
 from collections.abc import Callable
 
@@ -15,8 +14,9 @@ from support.fleet.lab import Lab, missing_programs, name_of
 from support.fleet.recording import Recording
 from support.fleet.rules import broken_rules, figures
 from support.fleet.session import Session
+from support.pace import at_the_limit
 
-LONGEST = 400      # seconds for all of it; it takes about two minutes on a machine that has no other work
+LONGEST = 400      # seconds for all of it on a machine that has no other work, where it takes about two minutes
 AWAY = 20.0        # seconds until a lease of 10 seconds has ended, also where etcd has begun it anew
 NO_ANSWER = 4      # the exit status of bin/fleet where etcd gives no answer
 PACKAGES = "apt-get install etcd-server haproxy nginx"
@@ -269,11 +269,8 @@ def run_all(folder: pathlib.Path) -> None:
         check_recording(recording)
         for what, figure in figures(recording).items():
             print(f"live_fleet: {what}: {figure}")
-    timer = threading.Timer(LONGEST, give_up)
-    timer.daemon = True
-    timer.start()
+    at_the_limit(LONGEST, give_up)
     run_part(whole_session)
-    timer.cancel()
 
 
 def show(folder: pathlib.Path) -> None:

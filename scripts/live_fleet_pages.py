@@ -94,7 +94,7 @@ def whole_demonstration() -> None:
         check("its last line", (last is not None and int(last[1]) > 500, last and last[2]), (True, "0"))
         check("each machine has answered", [host for host in HOSTS if not re.search(rf"{host} \d+ by web-v3", printed)], [])
         check("what the demonstration leaves", left(), [])
-        checks.check_within("the demonstration", time.monotonic() - begun, 90)
+        checks.check_soon("the demonstration", time.monotonic() - begun, 90)
 
 
 def interrupted_demonstration() -> None:

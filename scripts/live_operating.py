@@ -38,8 +38,9 @@ def lines_of_the_log() -> None:
 
 
 def lines_of_the_switch() -> None:
-    """The same of the lines that the switch writes to standard error. Faults of a list of users are named in bg_peers."""
-    source = "".join(path.read_text(encoding="utf-8") for crate in ("bg_switch", "bg_peers")
+    """The same of the lines that the switch writes to standard error, most of them by bg_ports. Faults of a list of users are named
+    in bg_peers."""
+    source = "".join(path.read_text(encoding="utf-8") for crate in ("bg_switch", "bg_ports", "bg_peers")
                      for path in (TOP / "crates" / crate / "src").glob("*.rt"))
     parts = explained("What the switch writes to standard error", SWITCH_PLACES)
     check("parts of lines that the switch doesn't write", sorted(part for part in parts if part not in source), [])

@@ -10,11 +10,12 @@ import select
 import signal
 import subprocess
 import termios
+import threading
 import time
 from collections.abc import Iterator
 
-from support import TOP, checks
-from support.checks import check
+from support import TOP, checks, processes
+from support.checks import check, comes
 from support.messages import BY_HAND
 from support.operators import Operator
 from support.ports import free_port
@@ -93,7 +94,7 @@ def given_up() -> None:
     with closed_book() as switch:
         with contextlib.closing(Operator(switch.control)) as operator:
             operator.check("open one 9", "ok 0")
-        switch.process.send_signal(signal.SIGSTOP)
+        processes.pause(switch.process.pid)
         check("no answer", outcome(switch, "--wait", "1", "tick", "50"), ("", 2))
         check("no answer to lines", outcome(switch, "--wait", "0.5", lines="tick 51\ntick 52\n"), ("", 2))
         check("no answer to a watcher", outcome(switch, "--wait", "0.5", "watch"), ("", 2))
@@ -185,27 +186,51 @@ def watcher_at_a_terminal() -> None:
         check("ctrl-C at the watcher", terminal.interrupted(), 0)
 
 
+class Watcher:
+    """A run of `watch`, whose text is read as it comes."""
+
+    def __init__(self, switch: Switch) -> None:
+        self.text = ""
+        self.process = started(switch, "watch")
+        self.thread = threading.Thread(target=self.read, daemon=True)
+        self.thread.start()
+
+    def read(self) -> None:
+        for line in self.process.stdout or ():
+            self.text += line
+
+    def sees(self, text: str) -> bool:
+        """Whether this text comes, at a time that comes soon."""
+        return comes(lambda: text in self.text)
+
+    def interrupted(self) -> int:
+        """Interrupts it, and gives its status."""
+        self.process.send_signal(signal.SIGINT)
+        status = self.process.wait(WAIT)
+        self.thread.join(WAIT)
+        return status
+
+
 def side_by_side() -> None:
     """Two operators and a watcher at once: each order is carried out, and the watcher sees what moves."""
     with closed_book() as switch:
         check("open", outcome(switch, "open", "one", "9"), ("ok 0\n", 0))
-        watcher = started(switch, "watch")
-        time.sleep(1)
+        watcher = Watcher(switch)
+        check("the first block", watcher.sees("phase steady (no attempt runs)   moment 0\n"), True)
         ticking = started(switch)
         assert ticking.stdin is not None
         ticking.stdin.write("".join(f"tick {second}\n" for second in range(1, 11)))
         ticking.stdin.close()
         ticking.stdin = None
         check("an order beside ticks", outcome(switch, "deploy", "two", "10"), ("ok 0\n", 0))
+        check("a deploy that is seen", watcher.sees("revision 2 two: deployed, desired 1\n"), True)
         check("another", outcome(switch, "available", "2", "1"), ("ok 1\n", 0))
         check("ticks", (ticking.communicate(timeout=WAIT)[0], ticking.returncode), ("ok 0\n" * 10, 0))
-        time.sleep(1.5)
+        check("a phase that is seen", watcher.sees("-> paused\n"), True)
         check("a promotion", outcome(switch, "promote"), ("ok 3\n", 0))
-        time.sleep(1.5)
-        watcher.send_signal(signal.SIGINT)
-        text = watcher.communicate(timeout=WAIT)[0]
-        check("the watcher's status", watcher.returncode, 0)
-        check_watched(text)
+        check("its end is seen", watcher.sees("in 30 s\n"), True)
+        check("the watcher's status", watcher.interrupted(), 0)
+        check_watched(watcher.text)
 
 
 def check_watched(text: str) -> None:

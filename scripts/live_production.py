@@ -29,7 +29,7 @@ NAME, PREVIEW_NAME, UNKNOWN_NAME = "web.example", "preview.web.example", "other.
 ACTIVE, CONTROL, PREVIEW = 8080, 8082, 8081
 CONCURRENCY = ("--concurrency", "255", "--redispatch")
 DESCRIPTORS = 8192
-SOON = 10
+SOON = 60
 # A user without rights, who runs the commands of the stop where this script is run by root.
 OTHER_USER, OTHER_GROUP = "nobody", "nogroup"
 LAST_CHANGE, AT_LAST_CHANGE = 1000000000, "Sun, 09 Sep 2001 01:46:40 GMT"
@@ -239,7 +239,7 @@ def stop_by_unit(setup: NginxSetup) -> None:
     unit = placed("bg-switch.service", {})
     start, = values(unit, "ExecStart")
     check("the start of the unit", sorted(start.split()),
-          sorted(["/usr/bin/bg_switch", *words_of_serve(ACTIVE, CONTROL, PREVIEW, 0, None, CONCURRENCY)]))
+          sorted(["/usr/bin/bg_switch", *words_of_serve(ACTIVE, CONTROL, PREVIEW, 0, None, CONCURRENCY), "--abort-on-close"]))
     check("the descriptors of the unit", values(unit, "LimitNOFILE"), [str(DESCRIPTORS)])
     archive = make_tools(setup.folder)
     shutdown, wait = values(unit.replace("/usr/bin/bg-operator", f"{archive} operator").replace(

@@ -4,18 +4,21 @@ connections are used up."""
 import contextlib
 import pathlib
 import resource
+import signal
 import socket
 import subprocess
 import time
+from collections import Counter
 from collections.abc import Iterator
+from functools import partial
 
-from support import TOP, checks, processes
-from support.checks import check, check_within, comes
+from support import TOP, checks, faults, processes
+from support.checks import check, check_soon, comes
 from support.clients import SMALL_BUFFER, connect, dripping, polite, received, timed
 from support.endpoints import Endpoint, Held, by_target, held_at
 from support.messages import ROLLOUT, answer, request
 from support.operators import Operator
-from support.ports import is_open, is_refused
+from support.ports import connections_at, is_open, is_refused
 from support.stderr_lines import accepts_fail, check_told_once, fewer_workers, no_event_loop, told, used_up
 from support.switch import LISTENING, EndedSwitch, Switch, opened
 
@@ -48,13 +51,13 @@ def check_ports_closed(name: str, switch: Switch) -> None:
     start = time.monotonic()
     for port in (switch.active, switch.preview, switch.control):
         check(f"{name}: a port is refused", is_refused(port), True)
-    check_within(f"{name}: until the ports are refused", time.monotonic() - start, SOON)
+    check_soon(f"{name}: until the ports are refused", time.monotonic() - start, SOON)
 
 
 def check_ends_soon(name: str, switch: Switch, calls: int, most: float = SOON) -> None:
     start = time.monotonic()
     check_ended(name, switch.wait(), calls)
-    check_within(f"{name}: until the program has ended", time.monotonic() - start, most)
+    check_soon(f"{name}: until the program has ended", time.monotonic() - start, most)
 
 
 class EndlessSwitch:
@@ -98,7 +101,7 @@ def graceful() -> None:
             client.settimeout(SOON)
             with contextlib.suppress(TimeoutError):
                 check("a client that has sent nothing is answered nothing", received(client), b"")
-        check_within("a client that has sent nothing is let go at once", time.monotonic() - start, SOON)
+        check_soon("a client that has sent nothing is let go soon", time.monotonic() - start, SOON)
         for client in arriving:
             client.sendall(b"\n")
         check("a request that is arriving at quit is answered", received(arriving[0]), answer(b"one"))
@@ -147,18 +150,118 @@ def backlog_at_quit() -> None:
     check_ends_soon("a shutdown with clients in the backlog", switch, 44)
 
 
+def silent_clients(switch: Switch, count: int) -> list[socket.socket]:
+    """So many clients that are connected, and have sent nothing."""
+    silent = [connect(switch.active) for _ in range(count)]
+    check("silent clients are connected", comes(lambda: connections_at(switch.active) == count), True)
+    return silent
+
+
+def send_and_check(name: str, clients: list[socket.socket]) -> None:
+    for client in clients:
+        client.sendall(request())
+    check_answered(name, clients)
+
+
+def check_answered(name: str, clients: list[socket.socket]) -> None:
+    check(name, Counter(received(client) for client in clients), Counter({answer(b"one"): len(clients)}))
+
+
+def sent_before_quit() -> None:
+    """Silent clients that have sent whole requests before quit are all answered, though none was read by then."""
+    for is_stopped in (False, True):
+        switch, operator = opened(Endpoint(by_target(b"one")).port, workers=4)
+        clients = silent_clients(switch, 100)
+        if is_stopped:
+            processes.pause(switch.process.pid)
+        for client in clients:
+            client.sendall(request())
+        operator.send_quit()
+        switch.process.send_signal(signal.SIGCONT)
+        check_answered("whole requests that came before quit", clients)
+        check_ends_soon("a shutdown with requests of silent clients", switch, 200)
+
+
+def sent_within_the_grace() -> None:
+    """A client that is silent at quit, and sends its request within the grace, is answered."""
+    switch, operator = opened(Endpoint(by_target(b"one")).port, workers=4, flags=("--shutdown-grace", "60"))
+    clients = silent_clients(switch, 50)
+    operator.send_quit()
+    check_ports_closed("a shutdown with silent clients", switch)
+    send_and_check("requests that come within the grace", clients)
+    check_ends_soon("a shutdown with requests within the grace", switch, 100)
+
+
+def silent_for_the_grace() -> None:
+    """A client that stays silent is let go after the grace, and not before."""
+    grace = 4
+    switch, operator = opened(Endpoint(by_target(b"one")).port, workers=4, flags=("--shutdown-grace", str(grace)))
+    clients = silent_clients(switch, 50)
+    start = time.monotonic()
+    operator.send_quit()
+    check("clients that stay silent", [received(client) for client in clients], [b""] * 50)
+    seconds = time.monotonic() - start
+    check("silent clients are let go after the grace", seconds >= grace, True)
+    check_soon("silent clients are let go", seconds, grace + SOON)
+    check_ends_soon("a shutdown after silent clients", switch, 0)
+
+
+def unread_after_the_grace() -> None:
+    """Before a silent connection is closed after the grace, it is read once: more requests than are read in a turn have come."""
+    grace = 6
+    switch, operator = opened(Endpoint(by_target(b"one")).port, workers=4, flags=("--shutdown-grace", str(grace)))
+    clients = silent_clients(switch, 200)
+    start = time.monotonic()
+    operator.send_quit()
+    check_ports_closed("a shutdown before requests come", switch)
+    processes.pause(switch.process.pid)
+    for client in clients:
+        client.sendall(request())
+    time.sleep(max(start + grace + 1 - time.monotonic(), 0))
+    switch.process.send_signal(signal.SIGCONT)
+    check_answered("requests that come within the grace, and are read after it", clients)
+    check_ends_soon("a shutdown with requests that are read late", switch, 400)
+
+
+def watches_refused() -> None:
+    """Where the system refuses to watch connections of the backlog at quit, they are ended, and the shutdown with them."""
+    held = Held(b"held")
+    probe, operator = opened(Endpoint(held).port)
+    last = processes.descriptors(probe.process.pid)[-1]
+    operator.close()
+    probe.stop()
+    # a client and its endpoint have the next descriptors
+    switch, operator = opened(Endpoint(held).port, prepare=partial(faults.refuse_watches, last + 3))
+    with connect(switch.active) as served:
+        served.sendall(request())
+        check("the worker waits for its endpoint", held.holds(1), True)
+        clients = [connect(switch.active) for _ in range(20)]
+        for client in clients:
+            client.sendall(request())
+        operator.send_quit()
+        check_ports_closed("a shutdown where watches are refused", switch)
+        held.is_free.set()
+        check("the request of the busy worker", received(served), answer(b"held"))
+        ends = Counter(received(client) for client in clients)
+    # a few get descriptors that were closed at the quit, and are watched
+    check("clients whose watches are refused", (ends[b""] > 10, ends[b""] + ends[answer(b"held")]), (True, 20))
+    check_ends_soon("a shutdown where watches are refused", switch, 2 + 2 * ends[answer(b"held")])
+
+
 def quit_of_the_opener() -> None:
     """The connection on which the book was opened ends at its quit, though the shutdown waits for a request."""
     held = Held(b"held")
     endpoint, switch = Endpoint(held), Switch()
     with connect(switch.control) as opener, connect(switch.active) as client:
         opener.sendall(f"open one {endpoint.port}\navailable 1 1\n".encode())
+        with opener.makefile("rb") as replies:
+            check("the replies to the opener", [replies.readline() for _ in range(2)], [b"ok 0\n", b"ok 0\n"])
         client.sendall(request())
         held.holds(1)
         opener.sendall(b"quit\n")
         start = time.monotonic()
-        check("the opener after its quit", received(opener), b"ok 0\nok 0\n")
-        check_within("the opener's connection ends", time.monotonic() - start, SOON)
+        check("the opener after its quit", received(opener), b"")
+        check_soon("the opener's connection ends", time.monotonic() - start, SOON)
         held.is_free.set()
         check("the request at the quit of the opener", received(client), answer(b"held"))
     check_ends_soon("a quit of the opener", switch, 2)
@@ -178,7 +281,7 @@ def pending_at_the_end() -> None:
     operator.send_quit()
     start = time.monotonic()
     switch.wait()
-    check_within("a shutdown with requests that wait for a worker", time.monotonic() - start, 60 + timeout + SOON)
+    check_soon("a shutdown with requests that wait for a worker", time.monotonic() - start, 60 + timeout + SOON)
 
 
 def at_rest() -> None:
@@ -329,5 +432,6 @@ def nothing_to_tell() -> None:
 
 if __name__ == "__main__":
     checks.run("live_shutdown", (
-        graceful, pending_for_workers, backlog_at_quit, quit_of_the_opener, at_rest, before_open, late_at_quit, counted, connections_used_up,
+        graceful, pending_for_workers, backlog_at_quit, sent_before_quit, sent_within_the_grace, silent_for_the_grace,
+        unread_after_the_grace, watches_refused, quit_of_the_opener, at_rest, before_open, late_at_quit, counted, connections_used_up,
         too_few_threads, no_threads, accepts_that_fail, nothing_to_tell), 6, by_hand=(sixty_seconds, pending_at_the_end))

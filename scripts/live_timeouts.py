@@ -4,10 +4,10 @@ import concurrent.futures
 import time
 
 from support import checks, clients
-from support.checks import check, check_within, comes
+from support.checks import check, check_soon, comes
 from support.endpoints import Endpoint, in_pieces
 from support.messages import BAD_GATEWAY, UNAVAILABLE, answer, request, response
-from support.switch import TIMEOUT_VARIABLE, opened
+from support.switch import TIMEOUT_VARIABLE, LaterEnd, opened
 
 # A revision is due 5 seconds after it was left, and its requests are given up 10 seconds later.
 DRAINS = """{"spec": {"strategy": {"blueGreen": {"activeService": "web", "scaleDownDelaySeconds": 5,
@@ -15,17 +15,17 @@ DRAINS = """{"spec": {"strategy": {"blueGreen": {"activeService": "web", "scaleD
 REQUEST, RESPONSE, ANSWER = request(), response(b"ok"), answer(b"ok")
 # A response that goes on and on, a byte at a time.
 ENDLESS = [b"HTTP/1.1 200 OK\r\nContent-Length: 1000\r\n\r\n", *[b"x"] * 1000]
-# How long, in seconds, a message may take in these checks, and what comes on top where the machine is busy.
+# How long, in seconds, a message may take in these checks; and what ends at once.
 TIMEOUT = 4
-SLACK = 6
+SOON = 6
 # For how many seconds it is seen that requests aren't given up: longer than the turns of a second in which a silent
 # endpoint is read.
 SEEN = 2.5
 
 
-def ends_in_time(seconds: float) -> bool:
-    """Whether so many seconds are about the timeout."""
-    return TIMEOUT - 1 <= seconds <= TIMEOUT + SLACK
+def ends_in_time(seconds: float, later: LaterEnd) -> bool:
+    """Whether so many seconds are about the timeout: they are less than those of a client with twice the timeout."""
+    return TIMEOUT - 1 <= seconds and later.is_after(seconds)
 
 
 def seven_slow_clients() -> None:
@@ -33,15 +33,15 @@ def seven_slow_clients() -> None:
     switch, operator = opened(Endpoint(in_pieces([RESPONSE])).port, workers=7, count=2, timeout=TIMEOUT)
     endless = [b"GET / HTTP/1.1\r\n", b"A: ", *[b"a"] * 1000]
     switch.take(switch.active, 7)
-    before = switch.count_descriptors()
+    before, later = switch.count_descriptors(), LaterEnd(2 * TIMEOUT)
     with concurrent.futures.ThreadPoolExecutor(7) as pool:
         slow = [pool.submit(clients.dripped, switch.active, endless, 0.4) for _ in range(7)]
         check("slow clients are connected", comes(lambda: switch.count_descriptors() == before + 7), True)
         got, seconds = switch.timed(REQUEST)
-        check("a polite client beside seven slow ones", (got, seconds <= TIMEOUT + SLACK), (ANSWER, True))
+        check("a polite client beside seven slow ones", (got, later.is_after(seconds)), (ANSWER, True))
         ends = [one.result() for one in slow]
     check("slow clients are answered nothing", [end.answer for end in ends], [b""] * 7)
-    check("slow clients are borne with for as long as a request may take", [ends_in_time(end.seconds) for end in ends],
+    check("slow clients are borne with for as long as a request may take", [ends_in_time(end.seconds, later) for end in ends],
           [True] * 7)
     switch.check_end_after(operator, "the end after slow clients", 2)
 
@@ -50,18 +50,20 @@ def slow_requests() -> None:
     """A request that comes in pieces, and is whole in time; one that never begins."""
     switch, operator = opened(Endpoint(in_pieces([RESPONSE])).port, workers=2, count=2, timeout=TIMEOUT)
     pieces = [REQUEST[start:start + 4] for start in range(0, len(REQUEST), 4)]
-    got, seconds = switch.timed(*pieces, pause=(TIMEOUT - 1.5) / len(pieces))
-    check("a request in pieces", (got, seconds <= TIMEOUT + SLACK), (ANSWER, True))
+    got, seconds = switch.timed(*pieces, pause=TIMEOUT / 2 / len(pieces))
+    check("a request in pieces", (got, seconds >= TIMEOUT / 3), (ANSWER, True))
+    later = LaterEnd(2 * TIMEOUT)
     got, seconds = switch.timed()
-    check("a client that says nothing", (got, ends_in_time(seconds)), (b"", True))
+    check("a client that says nothing", (got, ends_in_time(seconds, later)), (b"", True))
     switch.check_end_after(operator, "the end after slow requests", 2)
 
 
 def endless_response() -> None:
     """A response that never ends is given up in time."""
     switch, operator = opened(Endpoint(in_pieces(ENDLESS, 0.4)).port, workers=2, count=1, timeout=TIMEOUT)
+    later = LaterEnd(2 * TIMEOUT)
     got, seconds = switch.timed(REQUEST)
-    check("a response without end", (got, ends_in_time(seconds)), (BAD_GATEWAY, True))
+    check("a response without end", (got, ends_in_time(seconds, later)), (BAD_GATEWAY, True))
     switch.check_end_after(operator, "the end after a response without end", 2)
 
 
@@ -69,8 +71,7 @@ def response_in_pieces() -> None:
     """A response that comes in pieces, and is whole in time, is carried."""
     pieces = [RESPONSE[:20], RESPONSE[20:40], RESPONSE[40:]]
     switch, operator = opened(Endpoint(in_pieces(pieces, 0.5)).port, count=1, timeout=TIMEOUT)
-    got, seconds = switch.timed(REQUEST)
-    check("a response in pieces", (got, seconds < TIMEOUT), (ANSWER, True))
+    check("a response in pieces", switch.timed(REQUEST).answer, ANSWER)
     switch.check_end_after(operator, "the end after a response in pieces", 2)
 
 
@@ -93,7 +94,7 @@ def given_up() -> None:
         check("the tick to the limit", operator.answer_to("tick 15"), "ok 0")
         check("a request beside those that are given up", switch.timed(REQUEST).answer, ANSWER)
         check("downloads past the limit", [one.result().answer for one in downloads], [UNAVAILABLE] * 2)
-        check_within("downloads past the limit", time.monotonic() - start, SLACK)
+        check_soon("downloads past the limit", time.monotonic() - start, SOON)
     scaled_down = ["revision 1 one desired 0 available 0 open 0 deadline none",
                    "revision 2 two desired 1 available 1 open 0 deadline none"]
     check("their revision", comes(lambda: operator.revisions() == scaled_down), True)

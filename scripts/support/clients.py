@@ -76,7 +76,7 @@ def answer_of(connection: socket.socket, text: bytes, *later: bytes) -> bytes | 
 
 
 def asked(port: int, text: bytes, *later: bytes) -> bytes | None:
-    """What a client is answered that sends this and ends its side: see `exchanged`."""
+    """What a client is answered that sends this and ends its side: see `answer_of`."""
     with connect(port) as client:
         return answer_of(client, text, *later)
 

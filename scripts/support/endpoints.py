@@ -3,7 +3,6 @@ import contextlib
 import itertools
 import os
 import random
-import signal
 import socket
 import subprocess
 import sys
@@ -231,7 +230,7 @@ class EndpointProcess:
 
     def stop(self) -> None:
         """Stops the process: the system still accepts connections for it, and nothing reads them."""
-        self.process.send_signal(signal.SIGSTOP)
+        processes.pause(self.process.pid)
 
 
 def held_at(target: bytes, held: Held, others: Answer) -> Answer:

@@ -8,7 +8,7 @@ import tempfile
 from collections.abc import Mapping, Sequence
 from typing import IO, NamedTuple
 
-from support.checks import check, fail
+from support.checks import check, comes, fail
 from support.ports import free_ports, is_refused
 from support.switch import PROGRAM
 
@@ -45,11 +45,8 @@ def run_script(script: str, printed: IO[str], ports: Sequence[str], limits: Limi
     end."""
     shell = subprocess.Popen(["bash", "-c", script], stdin=subprocess.DEVNULL, stdout=printed, start_new_session=True,
                              env={**os.environ, **limits.variables})
-    has_ended = False
-    try:
-        shell.wait(limits.longest)
-        has_ended = True
-    except subprocess.TimeoutExpired:
+    has_ended = comes(lambda: shell.poll() is not None, limits.longest)
+    if not has_ended:
         printed.seek(0)
         fail("the session", f"it doesn't end in {limits.longest:g} seconds, and has printed at last {printed.read()[-300:]!r}")
     # what was told to end may take a moment

@@ -1,12 +1,16 @@
 """Programs that a script starts: they end with it, and their descriptors and memory are looked at."""
 import atexit
+import contextlib
 import os
 import pathlib
 import resource
+import signal
 import subprocess
-import threading
 from collections.abc import Sequence
 from typing import Any, NamedTuple
+
+from support.checks import comes
+from support.pace import at_the_limit
 
 # No program that these scripts start runs for longer, in seconds.
 LONGEST = 160
@@ -30,15 +34,28 @@ def run_to_end(words: Sequence[str], given: str = "", longest: float = LONGEST) 
 def limit(process: subprocess.Popen[str]) -> None:
     """Ends a process after a while, and with this script, so that whoever waits for it fails and doesn't hang."""
     atexit.register(process.kill)
-    timer = threading.Timer(LONGEST, process.kill)
-    timer.daemon = True
-    timer.start()
+    at_the_limit(LONGEST, process.kill)
 
 
 def stop(process: subprocess.Popen[str]) -> None:
     """Ends a process at once, and waits for its end."""
     process.kill()
     process.wait(LONGEST)
+
+
+def pause(process: int) -> None:
+    """Stops a process by SIGSTOP, until SIGCONT. None of its threads runs any more then: on a busy machine some go on for a while
+    after the signal."""
+    os.kill(process, signal.SIGSTOP)
+    comes(lambda: all(is_stopped(path) for path in pathlib.Path(f"/proc/{process}/task").iterdir()))
+
+
+def is_stopped(thread: pathlib.Path) -> bool:
+    """Whether a thread is stopped by a signal, or has ended."""
+    try:
+        return (thread / "stat").read_text(encoding="ascii", errors="replace").rpartition(")")[2].split()[0] in "TZX"
+    except OSError:
+        return True
 
 
 def end(process: "subprocess.Popen[Any]", longest: float = LONGEST) -> None:
@@ -63,8 +80,40 @@ def threads(process: int) -> int:
 
 def resident_memory(process: int) -> int:
     """The memory of a process in KiB."""
+    return memory_of(process, "VmRSS")
+
+
+def greatest_memory(process: int) -> int:
+    """The most memory that a process has had since its start, in KiB."""
+    return memory_of(process, "VmHWM")
+
+
+def memory_of(process: int, kind: str) -> int:
+    """A kind of memory of a process in KiB, by the system's name of it."""
     lines = pathlib.Path(f"/proc/{process}/status").read_text(encoding="ascii").splitlines()
-    return next(int(line.split()[1]) for line in lines if line.startswith("VmRSS:"))
+    return next(int(line.split()[1]) for line in lines if line.startswith(f"{kind}:"))
+
+
+def bytes_read(process: int) -> int:
+    """How many bytes a process has read from files, pipes and the like, but not by recv(2)."""
+    lines = pathlib.Path(f"/proc/{process}/io").read_text(encoding="ascii").splitlines()
+    return next(int(line.split()[1]) for line in lines if line.startswith("rchar:"))
+
+
+def signals(process: int) -> dict[int, int]:
+    """The descriptors by which the threads of a process signal to one another, each with the posts that no thread has taken."""
+    found = {}
+    for descriptor in descriptors(process):
+        with contextlib.suppress(FileNotFoundError):
+            text = pathlib.Path(f"/proc/{process}/fdinfo/{descriptor}").read_text(encoding="ascii")
+            counts = [line.split()[1] for line in text.splitlines() if line.startswith("eventfd-count:")]
+            found.update({descriptor: int(count, 16) for count in counts})
+    return found
+
+
+def posts(process: int) -> int:
+    """How many posts of signals no thread of a process has taken."""
+    return sum(signals(process).values())
 
 
 def limit_descriptors(soft: int, hard: int | None = None) -> None:

@@ -48,17 +48,18 @@ class Switch:
 
     With a `count` each worker takes exactly so many connections, and `end` takes all that the checks have left over;
     without one it serves for ever. It may have so many descriptors, `prepare` is called in its process before it
-    starts, and it has these variables of the environment beside those of the script.
+    starts, and it has these flags beside its other words, and these variables of the environment beside those of the script.
     """
 
     def __init__(self, rollout: str = ROLLOUT, *, workers: int = 1, count: int | None = None, preview: bool = True,
                  timeout: int | str | None = None, descriptors: int | tuple[int, int] = USUAL_DESCRIPTORS,
-                 instead_of_workers: Sequence[str] = (), prepare: Callable[[], object] = lambda: None, variables: Mapping[str, str] | None = None) -> None:
+                 instead_of_workers: Sequence[str] = (), flags: Sequence[str] = (), prepare: Callable[[], object] = lambda: None,
+                 variables: Mapping[str, str] | None = None) -> None:
         self.active, self.preview, self.control = free_ports(3)
         self.left = {self.active: workers * (count or 0), self.preview: count or 0 if preview else 0}
         self.lock = threading.Lock()
         words = [PROGRAM, *words_of_serve(self.active, self.control, self.preview if preview else None, workers, count,
-                                          instead_of_workers)]
+                                          instead_of_workers), *flags]
         environment = {name: value for name, value in os.environ.items() if name != TIMEOUT_VARIABLE}
         environment.update(variables or {})
         if timeout is not None:
@@ -124,7 +125,7 @@ class Switch:
         return clients.connect(port)
 
     def raw(self, port: int, text: bytes, *later: bytes) -> bytes | None:
-        """What a client is answered that sends these bytes, and others later: see `clients.exchanged`."""
+        """What a client is answered that sends these bytes, and others later: see `clients.answer_of`."""
         self.take(port)
         return clients.asked(port, text, *later)
 
@@ -180,9 +181,11 @@ class Switch:
 
 
 def opened(endpoint: int, rollout: str = ROLLOUT, *, workers: int = 1, count: int | None = None, preview: bool = True,
-           timeout: int | str | None = None, descriptors: int = USUAL_DESCRIPTORS) -> tuple[Switch, Operator]:
+           timeout: int | str | None = None, descriptors: int = USUAL_DESCRIPTORS, flags: Sequence[str] = (),
+           prepare: Callable[[], object] = lambda: None) -> tuple[Switch, Operator]:
     """A switch that listens, whose first revision has this endpoint, and its operator."""
-    switch = Switch(rollout, workers=workers, count=count, preview=preview, timeout=timeout, descriptors=descriptors)
+    switch = Switch(rollout, workers=workers, count=count, preview=preview, timeout=timeout, descriptors=descriptors, flags=flags,
+                    prepare=prepare)
     check("listening", switch.first, LISTENING)
     operator = switch.operator()
     operator.check(f"open one {endpoint}", "ok 0")
@@ -192,14 +195,33 @@ def opened(endpoint: int, rollout: str = ROLLOUT, *, workers: int = 1, count: in
 
 @contextlib.contextmanager
 def serving(endpoint: int, rollout: str = ROLLOUT, *, workers: int = 1, timeout: int | str | None = None,
-            descriptors: int = USUAL_DESCRIPTORS) -> Iterator[Switch]:
+            descriptors: int = USUAL_DESCRIPTORS, flags: Sequence[str] = ()) -> Iterator[Switch]:
     """The same, for ever, and with no operator: it is ended at the end of the block."""
-    switch, operator = opened(endpoint, rollout, workers=workers, timeout=timeout, descriptors=descriptors)
+    switch, operator = opened(endpoint, rollout, workers=workers, timeout=timeout, descriptors=descriptors, flags=flags)
     operator.close()
     try:
         yield switch
     finally:
         switch.stop()
+
+
+class LaterEnd:
+    """A client that says nothing, of a switch of its own whose timeout is longer: what has the shorter timeout, and began at the
+    same moment, has ended before this client is, however busy the machine is."""
+
+    def __init__(self, timeout: int) -> None:
+        self.seconds = 0.0
+        self.thread = threading.Thread(target=self.wait, args=(timeout,), daemon=True)
+        self.thread.start()
+
+    def wait(self, timeout: int) -> None:
+        with serving(Endpoint(by_target(b"late")).port, timeout=timeout) as switch:
+            self.seconds = clients.timed(switch.active, []).seconds
+
+    def is_after(self, seconds: float) -> bool:
+        """Whether the client was ended after more than so many seconds."""
+        self.thread.join()
+        return seconds < self.seconds
 
 
 @contextlib.contextmanager

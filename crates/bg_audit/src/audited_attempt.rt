@@ -3,7 +3,7 @@ ghost use Rattle.std.specs.Prelude.{◌≡◌};
 ghost use Rattle.bg_history.specs.Attempts.{first_at};
 
 /// What has happened in the running attempt.
-#[derive(Clone, Copy, Drop, Debug)]
+#[derive(Clone, Copy, Drop)]
 pub struct AuditedAttempt {
     /// The new revision has the endpoints that its preview needs.
     pub ready: bool,

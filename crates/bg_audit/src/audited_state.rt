@@ -12,7 +12,7 @@ use bg_strategy::Strategy;
 
 /// The moment, the selectors and the attempt of a past. Each follows from the past before and the newest entry,
 /// regardless of the entries.
-#[derive(Clone, Copy, Drop, Debug)]
+#[derive(Clone, Copy, Drop)]
 pub struct AuditedState {
     pub moment: u64,
     pub stable: u64,

@@ -17,7 +17,7 @@ use std::alloc::{AllocError, Global};
 const MOST_SEATS: usize = 2048;
 
 /// The opening of a history.
-#[derive(Clone, Copy, Drop, Debug)]
+#[derive(Clone, Copy, Drop)]
 struct AuditedOpening<'a> {
     seats: usize,
     /// The name of revision 1.

@@ -19,7 +19,6 @@ use bg_strategy::Strategy;
 use std::alloc::{AllocError, Global};
 
 /// The facts that the audit keeps of a past.
-#[derive(Drop)]
 pub struct Facts {
     pub state: AuditedState,
     /// The revisions that exist, in ascending order of their numbers.
@@ -30,6 +29,20 @@ pub struct Facts {
     /// The greatest request number.
     pub greatest: Option<u64>,
     alloc: Global,
+}
+
+impl Drop for Facts {
+    /// Drops the fields by one call, so that the proofs of what owns a value are short (CONTRIBUTING.md, "What a check costs").
+    fn drop(self) {
+        let Facts {
+            state: _,
+            revisions: _,
+            marks: _,
+            requests: _,
+            greatest: _,
+            alloc: _,
+        } = self;
+    }
 }
 
 impl Facts {

@@ -17,7 +17,7 @@ use bg_history::{AnalysisResult, Entry, Outcome};
 use std::alloc::AllocError;
 
 /// What an entry did to a revision.
-#[derive(Clone, Copy, PartialEq, Eq, Drop, Debug)]
+#[derive(Clone, Copy, PartialEq, Eq, Drop)]
 pub enum MarkKind {
     /// It left the active service.
     Left,
@@ -30,7 +30,7 @@ pub enum MarkKind {
 }
 
 /// The mark that an entry made for a revision.
-#[derive(Clone, Copy, Drop, Debug)]
+#[derive(Clone, Copy, Drop)]
 pub struct Mark {
     pub kind: MarkKind,
     /// The moment after the entry.
@@ -40,14 +40,14 @@ pub struct Mark {
 }
 
 /// A revision's newest mark, if there is one.
-#[derive(Drop, Debug)]
+#[derive(Drop)]
 pub struct NewestMark {
     pub revision: u64,
     pub mark: Option<Mark>,
 }
 
 /// The facts before and after an entry that decide which marks it makes.
-#[derive(Clone, Copy, Drop, Debug)]
+#[derive(Clone, Copy, Drop)]
 pub struct Around {
     pub before: AuditedState,
     pub after: AuditedState,

@@ -10,7 +10,7 @@ use bg_history::Entry;
 use std::alloc::AllocError;
 
 /// A request at a seat: an open one, which entered and hasn't left, or one that is to enter.
-#[derive(Clone, Copy, Drop, Debug)]
+#[derive(Clone, Copy, Drop)]
 pub struct AuditedRequest {
     pub seat: u32,
     pub number: u64,

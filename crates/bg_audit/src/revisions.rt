@@ -19,7 +19,7 @@ use bg_strategy::Strategy;
 use std::alloc::{AllocError, Global};
 
 /// A template and the number of its revision.
-#[derive(Clone, Copy, Drop, Debug)]
+#[derive(Clone, Copy, Drop)]
 pub struct NumberedTemplate<'a> {
     pub number: u64,
     pub name: &'a str,

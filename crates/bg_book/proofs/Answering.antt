@@ -13,8 +13,8 @@ use Rattle.bg_history.specs.Allowed.{awaits, selection}
 use Rattle.bg_history.specs.Kept.{Opening}
 use Rattle.bg_history.specs.Templates.{template, namesake}
 use Rattle.bg_history_laws.specs.Answers.{namesake_answer}
-use Rattle.bg_rollout.specs.declared.control.Control.{Control}
-use Rattle.bg_rollout.specs.declared.control.Control.TheVariants.{Tick, Deploy, Available, Verdict, Promote, PromoteFull, Abort, Retry}
+use Rattle.bg_history.specs.declared.control.Control.{Control}
+use Rattle.bg_history.specs.declared.control.Control.TheVariants.{Tick, Deploy, Available, Verdict, Promote, PromoteFull, Abort, Retry}
 use Rattle.bg_rollout.specs.declared.fault.EnterFault.TheVariants as enter_fault
 use Rattle.bg_rollout.specs.declared.control_fault.ControlFault as control
 use Rattle.bg_rollout.specs.declared.control_fault.ControlFault.TheVariants as control_fault

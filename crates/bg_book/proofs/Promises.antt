@@ -27,8 +27,8 @@ use Rattle.bg_history_laws.specs.FullPromotion.{next_promotion_call, CanPromote}
 use Rattle.bg_history_laws.specs.Live.{is_tested}
 use Rattle.std.proofs.lemmas.Bool.Decides.{nat_tests}
 use Rattle.std.proofs.lemmas.Option.{same_Some}
-use Rattle.bg_rollout.specs.declared.control.Control.{Control}
-use Rattle.bg_rollout.specs.declared.control.Control.TheVariants.{Deploy, Available, Verdict, PromoteFull, Abort}
+use Rattle.bg_history.specs.declared.control.Control.{Control}
+use Rattle.bg_history.specs.declared.control.Control.TheVariants.{Deploy, Available, Verdict, PromoteFull, Abort}
 use Rattle.bg_rollout.specs.declared.control_fault.ControlFault.TheVariants.{HistoryFull, TooManyRevisions}
 use Rattle.bg_rollout.specs.ControlFaults.{of_revision}
 use Rattle.bg_rollout.specs.Refusals.{fault_if, fault_in, event_fault, event_of, deploy_fault, deployed_number, has_no_place, is_full_for_control}

@@ -14,8 +14,8 @@ use Rattle.bg_history.specs.Compacted.{left_numbers, is_among, compacted, closed
 use Rattle.bg_history_laws.specs.Compaction.{Answers, Compacts, Commutes, Same, enters_anew}
 use Rattle.bg_book.specs.declared.calls.Call.{Call}
 use Rattle.bg_book.specs.declared.calls.Call.TheVariants as call
-use Rattle.bg_rollout.specs.declared.control.Control.{Control}
-use Rattle.bg_rollout.specs.declared.control.Control.TheVariants.{Tick, Deploy, Available, Verdict, Promote, PromoteFull, Abort, Retry}
+use Rattle.bg_history.specs.declared.control.Control.{Control}
+use Rattle.bg_history.specs.declared.control.Control.TheVariants.{Tick, Deploy, Available, Verdict, Promote, PromoteFull, Abort, Retry}
 use Rattle.bg_book.specs.declared.calls.Reply.{Reply}
 use Rattle.bg_book.specs.declared.calls.Reply.TheVariants.{Entered, EnterRefused, Left, Done, ControlRefused, NoSuchSeat, SeatBusy, SeatIdle}
 use Rattle.bg_rollout.specs.declared.fault.EnterFault as enter
@@ -28,7 +28,7 @@ use Rattle.bg_book.specs.Compaction.{is_history_full}
 use Rattle.bg_rollout.specs.Invariant.{RoutingInvariant}
 use Rattle.bg_rollout.specs.PastState.{lists_of}
 use Rattle.bg_rollout.specs.State.{state_of}
-use Rattle.bg_scaledown.specs.Past.{table_of}
+use Rattle.bg_history.specs.Tables.{table_of}
 use Rattle.bg_rollout.specs.Refusals.{enter_refusal, control_refusal, event_of, IsRefusedBy}
 use Rattle.bg_rollout.specs.Routing.{Routing}
 use Rattle.bg_book.specs.Runs.{Unchanged, SeatRefused, EnterStep, LeaveStep, ControlStep, EnterAt, LeaveAt, CallStep}

@@ -12,8 +12,8 @@ use Rattle.bg_history.specs.Requests.{Request}
 use Rattle.bg_history.specs.Steps.{IsLegal, Step}
 use Rattle.bg_history_laws.specs.OpenRequests.{IsServed, is_leaving, is_outcome}
 use Rattle.bg_ledger.specs.declared.holding.Holding.{Holding}
-use Rattle.bg_rollout.specs.declared.control.Control.{Control}
-use Rattle.bg_rollout.specs.declared.control.Control.TheVariants.{Tick, Deploy, Available, Verdict, Promote, PromoteFull, Abort, Retry}
+use Rattle.bg_history.specs.declared.control.Control.{Control}
+use Rattle.bg_history.specs.declared.control.Control.TheVariants.{Tick, Deploy, Available, Verdict, Promote, PromoteFull, Abort, Retry}
 use Rattle.bg_rollout.specs.Changes.{Stepped, with_past, enter_entry}
 use Rattle.bg_rollout.specs.Compaction.{with_compacted}
 use Rattle.bg_rollout.specs.Refusals.{event_of}

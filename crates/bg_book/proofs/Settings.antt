@@ -2,7 +2,7 @@
 use Rattle.std.proofs.Common.{◌≡◌, ℕ, List, [], ◌∷◌, Option, Some, None, ap, ◌∙◌, inl, inr}
 use Rattle.bg_revisions.specs.declared.revision.Service.{Service}
 use Rattle.bg_ledger.specs.declared.holding.Holding.{Holding}
-use Rattle.bg_rollout.specs.declared.control.Control.{Control}
+use Rattle.bg_history.specs.declared.control.Control.{Control}
 use Rattle.bg_rollout.specs.Routing.{Routing}
 use Rattle.bg_book.specs.declared.calls.Call.{Call}
 use Rattle.bg_book.specs.declared.calls.Call.TheVariants as call

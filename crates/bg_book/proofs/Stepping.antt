@@ -7,8 +7,8 @@ use Rattle.bg_history.specs.Requests.{open_requests}
 use Rattle.bg_history.specs.Steps.{is_settled, Follows, with_outcomes}
 use Rattle.bg_history_laws.specs.Work.{work}
 use Rattle.bg_ledger.specs.declared.holding.Holding.{Holding}
-use Rattle.bg_rollout.specs.declared.control.Control.{Control}
-use Rattle.bg_rollout.specs.declared.control.Control.TheVariants.{Tick, Deploy, Available, Verdict, Promote, PromoteFull, Abort, Retry}
+use Rattle.bg_history.specs.declared.control.Control.{Control}
+use Rattle.bg_history.specs.declared.control.Control.TheVariants.{Tick, Deploy, Available, Verdict, Promote, PromoteFull, Abort, Retry}
 use Rattle.bg_rollout.specs.Changes.{with_past, Stepped}
 use Rattle.bg_rollout.specs.Refusals.{all_open, event_of}
 use Rattle.bg_rollout.specs.Routing.{Routing}

@@ -18,8 +18,8 @@ use Rattle.bg_history_laws.specs.Live.{is_tested}
 use Rattle.bg_history_laws.specs.Draining.{WaitsFor, IsScaledDown}
 use Rattle.bg_history_laws.specs.OpenRequests.{IsServed, open_request}
 use Rattle.bg_ledger.specs.declared.holding.Holding.{Holding}
-use Rattle.bg_rollout.specs.declared.control.Control.{Control}
-use Rattle.bg_rollout.specs.declared.control.Control.TheVariants.{Deploy, Available, Verdict, PromoteFull, Abort}
+use Rattle.bg_history.specs.declared.control.Control.{Control}
+use Rattle.bg_history.specs.declared.control.Control.TheVariants.{Deploy, Available, Verdict, PromoteFull, Abort}
 use Rattle.bg_rollout.specs.declared.control_fault.ControlFault.TheVariants.{HistoryFull}
 use Rattle.bg_rollout.specs.declared.ticket.Left.{Left}
 use Rattle.bg_rollout.specs.declared.ticket.Ticket.{Ticket}

@@ -4,7 +4,7 @@ use Rattle.bg_revisions.specs.declared.revision.Service.{Service}
 use Rattle.bg_history.specs.declared.entry.Entry.TheVariants as entry
 use Rattle.bg_book.specs.declared.calls.Call.{Call}
 use Rattle.bg_book.specs.declared.calls.Call.TheVariants as call
-use Rattle.bg_rollout.specs.declared.control.Control.{Control}
+use Rattle.bg_history.specs.declared.control.Control.{Control}
 use Rattle.bg_book.specs.declared.calls.Reply.{Reply}
 use Rattle.bg_book.specs.declared.calls.Reply.TheVariants.{Entered, EnterRefused, Left, Done, ControlRefused, NoSuchSeat, SeatBusy, SeatIdle}
 use Rattle.bg_rollout.specs.declared.fault.EnterFault.TheVariants as enter_fault

@@ -32,10 +32,19 @@ use std::marker::Model;
 /// Contracts see its settings, its history, the list of open requests of each revision, and the book's record of
 /// each seat. [`crate::laws::headline`] says what holds between calls. `N` names the tokens that tie the records to
 /// the seats, so a caller opens and uses a book inside a function that is generic over `N`.
-#[derive(Drop)]
 pub struct Book<N: Names> {
     pub(crate) alloc: Global,
     pub(crate) rollout: Rollout<N>,
+}
+
+impl<N: Names> Drop for Book<N> {
+    /// Drops the fields by one call, so that the proofs of what owns a value are short (CONTRIBUTING.md, "What a check costs").
+    fn drop(self) {
+        let Book {
+            alloc: _,
+            rollout: _,
+        } = self;
+    }
 }
 
 impl<N: Names> Model for Book<N> {

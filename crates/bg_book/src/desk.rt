@@ -1,15 +1,16 @@
 //! A book shared by threads.
-ghost use Rattle.std.specs.Prelude.{◌≡◌, ◌+◌, ◌<◌, ◌≤◌, ℕ, length, slice_set, IfOk, OnErr};
-ghost use Rattle.bg_history.specs.declared.entry.Entry.TheVariants as entry;
+ghost use Rattle.std.specs.Prelude.{◌≡◌, ◌+◌, ◌<◌, ◌≤◌, ◌∷◌, [], Some, length, Err, IfOk, OnErr};
 ghost use Rattle.bg_ledger.specs.Holdings.{after_leave};
 ghost use Rattle.bg_rollout.specs.Compaction.{with_compacted};
-ghost use Rattle.bg_rollout.specs.Changes.{enter_entry, seat_in};
-ghost use Rattle.bg_book.specs.Desks.{AnswersControl, AnswersEnter, IsFullForControl, IsFullForEnter, StepsTo};
+ghost use Rattle.bg_rollout.specs.Changes.{seat_in};
+ghost use Rattle.bg_book.specs.declared.calls.Reply.TheVariants as reply;
+ghost use Rattle.bg_book.specs.Desks.{AnswersControl, AnswersControlCompacting, AnswersEnter, AnswersEnterCompacting, control_reply, enter_reply};
 ghost use Rattle.bg_book.specs.Headline.{Headline};
 ghost use Rattle.bg_book.specs.Room.{entries_used as used_entries};
+ghost use Rattle.bg_book.specs.Runs.{LeaveStep};
 ghost use Rattle.bg_rollout.specs.Meeting.{Meets};
 ghost use Rattle.bg_rollout.specs.PastState.{goes_on};
-ghost use Rattle.bg_rollout.specs.Refusals.{control_refusal, enter_refusal, event_of, AnswersBy, IsTicket};
+ghost use Rattle.bg_rollout.specs.Refusals.{control_refusal, enter_refusal};
 ghost use Rattle.bg_rollout.specs.Routing.{Routing};
 ghost use Rattle.bg_rollout.specs.declared.control_fault.ControlFault.TheVariants as control_fault;
 ghost use Rattle.bg_rollout.specs.declared.fault.EnterFault.TheVariants as enter_fault;
@@ -34,12 +35,18 @@ pub trait Question<A> {
 /// A book behind a lock, which threads share.
 ///
 /// Each call takes the lock once, makes one call of the book and releases the lock; the two calls with a compaction make
-/// up to three calls of the book. `told` says that the answer is
-/// the answer of some book for which [`headline`] holds. For an event it also says that this book stepped to
-/// another one for which [`headline`] holds. It doesn't say that this book is the one under the lock.
-#[derive(Drop)]
+/// up to three calls of the book. `told` says that one book for which [`headline`] holds, and which has the record of the
+/// seat, gives the answer. If the call records something, it also says what the call makes of this book. It doesn't say
+/// that this book is the one under the lock; the functions that are lent that book say what becomes of it.
 pub struct Desk<N: Names> {
     book: Mutex<Book<N>>,
+}
+
+impl<N: Names> Drop for Desk<N> {
+    /// Drops the fields by one call, so that the proofs of what owns a value are short (CONTRIBUTING.md, "What a check costs").
+    fn drop(self) {
+        let Desk { book: _ } = self;
+    }
 }
 
 impl<N: Names> Desk<N> {
@@ -61,7 +68,8 @@ impl<N: Names> Desk<N> {
         ensures seat { IfOk result (λ t. seat.new ≡ seat_in seat.old t) }
         ensures number { IfOk result (λ t. 0 < t.number) }
         ensures seat_unchanged { OnErr result (seat.new ≡ seat.old) }
-        ensures told { AnswersEnter seat.old service result seat.new }
+        ensures told { (b : Routing) × (new : Routing)
+            × AnswersEnter b seat.old service (enter_reply result) new seat.new }
     {
         let mut locked = self.book.lock(rt);
         enter(&mut *locked, seat, service)
@@ -79,8 +87,8 @@ impl<N: Names> Desk<N> {
         ensures seat { IfOk result (λ t. seat.new ≡ seat_in seat.old t) }
         ensures number { IfOk result (λ t. 0 < t.number) }
         ensures seat_unchanged { OnErr result (seat.new ≡ seat.old) }
-        ensures told { AnswersEnter seat.old service result seat.new }
-        ensures full { IsFullForEnter service result }
+        ensures told { (b : Routing) × (new : Routing)
+            × AnswersEnterCompacting b seat.old service (enter_reply result) new seat.new }
     {
         let mut locked = self.book.lock(rt);
         enter_or_compact(&mut *locked, seat, service)
@@ -91,10 +99,8 @@ impl<N: Names> Desk<N> {
         requires within { 0 < seat.old.number }
         ensures left { result ≡ record { number = seat.old.number; revision = seat.old.revision } }
         ensures seat { seat.new ≡ after_leave seat.old }
-        ensures told { (b : Routing) × Headline b × Meets b seat.old
-            × ((n : ℕ) × (new : Routing) × StepsTo b
-            (entry.Leave seat.old.index seat.old.number seat.old.revision)
-            (slice_set b.seats seat.old.index seat.new) new n × (n ≤ 2)) }
+        ensures told { (b : Routing) × (new : Routing) × Headline b × Headline new × Meets b seat.old
+            × LeaveStep b (seat.old ∷ []) 0 seat.old (reply.Left result) new (seat.new ∷ []) }
     {
         let mut locked = self.book.lock(rt);
         let book = &mut *locked;
@@ -119,7 +125,8 @@ impl<N: Names> Desk<N> {
     /// [`Book::control`].
     pub fn control<R: Wait>(&self, rt: &R, event: &Control) -> Result<u64, ControlFault>
         ensures few { IfOk result (λ n. n ≤ 140) }
-        ensures told { AnswersControl event.now result }
+        ensures told { (b : Routing) × (new : Routing)
+            × AnswersControl b event.now (control_reply result) new }
     {
         let mut locked = self.book.lock(rt);
         control(&mut *locked, event)
@@ -133,8 +140,8 @@ impl<N: Names> Desk<N> {
         event: &Control,
     ) -> Result<u64, ControlFault>
         ensures few { IfOk result (λ n. n ≤ 140) }
-        ensures told { AnswersControl event.now result }
-        ensures full { IsFullForControl event.now result }
+        ensures told { (b : Routing) × (new : Routing)
+            × AnswersControlCompacting b event.now (control_reply result) new }
     {
         let mut locked = self.book.lock(rt);
         control_or_compact(&mut *locked, event)
@@ -174,7 +181,8 @@ impl<N: Names> Desk<N> {
     pub fn into_book(self) -> Book<N>
         ensures { Headline result }
     {
-        let book = self.book.into_inner();
+        let Desk { book } = self;
+        let book = book.into_inner();
         book_laws::headline(&book);
         book
     }
@@ -190,8 +198,7 @@ fn enter<N: Names>(
     ensures seat { IfOk result (λ t. seat.new ≡ seat_in seat.old t) }
     ensures number { IfOk result (λ t. 0 < t.number) }
     ensures seat_unchanged { OnErr result (seat.new ≡ seat.old) }
-    ensures told { AnswersEnter seat.old service result seat.new }
-    ensures refusal { AnswersBy (enter_refusal book.old service) enter_fault.OutOfMemory result }
+    ensures told { AnswersEnter book.old seat.old service (enter_reply result) book.new seat.new }
 {
     book_laws::headline(book);
     let answer = book.enter(seat, service);
@@ -209,12 +216,12 @@ fn enter_or_compact<N: Names>(
     ensures seat { IfOk result (λ t. seat.new ≡ seat_in seat.old t) }
     ensures number { IfOk result (λ t. 0 < t.number) }
     ensures seat_unchanged { OnErr result (seat.new ≡ seat.old) }
-    ensures told { AnswersEnter seat.old service result seat.new }
-    ensures full { IsFullForEnter service result }
+    ensures told { AnswersEnterCompacting book.old seat.old service (enter_reply result) book.new seat.new }
+    ensures full { result ≡ Err enter_fault.HistoryFull
+        → enter_refusal (with_compacted book.old) service ≡ Some enter_fault.HistoryFull }
 {
     match enter(book, seat, service) {
         Err(EnterFault::HistoryFull) => {
-            book_laws::headline(book);
             let _dropped = book.compact();
             enter(book, seat, service)
         }
@@ -225,8 +232,7 @@ fn enter_or_compact<N: Names>(
 /// Gives an event to the book, and proves what holds of the book before and after.
 fn control<N: Names>(book: &mut Book<N>, event: &Control) -> Result<u64, ControlFault>
     ensures few { IfOk result (λ n. n ≤ 140) }
-    ensures told { AnswersControl event.now result }
-    ensures refusal { AnswersBy (control_refusal book.old event.now) control_fault.OutOfMemory result }
+    ensures told { AnswersControl book.old event.now (control_reply result) book.new }
 {
     book_laws::headline(book);
     let answer = book.control(event);
@@ -237,12 +243,12 @@ fn control<N: Names>(book: &mut Book<N>, event: &Control) -> Result<u64, Control
 /// Gives an event to the book. If the history is full, compacts it and gives the event once more.
 fn control_or_compact<N: Names>(book: &mut Book<N>, event: &Control) -> Result<u64, ControlFault>
     ensures few { IfOk result (λ n. n ≤ 140) }
-    ensures told { AnswersControl event.now result }
-    ensures full { IsFullForControl event.now result }
+    ensures told { AnswersControlCompacting book.old event.now (control_reply result) book.new }
+    ensures full { result ≡ Err control_fault.HistoryFull
+        → control_refusal (with_compacted book.old) event.now ≡ Some control_fault.HistoryFull }
 {
     match control(book, event) {
         Err(ControlFault::HistoryFull) => {
-            book_laws::headline(book);
             let _dropped = book.compact();
             control(book, event)
         }

@@ -15,7 +15,8 @@ const RESPONSE_BYTES: usize = 1 << 28;
 
 /// The bounds on what may be pending at a port. Beyond the bounds, the port closes a connection only if
 /// it makes no progress. If all connections make progress, the port accepts no further connection. While
-/// requests take too many bytes, it reads only the eight oldest of the large requests.
+/// requests take too many bytes, it reads only the eight oldest of the large requests; no byte of another one
+/// is read, also if its client has ended its input.
 #[derive(Clone, Copy, PartialEq, Eq, Debug, Drop)]
 pub struct Bounds {
     /// The number of pending connections at which the port accepts no further connection. Connections

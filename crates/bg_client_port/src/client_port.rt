@@ -22,6 +22,10 @@ pub struct ClientPortSettings {
     pub connections: Option<u64>,
     /// The number of seconds that a request may take from the accept of its connection, also if the port pauses it.
     pub request_seconds: u64,
+    /// The number of seconds, at most 60, for which a shutdown keeps connections of which no byte came.
+    pub grace_seconds: u64,
+    /// Whether a request ends if its client has only ended its input.
+    pub aborts_on_close: bool,
     /// The bounds on what may be pending.
     pub bounds: Bounds,
 }
@@ -33,7 +37,7 @@ pub struct ClientPortSettings {
 /// A worker is given a connection only after its request is over: the request is complete or faulty,
 /// the client has ended it, its timeout has passed, or the port has closed the connection to make room
 /// or to shut down. Before that, and after the worker has ended the connection, the event loop reads and
-/// writes it and checks its timeouts. Each accepted connection is given to a worker exactly once.
+/// writes it and checks its timeouts. Each accepted connection is given to a worker at most once.
 pub struct ClientPort {
     pub(crate) alloc: Global,
     pub(crate) listener: CountedListener,
@@ -44,6 +48,10 @@ pub struct ClientPort {
     /// now.
     pub(crate) pending_count: AtomicU64,
     pub(crate) is_full: AtomicBool,
+    /// Whether a request waits for a worker.
+    pub(crate) has_waiting: AtomicBool,
+    /// Whether a request ends if its client has only ended its input.
+    pub(crate) aborts_on_close: bool,
     /// Whether a worker makes room at a full port, and the number of workers that do not watch the
     /// listener meanwhile.
     pub(crate) makes_room: AtomicBool,
@@ -60,8 +68,7 @@ pub struct ClientPort {
 }
 
 impl Drop for ClientPort {
-    /// Drops the fields. This is a function of its own, so that a function that owns a port has one call in place of the
-    /// drops of all fields.
+    /// Drops the fields by one call, so that the proofs of what owns a value are short (CONTRIBUTING.md, "What a check costs").
     fn drop(self) {
         let ClientPort {
             alloc: _,
@@ -71,6 +78,8 @@ impl Drop for ClientPort {
             state: _,
             pending_count: _,
             is_full: _,
+            has_waiting: _,
+            aborts_on_close: _,
             makes_room: _,
             away_from_listener: _,
             is_called: _,
@@ -93,19 +102,21 @@ impl ClientPort {
         listener: TcpListener,
         settings: ClientPortSettings,
     ) -> io::Result<ClientPort> {
+        let clock = PortClock::start(rt)?;
         let listener = CountedListener::new(listener, settings.connections)?;
         let watch = Watch::new()?;
         let wait_sets = WaitSets::new(alloc, settings.workers, listener.get(), &watch.over)?;
-        let request_millis = settings.request_seconds.saturating_mul(1_000);
-        let state = PortState::new(alloc, settings.bounds, settings.workers, request_millis)?;
+        let state = PortState::new(alloc, &settings)?;
         Ok(ClientPort {
             alloc,
             listener,
             watch,
-            clock: PortClock::start(rt)?,
+            clock,
             state: Mutex::new(state),
             pending_count: AtomicU64::new(0),
             is_full: AtomicBool::new(false),
+            has_waiting: AtomicBool::new(false),
+            aborts_on_close: settings.aborts_on_close,
             makes_room: AtomicBool::new(false),
             away_from_listener: AtomicUsize::new(0),
             is_called: AtomicBool::new(false),
@@ -119,16 +130,15 @@ impl ClientPort {
 
     /// Begins a graceful shutdown. The port first accepts the clients that wait in the backlog, as far as it
     /// has room, because they may have sent their requests while all workers were busy. It refuses new
-    /// clients from then on, and closes connections that sent nothing. For 60 seconds requests may still
-    /// arrive or wait for a worker, and pending responses are written; after that the event loop drops them.
-    /// It does not end a request that a worker serves.
+    /// clients from then on. A connection of which nothing came is closed after the grace of the settings, unless
+    /// its client has sent by then. For 60 seconds requests may still arrive or wait for a worker, and pending
+    /// responses are written; after that the event loop drops them. It does not end a request that a worker serves.
     pub fn close<R: Clock + Wait>(&self, rt: &R) {
         self.accept_backlog(rt);
         self.listener.close();
         {
             let mut state = self.state.lock(rt);
-            state.begin_closing(self.clock.now(rt), &self.watch);
-            self.publish(&state);
+            state.port.begin_closing(self.clock.now(rt));
         }
         self.watch.over.post();
         self.watch.set.wake_up();
@@ -178,10 +188,12 @@ impl ClientPort {
         self.state.lock(rt).take_cut()
     }
 
-    /// Publishes how much is pending, so that workers need not take the lock to ask. If there is room
-    /// again, wakes a worker, because those that do not watch the listener would not notice.
+    /// Publishes how much is pending, and whether a request waits, so that workers need not take the lock to
+    /// ask. If there is room again, wakes a worker, because those that do not watch the listener would not notice.
     pub(crate) fn publish(&self, state: &PortState) {
         self.pending_count.store(state.pending(), Ordering::SeqCst);
+        self.has_waiting
+            .store(state.port.has_waiting(), Ordering::SeqCst);
         let is_full = state.port.is_full();
         let was_full = self.is_full.swap(is_full, Ordering::SeqCst);
         if was_full && !is_full {
@@ -204,9 +216,14 @@ impl ClientPort {
         }
     }
 
-    /// Wakes a worker if it might have missed a client that waits in the backlog, or the end of the port. No
-    /// worker looks by itself.
+    /// Wakes a worker if it might have missed a request that waits, a client that waits in the backlog, or the
+    /// end of the port. No worker looks by itself.
     pub(crate) fn remind(&self) {
+        if self.has_waiting.load(Ordering::SeqCst) {
+            // takes a post before, so that such posts do not pile up while all workers are busy
+            self.watch.over.take();
+            self.watch.over.post();
+        }
         if self.listener.is_closed() || is_ready(self.listener.get()) {
             self.call_worker();
         }

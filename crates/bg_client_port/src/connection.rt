@@ -6,7 +6,6 @@ use crate::held_connection::{HeldConnection, Rest};
 use crate::output::begins_lingering_close;
 use crate::wait_sets::WaitSet;
 use bg_http_read::RefusedHead;
-use bg_peers::is_peer_closed;
 use bg_port::Ending;
 use bg_sockets::{OtherEnd, other_end};
 use std::io;
@@ -68,8 +67,9 @@ impl<'a, R: Clock> Connection<'a, R> {
         }
     }
 
-    /// Whether the client has closed or reset its connection. A client that has only shut its writing
-    /// side has not gone, and is answered (RFC 9112 section 9.6).
+    /// Whether the client has reset its connection. One that has only ended its input has not gone: it may have shut its
+    /// writing side alone, and is answered (RFC 9112 section 9.6), unless the settings say that a request ends then. A client
+    /// that closes its connection ends its input; it is found to have reset it once the response is written to it.
     ///
     /// Asks the system at most once in 900 milliseconds, and for the first time at least 900 milliseconds
     /// after the first call. A call that does not ask gives false.
@@ -86,7 +86,7 @@ impl<'a, R: Clock> Connection<'a, R> {
         match other_end(&self.held.stream) {
             OtherEnd::Open => false,
             OtherEnd::Reset => true,
-            OtherEnd::Ended => is_peer_closed(self.port.alloc, &self.held.stream),
+            OtherEnd::Ended => self.port.aborts_on_close,
         }
     }
 

@@ -36,7 +36,7 @@ impl ClientPort {
             }
             if now.saturating_sub(swept) >= SWEEP_MILLIS {
                 swept = now;
-                self.sweep(rt, now);
+                self.sweep(rt, now, &mut piece);
                 self.remind();
             }
             if self.is_over(rt, now) {
@@ -58,9 +58,8 @@ impl ClientPort {
     fn attend<R: Wait>(&self, rt: &R, key: usize, now: u64, piece: &mut [u8; PIECE]) {
         let mut state = self.state.lock(rt);
         match state.port.interest(key) {
-            Some(Interest::Input | Interest::Paused) => {
-                state.read_on(key, now, piece, &self.watch);
-            }
+            Some(Interest::Input) => state.read_on(key, now, piece, &self.watch),
+            Some(Interest::Paused) => state.end_if_reset(key, &self.watch),
             Some(Interest::Output) => state.write_on(key, now, &self.watch),
             None => {}
         }
@@ -68,9 +67,9 @@ impl ClientPort {
         self.publish(&state);
     }
 
-    fn sweep<R: Wait>(&self, rt: &R, now: u64) {
+    fn sweep<R: Wait>(&self, rt: &R, now: u64, piece: &mut [u8; PIECE]) {
         let mut state = self.state.lock(rt);
-        state.sweep(now, &self.watch);
+        state.sweep(now, piece, &self.watch);
         self.publish(&state);
     }
 

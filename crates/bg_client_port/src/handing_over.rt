@@ -17,7 +17,10 @@ impl PortState {
             received,
         } = self.port.give()?;
         self.regulate(now, watch);
-        let stream = self.sockets.take(id.key)?;
+        let Some(stream) = self.sockets.take(id.key) else {
+            self.port.end(id);
+            return None;
+        };
         let connection = HeldConnection {
             id,
             accepted,
@@ -32,8 +35,8 @@ impl PortState {
         })
     }
 
-    /// Leaves a connection to the event loop, whose request has not ended. It comes back if the port shuts down: its
-    /// request is given up then.
+    /// Leaves a connection to the event loop, whose request has not ended. It comes back if the port shuts down, and
+    /// bears with it no longer: its request is given up then.
     pub(crate) fn leave(
         &mut self,
         connection: HeldConnection,

@@ -3,7 +3,7 @@ ghost use Rattle.std.specs.Prelude.{◌≤◌, length};
 
 use crate::port_state::{PortState, Watch};
 use bg_port::ReadStep;
-use bg_sockets::{receive_now, send_now};
+use bg_sockets::{OtherEnd, other_end, receive_now, send_now};
 use std::io;
 use std::io::ErrorKind;
 use std::net::TcpStream;
@@ -15,7 +15,7 @@ pub(crate) const PIECE: usize = 16_384;
 const READS_A_TURN: u32 = 4;
 
 /// What a read gave.
-#[derive(Clone, Copy, PartialEq, Eq, Debug, Drop)]
+#[derive(Clone, Copy, PartialEq, Eq, Drop)]
 pub(crate) enum Input {
     /// So many bytes.
     Came(usize),
@@ -68,6 +68,17 @@ impl PortState {
             if !goes_on {
                 return;
             }
+        }
+    }
+
+    /// Ends a connection that is paused, if its client has reset it. An event may also be one from before the pause.
+    pub(crate) fn end_if_reset(&mut self, key: usize, watch: &Watch) {
+        let is_reset = match self.sockets.get(key) {
+            Some(stream) => other_end(stream) == OtherEnd::Reset,
+            None => false,
+        };
+        if is_reset {
+            self.fail(key, watch);
         }
     }
 

@@ -1,6 +1,7 @@
 //! The listener of a port, and how many connections it takes.
 
-use libc::net::{SHUT_RDWR, listen, shutdown};
+use bg_sockets::set_backlog;
+use libc::net::{SHUT_RDWR, shutdown};
 use std::io;
 use std::io::ErrorKind;
 use std::net::{TcpListener, TcpStream};
@@ -13,12 +14,6 @@ use std::time::Duration;
 const READ_MILLIS: u64 = 1;
 
 const WRITE_MILLIS: u64 = 10;
-
-/// The backlog: the number of clients that may wait in the system for an accept. If the backlog is full,
-/// Linux resets clients that continue to send (SYN cookies), so it has room for as many clients as a port
-/// may have workers. With a longer backlog, the clients of a flood would wait for more seconds. The system
-/// may have a lower bound (`net.core.somaxconn`).
-const BACKLOG: i32 = 1024;
 
 /// The result of an accept.
 #[derive(Drop)]
@@ -70,8 +65,7 @@ impl CountedListener {
     ) -> io::Result<CountedListener> {
         let listener = with_short_waits(listener)?;
         listener.set_nonblocking(true)?;
-        // if the system refuses it, the listener keeps its backlog
-        listen(listener.as_raw_fd(), BACKLOG);
+        set_backlog(&listener);
         let left = match connections {
             Some(count) => Some(Left {
                 free: AtomicU64::new(count),

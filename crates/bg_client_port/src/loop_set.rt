@@ -2,7 +2,7 @@
 
 use bg_port::Interest;
 use bg_sockets::{EpollSet, Signal, Watched};
-use libc::net::{EPOLLIN, EPOLLOUT, EPOLLRDHUP};
+use libc::net::{EPOLLIN, EPOLLOUT};
 use os::EpollEvent;
 use std::io;
 use std::net::TcpStream;
@@ -83,6 +83,6 @@ fn events_of(interest: Interest) -> u32 {
     match interest {
         Interest::Input => EPOLLIN,
         Interest::Output => EPOLLOUT,
-        Interest::Paused => EPOLLRDHUP,
+        Interest::Paused => 0,
     }
 }

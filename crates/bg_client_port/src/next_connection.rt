@@ -8,7 +8,7 @@ use crate::input::PIECE;
 use crate::listener::AcceptedClient;
 use crate::wait_sets::{Ready, WaitSet};
 use bg_http::{Request, RequestFault};
-use bg_port::{IncomingRequest, ReceivedRequest};
+use bg_port::IncomingRequest;
 use bg_sockets::{await_input, is_ready};
 use std::io;
 use std::io::ErrorKind;
@@ -92,12 +92,7 @@ impl ClientPort {
             connection,
             received,
         } = complete;
-        let ReceivedRequest {
-            answer,
-            ending,
-            bytes,
-            refused,
-        } = received;
+        let (answer, refused, ending, bytes) = received.into_parts();
         let facts = RequestFacts {
             ending,
             bytes,
@@ -190,7 +185,17 @@ impl ClientPort {
         }
     }
 
-    /// Accepts a connection if one waits and the port is not full.
+    /// Takes a pending connection whose request is over, if one waits.
+    fn take_waiting<R: Clock + Wait>(&self, rt: &R) -> Step {
+        if self.has_waiting.load(Ordering::SeqCst) {
+            self.take_over(rt)
+        } else {
+            Step::Nothing
+        }
+    }
+
+    /// Takes a pending connection whose request is over, since it came first. If there is none, accepts a connection if one
+    /// waits and the port is not full.
     fn accept_at<R: Clock + Wait>(
         &self,
         rt: &R,
@@ -200,6 +205,11 @@ impl ClientPort {
         if self.listener.is_closed() {
             set.forget(self.listener.get());
             return Ok(self.take_over(rt));
+        }
+        let step = self.take_waiting(rt);
+        if !matches!(step, Step::Nothing) {
+            self.call_successor(&step);
+            return Ok(step);
         }
         if self.is_full.load(Ordering::SeqCst) {
             return Ok(self.make_room_alone(rt, set));
@@ -302,7 +312,8 @@ impl ClientPort {
         let request = IncomingRequest::new(self.alloc);
         if state.leave(connection, request, now, &self.watch).is_some() {
             state.port.end(id);
-        } else {
+        } else if state.port.interest(id.key).is_some() {
+            // it has not failed since the system refused to watch it
             state.read_on(id.key, now, &mut piece, &self.watch);
         }
         self.publish(&state);

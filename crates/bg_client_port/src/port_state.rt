@@ -1,7 +1,9 @@
 //! The state of a port and its sockets.
 
 use crate::bounds::Bounds;
+use crate::client_port::ClientPortSettings;
 use crate::cut_responses::CutResponses;
+use crate::input::PIECE;
 use crate::loop_set::LoopSet;
 use crate::socket_table::SocketTable;
 use bg_port::{Port, PortSettings, Stopped};
@@ -41,20 +43,20 @@ pub(crate) struct PortState {
 }
 
 impl PortState {
-    /// The state of a port without connections, with room for as many as the bounds allow, and for one of each of so many
+    /// The state of a port without connections, with room for as many as the bounds allow, and for one of each of the
     /// workers and of the thread that closes the port.
     pub(crate) fn new(
         alloc: Global,
-        bounds: Bounds,
-        workers: usize,
-        request_millis: u64,
+        settings: &ClientPortSettings,
     ) -> Result<PortState, AllocError> {
+        let bounds = settings.bounds;
         let port = Port::new(
             alloc,
             PortSettings {
                 connections: bounds.connections as u64,
-                workers: workers.saturating_add(1) as u64,
-                request_millis,
+                workers: settings.workers.saturating_add(1) as u64,
+                request_millis: settings.request_seconds.saturating_mul(1_000),
+                grace_millis: settings.grace_seconds.saturating_mul(1_000),
                 request_bytes: bounds.request_bytes as u64,
                 response_bytes: bounds.response_bytes as u64,
             },
@@ -123,19 +125,27 @@ impl PortState {
         drop(self.sockets.take(key));
     }
 
-    /// Begins the graceful shutdown: gives up connections that have sent nothing.
-    pub(crate) fn begin_closing(&mut self, now: u64, watch: &Watch) {
-        self.port.begin_closing(now);
+    /// Gives up connections of which no byte came, once the grace of a shutdown is over. Each is read once more before: its
+    /// client may have sent meanwhile.
+    fn give_up_silent(&mut self, now: u64, piece: &mut [u8; PIECE], watch: &Watch) {
+        let mut from = 0;
         for _ in 0..self.sockets.len() {
-            let Some(key) = self.port.give_up_silent() else {
+            let Some(key) = self.port.silent_from(from, now) else {
                 return;
             };
-            self.stopped(key, Stopped::Received, watch);
+            self.read_on(key, now, piece, watch);
+            if self.port.is_silent(key) {
+                let what = self.port.give_up(key);
+                self.stopped(key, what, watch);
+            }
+            from = key.saturating_add(1);
         }
     }
 
-    /// Gives up each connection whose timeout has passed, and slow ones while requests or responses take too much memory.
-    pub(crate) fn sweep(&mut self, now: u64, watch: &Watch) {
+    /// Gives up silent connections after the grace of a shutdown, each connection whose timeout has passed, and slow ones
+    /// while requests or responses take too much memory.
+    pub(crate) fn sweep(&mut self, now: u64, piece: &mut [u8; PIECE], watch: &Watch) {
+        self.give_up_silent(now, piece, watch);
         for _ in 0..self.sockets.len() {
             let Some((key, what)) = self.port.give_up_late(now) else {
                 break;
@@ -144,6 +154,8 @@ impl PortState {
         }
         self.free_responses(now, watch);
         self.free_requests(now, watch);
+        self.regulate(now, watch);
+        self.free_stalled(now, watch);
         self.regulate(now, watch);
     }
 }

@@ -49,6 +49,17 @@ impl PortState {
         }
     }
 
+    /// If none of the large requests that go on makes progress while others are paused for them, gives up those that have
+    /// made none for the longest time, until requests take a quarter of the bound.
+    pub(crate) fn free_stalled(&mut self, now: u64, watch: &Watch) {
+        for _ in 0..self.sockets.len() {
+            let Some((key, what)) = self.port.give_up_stalled(now) else {
+                return;
+            };
+            self.stopped(key, what, watch);
+        }
+    }
+
     /// Pauses and resumes large requests.
     pub(crate) fn regulate(&mut self, now: u64, watch: &Watch) {
         for _ in 0..self.sockets.len() {

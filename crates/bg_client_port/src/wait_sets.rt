@@ -30,7 +30,7 @@ fn source(descriptor: RawFd, number: u64) -> Watched {
 }
 
 /// The result of a worker's wait.
-#[derive(Clone, Copy, PartialEq, Eq, Debug, Drop)]
+#[derive(Clone, Copy, PartialEq, Eq, Drop)]
 pub(crate) enum Ready {
     /// The wait was interrupted.
     Nothing,

@@ -47,15 +47,24 @@ replay_known words e =
 abbrev pub serve : Flags → Shape
 serve flags = built_sub (serve_app flags).top
 
-endpoint_and_count_keep : (flags : Flags) → let c = (serve flags).rules in
-    Each (Keeps c) (held (flag_rule (codes "redispatch")) ∷ held (number_rule (codes "endpoint-limit") 1023)
+client_and_count_keep : (flags : Flags) → let c = (serve flags).rules in
+    Each (Keeps c) (held (flag_rule (codes "abort-on-close")) ∷ held (number_rule (codes "shutdown-grace") 60)
     ∷ held (count_rule flags.forever) ∷ held (forever_rule flags.forever) ∷ held help_rule ∷ [])
-endpoint_and_count_keep flags = let c = (serve flags).rules in (
-  flag_keeps c false (codes "redispatch") refl,
+client_and_count_keep flags = let c = (serve flags).rules in (
+  flag_keeps c false (codes "abort-on-close") refl,
   (
-    number_keeps c (codes "endpoint-limit") 1023 refl,
+    number_keeps c (codes "shutdown-grace") 60 refl,
     (count_keeps c flags.forever refl, (flag_keeps c flags.forever (codes "forever") refl, (help_keeps c, tt))),
   ),
+)
+
+endpoint_and_later_keep : (flags : Flags) → let c = (serve flags).rules in
+    Each (Keeps c) (held (flag_rule (codes "redispatch")) ∷ held (number_rule (codes "endpoint-limit") 1023)
+    ∷ held (flag_rule (codes "abort-on-close")) ∷ held (number_rule (codes "shutdown-grace") 60)
+    ∷ held (count_rule flags.forever) ∷ held (forever_rule flags.forever) ∷ held help_rule ∷ [])
+endpoint_and_later_keep flags = let c = (serve flags).rules in (
+  flag_keeps c false (codes "redispatch") refl,
+  (number_keeps c (codes "endpoint-limit") 1023 refl, client_and_count_keep flags),
 )
 
 serve_keeps : (flags : Flags) → Each (Keeps (serve flags).rules) (serve flags).rules
@@ -69,25 +78,34 @@ serve_keeps flags = let c = (serve flags).rules in (
         required_if_keeps c (not flags.concurrency) (codes "workers") 7 refl,
         (
           required_if_keeps c flags.concurrency (codes "concurrency") 1023 refl,
-          (number_keeps c (codes "preview-concurrency") 1023 refl, endpoint_and_count_keep flags),
+          (number_keeps c (codes "preview-concurrency") 1023 refl, endpoint_and_later_keep flags),
         ),
       ),
     ),
   ),
 )
 
-endpoint_and_count_defaults : (flags : Flags) → let c = (serve flags).rules in
-    Each (DefaultKeeps c) (held (flag_rule (codes "redispatch")) ∷ held (number_rule (codes "endpoint-limit") 1023)
+client_and_count_defaults : (flags : Flags) → let c = (serve flags).rules in
+    Each (DefaultKeeps c) (held (flag_rule (codes "abort-on-close")) ∷ held (number_rule (codes "shutdown-grace") 60)
     ∷ held (count_rule flags.forever) ∷ held (forever_rule flags.forever) ∷ held help_rule ∷ [])
-endpoint_and_count_defaults flags = let c = (serve flags).rules in (
-  flag_default_keeps c false (codes "redispatch") refl,
+client_and_count_defaults flags = let c = (serve flags).rules in (
+  flag_default_keeps c false (codes "abort-on-close") refl,
   (
-    no_default_keeps c (held (number_rule (codes "endpoint-limit") 1023)) refl,
+    no_default_keeps c (held (number_rule (codes "shutdown-grace") 60)) refl,
     (
       no_default_keeps c (held (count_rule flags.forever)) refl,
       (flag_default_keeps c flags.forever (codes "forever") refl, (help_default_keeps c, tt)),
     ),
   ),
+)
+
+endpoint_and_later_defaults : (flags : Flags) → let c = (serve flags).rules in
+    Each (DefaultKeeps c) (held (flag_rule (codes "redispatch")) ∷ held (number_rule (codes "endpoint-limit") 1023)
+    ∷ held (flag_rule (codes "abort-on-close")) ∷ held (number_rule (codes "shutdown-grace") 60)
+    ∷ held (count_rule flags.forever) ∷ held (forever_rule flags.forever) ∷ held help_rule ∷ [])
+endpoint_and_later_defaults flags = let c = (serve flags).rules in (
+  flag_default_keeps c false (codes "redispatch") refl,
+  (no_default_keeps c (held (number_rule (codes "endpoint-limit") 1023)) refl, client_and_count_defaults flags),
 )
 
 serve_defaults : (flags : Flags) → Each (DefaultKeeps (serve flags).rules) (serve flags).rules
@@ -103,7 +121,7 @@ serve_defaults flags = let c = (serve flags).rules in (
           no_default_keeps c (held (rule_required_if flags.concurrency (codes "concurrency") 1023)) refl,
           (
             no_default_keeps c (held (number_rule (codes "preview-concurrency") 1023)) refl,
-            endpoint_and_count_defaults flags,
+            endpoint_and_later_defaults flags,
           ),
         ),
       ),
@@ -183,6 +201,7 @@ serve_known flags words e =
       concurrency_given = λ many. given_has c (codes "concurrency") rows good (concurrency.0 many);
       preview_concurrency = in_range c (held (number_rule (codes "preview-concurrency") 1023)) (codes "preview-concurrency") 1023 rows refl refl refl good;
       endpoint_limit = in_range c (held (number_rule (codes "endpoint-limit") 1023)) (codes "endpoint-limit") 1023 rows refl refl refl good;
+      shutdown_grace = in_range c (held (number_rule (codes "shutdown-grace") 60)) (codes "shutdown-grace") 60 rows refl refl refl good;
       count = in_range c (held (count_rule flags.forever)) (codes "count") 1000000 rows refl refl refl good;
       count_given = λ limited. given_has c (codes "count") rows good (count.0 (not_true flags.forever limited));
     }

@@ -87,15 +87,20 @@ abbrev pub with_endpoint_rules : App → App
 with_endpoint_rules a = with_rule (with_rule a (flag_rule (codes "redispatch")))
     (number_rule (codes "endpoint-limit") 1023)
 
+-- `[--abort-on-close] [--shutdown-grace S]`
+abbrev pub with_client_rules : App → App
+with_client_rules a = with_rule (with_rule a (flag_rule (codes "abort-on-close")))
+    (number_rule (codes "shutdown-grace") 60)
+
 -- `--count K` and `--forever`; the second is required if `forever` holds, else the first
 abbrev pub with_connection_rules : Bool → App → App
 with_connection_rules forever a = with_rule (with_rule a (count_rule forever)) (forever_rule forever)
 
--- `serve --active P [--preview P] --control P [--preview-concurrency M] [--redispatch] [--endpoint-limit M]`, with
--- `--workers N` or `--concurrency N`, and `--count K` or `--forever`; the flags say which of each two is required
+-- `serve --active P [--preview P] --control P [--preview-concurrency M] [--redispatch] [--endpoint-limit M]
+-- [--abort-on-close] [--shutdown-grace S]`, with `--workers N` or `--concurrency N`, and `--count K` or `--forever`; the flags say which of each two is required
 abbrev pub serve_app : Flags → App
-serve_app flags = with_connection_rules flags.forever (with_endpoint_rules
-    (with_worker_rules flags.concurrency (with_port_rules (new_app (codes "serve")))))
+serve_app flags = with_connection_rules flags.forever (with_client_rules (with_endpoint_rules
+    (with_worker_rules flags.concurrency (with_port_rules (new_app (codes "serve"))))))
 
 -- `bg_switch`, which has a version and requires a subcommand; there is no subcommand `help`
 abbrev pub top_app : App
@@ -203,6 +208,9 @@ pub record IsServe (flags : Flags) (rows : List Row) (settings : ServeSettings) 
   pub redispatch_is : settings.redispatch ≡ has_flag (codes "redispatch") rows
   pub endpoint_limit_is : settings.endpoint_limit ≡ number_of (codes "endpoint-limit") rows
   pub endpoint_limit_range : IfSome settings.endpoint_limit (IsBetween 1 1023)
+  pub abort_on_close_is : settings.abort_on_close ≡ has_flag (codes "abort-on-close") rows
+  pub shutdown_grace_is : settings.shutdown_grace ≡ unwrap_or (number_of (codes "shutdown-grace") rows) 1
+  pub shutdown_grace_range : IsBetween 1 60 settings.shutdown_grace
   pub connections_are : AreConnections flags.forever rows settings.connections
 
 -- the invocation is the subcommand of this name with these matches; 4 seats if no number is given
@@ -262,6 +270,7 @@ pub record HasWordsOfServe (flags : Flags) (rows : List Row) : Type 0 where
       : flags.concurrency ≡ true → is_some (first_of (codes "concurrency") rows) ≡ true
   pub preview_concurrency : IsIn 1 1023 (codes "preview-concurrency") rows
   pub endpoint_limit : IsIn 1 1023 (codes "endpoint-limit") rows
+  pub shutdown_grace : IsIn 1 60 (codes "shutdown-grace") rows
   pub count : IsIn 1 1000000 (codes "count") rows
   pub count_given : flags.forever ≡ false → is_some (first_of (codes "count") rows) ≡ true
 

@@ -26,6 +26,10 @@ that isn't given, it has one with --workers, and with --concurrency an eighth of
 With --redispatch, a request for which the switch can't connect to an endpoint goes to another endpoint of the same
 revision. Then --endpoint-limit is how many requests at a time an endpoint gets while another one of its revision is
 free. It has no effect without --redispatch.
+With --abort-on-close, a request ends once its client has ended its input. Without it, a client that ends its input
+waits for its response, and its request ends only if it resets the connection.
+At a graceful shutdown, a client that has sent nothing is let go after --shutdown-grace seconds; a request that
+has come by then is answered.
 With --count, a line quit ends the operators' side, not the workers': the program ends once both are
 done. It then prints the report, and ends with status 0; 1 where the strategy has a fault or a port
 can't be bound.
@@ -52,6 +56,11 @@ check has no words of its own. replay takes --seats N: how many requests can be 
                how many requests at a time an endpoint gets while another one of its revision is free,
                1 to 1023; twice an equal part of all requests at a time, but at most half of them, where it
                isn't given; it has no effect without --redispatch
+  --abort-on-close
+               a request ends once its client has ended its input, not only once it has reset the connection
+  --shutdown-grace S
+               for how many seconds a graceful shutdown keeps clients that have sent nothing, 1 to 60;
+               1 where it isn't given
   --count K    how many connections each worker takes until it ends, 1 to 1000000; has to be given,
                unless --forever is; any connection counts, a health check too, and the port is
                closed after the last
@@ -88,8 +97,8 @@ fn replay_command<'a>(alloc: Global) -> Result<Command<'a>, AllocError>
     with_options(alloc, named, &[seats])
 }
 
-/// `serve --active P [--preview P] --control P [--preview-concurrency M] [--redispatch] [--endpoint-limit M]`, with
-/// `--workers N` or `--concurrency N`, and `--count K` or `--forever`. The flags say which of each two is required.
+/// `serve --active P [--preview P] --control P [--preview-concurrency M] [--redispatch] [--endpoint-limit M]
+/// [--abort-on-close] [--shutdown-grace S]`, with `--workers N` or `--concurrency N`, and `--count K` or `--forever`. The flags say which of each two is required.
 fn serve_command<'a>(alloc: Global, flags: Flags) -> Result<Command<'a>, AllocError>
     ensures app { IfOk result (λ c. app_of c ≡ serve_app flags) }
     ensures local { IfOk result (λ c. (fields_of c).has_globals ≡ false) }

@@ -37,8 +37,8 @@ pub struct Flags {
     pub concurrency: bool,
 }
 
-/// The ports at which `serve` takes connections, how many connections and requests each takes, and how an endpoint
-/// is chosen. Ports are from 1 to 65535.
+/// The ports at which `serve` takes connections, how many connections and requests each takes, how an endpoint
+/// is chosen, and how clients are treated that leave or are silent. Ports are from 1 to 65535.
 #[derive(Clone, Copy, Debug, Drop, PartialEq, Eq)]
 pub struct ServeSettings {
     /// The port of the active service.
@@ -59,6 +59,11 @@ pub struct ServeSettings {
     /// of a server), 1 to 1,023; `None` stands for twice an equal part of the requests at a time, but at most half of
     /// them. It has no effect unless `redispatch` holds.
     pub endpoint_limit: Option<u16>,
+    /// Whether a request ends if its client has only ended its input (HAProxy's `option abortonclose`). If not, it ends
+    /// only if its client resets the connection.
+    pub abort_on_close: bool,
+    /// The number of seconds, 1 to 60, for which a graceful shutdown keeps connections that have sent nothing.
+    pub shutdown_grace: u8,
     /// The number of connections that each worker takes.
     pub connections: Connections,
 }

@@ -1,7 +1,7 @@
 //! The options of `serve`.
 ghost use Rattle.std.specs.Prelude.{◌≡◌, fold, map};
 ghost use Rattle.clap.specs.Words.{App, with_rule};
-ghost use Rattle.bg_command_line.specs.CommandLine.{option_rule, with_connection_rules, with_endpoint_rules, with_port_rules, with_worker_rules};
+ghost use Rattle.bg_command_line.specs.CommandLine.{option_rule, with_client_rules, with_connection_rules, with_endpoint_rules, with_port_rules, with_worker_rules};
 
 use crate::command_option::CommandOption;
 use crate::invocation::Flags;
@@ -11,12 +11,16 @@ const GREATEST_PORT: u64 = 65_535;
 /// How many requests a port may forward at a time, or an endpoint get.
 const MOST_REQUESTS: u64 = 1_023;
 
+/// For how many seconds a shutdown may keep silent clients: it lasts for no longer itself.
+const MOST_GRACE: u64 = 60;
+
 /// The options of `serve`: `--active P [--preview P] --control P`; `--workers N`, `--concurrency N` and
-/// `[--preview-concurrency M]`; `[--redispatch] [--endpoint-limit M]`; `--count K` and `--forever`. The flags say which
-/// of `--workers` and `--concurrency` is required, and which of `--count` and `--forever`.
-pub(crate) fn serve_options<'a>(flags: Flags) -> [CommandOption<'a>; 10]
+/// `[--preview-concurrency M]`; `[--redispatch] [--endpoint-limit M]`; `[--abort-on-close] [--shutdown-grace S]`;
+/// `--count K` and `--forever`. The flags say which of `--workers` and `--concurrency` is required, and which of `--count`
+/// and `--forever`.
+pub(crate) fn serve_options<'a>(flags: Flags) -> [CommandOption<'a>; 12]
     ensures { (before : App) → fold with_rule before (map option_rule result) ≡ with_connection_rules flags.forever
-        (with_endpoint_rules (with_worker_rules flags.concurrency (with_port_rules before))) }
+        (with_client_rules (with_endpoint_rules (with_worker_rules flags.concurrency (with_port_rules before)))) }
 {
     [
         CommandOption {
@@ -66,6 +70,18 @@ pub(crate) fn serve_options<'a>(flags: Flags) -> [CommandOption<'a>; 10]
             most: Some(MOST_REQUESTS),
             required: false,
             help: "How many requests at a time an endpoint gets while another one of its revision is free, 1 to 1023; twice an equal part of all, but at most half, where it isn't given; has no effect without --redispatch",
+        },
+        CommandOption {
+            name: "abort-on-close",
+            most: None,
+            required: false,
+            help: "A request ends once its client has ended its input, as if the client had reset the connection",
+        },
+        CommandOption {
+            name: "shutdown-grace",
+            most: Some(MOST_GRACE),
+            required: false,
+            help: "For how many seconds a graceful shutdown keeps clients that have sent nothing, 1 to 60; 1 where it isn't given",
         },
         CommandOption {
             name: "count",

@@ -13,12 +13,15 @@ use std::alloc::Global;
 /// The number of seats of a replay if `--seats` is not given.
 const DEFAULT_SEATS: u8 = 4;
 
+/// The number of seconds for which a shutdown keeps silent clients if `--shutdown-grace` is not given.
+const DEFAULT_GRACE: u8 = 1;
+
 /// Reads the program's words. The first word is the program's name. The others are `check`; `replay
 /// [--seats N]` with N from 1 to 8, and 4 seats if no number is given; or `serve --active P [--preview
 /// P] --control P` with ports from 1 to 65535, either `--workers N` with N from 1 to 7 or `--concurrency N`
 /// with N from 1 to 1023, and either `--count K` with K from 1 to 1,000,000 or `--forever`. `serve` also takes
-/// `--preview-concurrency M` and `--endpoint-limit M` with M from 1 to 1023, and `--redispatch`. A value may also
-/// follow its option after `=`, in the same word.
+/// `--preview-concurrency M` and `--endpoint-limit M` with M from 1 to 1023, `--redispatch`, `--abort-on-close`, and
+/// `--shutdown-grace S` with S from 1 to 60. A value may also follow its option after `=`, in the same word.
 ///
 /// The error is `Words` only if `clap` refuses the words, if they ask for help or for the version, or if
 /// both `--count` and `--forever` are given, or both `--workers` and `--concurrency`. It is `OutOfMemory` if an
@@ -166,6 +169,8 @@ fn serve_of(flags: Flags, matches: &ArgMatches) -> Invocation
         preview_workers: preview_workers_of(flags.concurrency, workers, matches),
         redispatch: has_flag(matches, "redispatch"),
         endpoint_limit: endpoint_limit_of(matches),
+        abort_on_close: has_flag(matches, "abort-on-close"),
+        shutdown_grace: shutdown_grace_of(matches),
         connections: connections_of(flags.forever, matches),
     })
 }
@@ -216,6 +221,18 @@ fn endpoint_limit_of(matches: &ArgMatches) -> Option<u16>
     match argument_text(matches, "endpoint-limit") {
         Some(text) => Some(requests_in(text)),
         None => None,
+    }
+}
+
+/// For how many seconds a shutdown keeps silent clients.
+fn shutdown_grace_of(matches: &ArgMatches) -> u8
+    requires { IsIn 1 60 (codes "shutdown-grace") (rows_of (found_of matches.now)) }
+    ensures value { result ≡ unwrap_or (number_of (codes "shutdown-grace") (rows_of (found_of matches.now))) 1 }
+    ensures range { IsBetween 1 60 result }
+{
+    match argument_text(matches, "shutdown-grace") {
+        Some(text) => grace_in(text),
+        None => DEFAULT_GRACE,
     }
 }
 
@@ -286,6 +303,14 @@ fn requests_in(text: &str) -> u16
     ensures range { IsBetween 1 1023 result }
 {
     text.parse::<u16>().unwrap()
+}
+
+fn grace_in(text: &str) -> u8
+    requires { IsUnsignedIn 1 60 text.now }
+    ensures value { result ≡ number text.now }
+    ensures range { IsBetween 1 60 result }
+{
+    text.parse::<u8>().unwrap()
 }
 
 fn count_in(text: &str) -> u32

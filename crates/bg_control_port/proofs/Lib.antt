@@ -1,3 +1,4 @@
+pub mod Admitting
 pub mod AheadLemmas
 pub mod Bounded
 pub mod Firsts

@@ -1,3 +1,4 @@
+pub mod Admissions
 pub mod Ahead
 pub mod Bounds
 pub mod Fronts

@@ -1,5 +1,6 @@
 //! The listener of the port.
 
+use bg_sockets::set_backlog;
 use std::io;
 use std::io::ErrorKind;
 use std::net::{TcpListener, TcpStream};
@@ -18,9 +19,10 @@ pub struct Acceptor {
 }
 
 impl Acceptor {
-    /// An acceptor over this listener.
+    /// An acceptor over this listener, which gets the backlog of the ports. An error if it cannot be made non-blocking.
     pub fn new(listener: TcpListener) -> io::Result<Acceptor> {
         listener.set_nonblocking(true)?;
+        set_backlog(&listener);
         Ok(Acceptor {
             listener,
             due: None,

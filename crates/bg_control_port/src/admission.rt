@@ -1,6 +1,8 @@
 //! Which connections are served.
+ghost use Rattle.std.specs.Prelude.{◌≡◌, IfOk, Some, map};
+ghost use Rattle.bg_control_port.specs.Admissions.{AreListed, AreServed, served, served_of, served_to_all};
 
-use bg_peers::{PeerTable, Users};
+use bg_peers::{PeerLookup, Users};
 use bg_sockets::{receive_now, send_now};
 use std::alloc::{AllocError, Global};
 use std::net::TcpStream;
@@ -29,51 +31,79 @@ pub struct Admitted {
 
 impl Admission {
     /// The admission of these users; `None` stands for all users.
-    pub fn new(alloc: Global, operators: Option<Users>) -> Admission {
+    pub fn new(alloc: Global, operators: Option<Users>) -> Admission
+        ensures { result.operators ≡ operators }
+    {
         Admission { alloc, operators }
     }
 
-    /// Those of these connections that are served. The others are told that they are not allowed, and closed. The
-    /// system's table of sockets is read once for all of them, and once more if it does not have one of them, since it
-    /// may change during a read. The only error is an allocation failure, after which none of them is served.
-    pub fn admit(&self, arrived: Vec<TcpStream>) -> Result<Vec<Admitted>, AllocError> {
+    /// Those of these connections that are served, in their order: all if all users are served, and otherwise those of
+    /// which two reads of the look-up, one after the other, tell the same listed user ([`Users::confirmed`]). The others are
+    /// told that they are not allowed, and closed. The only error is an allocation failure, after which none of them is
+    /// served.
+    pub fn admit<L: PeerLookup<TcpStream>>(
+        &self,
+        lookup: &mut L,
+        arrived: Vec<TcpStream>,
+    ) -> Result<Vec<Admitted>, AllocError>
+        ensures listed { IfOk result (λ admitted. AreListed self.now.operators admitted.items) }
+        ensures served { IfOk result (λ admitted.
+            AreServed L.tells self.now.operators lookup.old lookup.new arrived.items admitted.items) }
+    {
         match &self.operators {
-            Some(operators) => self.admit_listed(operators, arrived),
+            Some(operators) => self.admit_listed(operators, lookup, arrived),
             None => self.admit_all(arrived),
         }
     }
 
-    fn admit_all(&self, arrived: Vec<TcpStream>) -> Result<Vec<Admitted>, AllocError> {
-        let mut admitted = Vec::new(self.alloc);
-        for stream in arrived {
-            admitted.push(Admitted { stream, user: None })?;
-        }
-        Ok(admitted)
+    fn admit_all(&self, arrived: Vec<TcpStream>) -> Result<Vec<Admitted>, AllocError>
+        ensures { IfOk result (λ admitted. admitted.items ≡ map served_to_all arrived.items) }
+    {
+        arrived
+            .into_iter()
+            .map(|stream| Admitted { stream, user: None })
+            .collect(self.alloc)
     }
 
-    fn admit_listed(
+    fn admit_listed<L: PeerLookup<TcpStream>>(
         &self,
         operators: &Users,
+        lookup: &mut L,
         arrived: Vec<TcpStream>,
-    ) -> Result<Vec<Admitted>, AllocError> {
-        let mut admitted = Vec::new(self.alloc);
-        let Some(first) = arrived.first() else {
-            return Ok(admitted);
-        };
-        let mut table = PeerTable::read(self.alloc, first)?;
-        if !table.has_all(&arrived)? {
-            table = PeerTable::read(self.alloc, first)?;
-        }
-        for stream in arrived {
-            let user = table.user_of(&stream)?;
-            if operators.has_peer_user(user) {
-                admitted.push(Admitted { stream, user })?;
-            } else {
-                refuse(&stream);
-            }
-        }
-        Ok(admitted)
+    ) -> Result<Vec<Admitted>, AllocError>
+        ensures listed { IfOk result (λ admitted. AreListed (Some operators.now) admitted.items) }
+        ensures served { IfOk result (λ admitted.
+            AreServed L.tells (Some operators.now) lookup.old lookup.new arrived.items admitted.items) }
+    {
+        let users = operators.confirmed(self.alloc, lookup, &arrived)?;
+        self.serve_confirmed(arrived, users)
     }
+
+    /// Serves the connections that have a user, and refuses the others.
+    fn serve_confirmed(
+        &self,
+        arrived: Vec<TcpStream>,
+        users: Vec<Option<u32>>,
+    ) -> Result<Vec<Admitted>, AllocError>
+        ensures { IfOk result (λ admitted. admitted.items ≡ served_of arrived.items users.items) }
+    {
+        arrived
+            .into_iter()
+            .zip(users)
+            .filter_map(|(stream, user)| serve_or_refuse(stream, user))
+            .collect(self.alloc)
+    }
+}
+
+/// The connection with its user; without a user, it is refused.
+fn serve_or_refuse(stream: TcpStream, user: Option<u32>) -> Option<Admitted>
+    ensures { result ≡ served stream user }
+{
+    if user.is_none() {
+        refuse(&stream);
+        return None;
+    }
+    Some(Admitted { stream, user })
 }
 
 /// Tells a connection that it is not served. What has arrived of its line is read before it is closed, since a

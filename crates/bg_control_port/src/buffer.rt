@@ -12,7 +12,7 @@ use std::marker::Model;
 const LONGEST_LINE: usize = 4098;
 
 /// What is at the front of the input.
-#[derive(Clone, Copy, Debug, Drop, PartialEq, Eq)]
+#[derive(Clone, Copy, Drop, PartialEq, Eq)]
 pub enum Front {
     /// A whole line of this many bytes, with its line end.
     Line(usize),
@@ -23,7 +23,7 @@ pub enum Front {
 }
 
 /// A line that can be given.
-#[derive(Clone, Copy, Debug, Drop, PartialEq, Eq)]
+#[derive(Clone, Copy, Drop, PartialEq, Eq)]
 pub enum WholeLine {
     /// The first bytes of the input, this many.
     First(usize),

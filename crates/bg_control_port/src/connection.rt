@@ -31,7 +31,7 @@ pub enum Stage {
 }
 
 /// What a connection waits for.
-#[derive(Clone, Copy, Debug, Drop, PartialEq, Eq)]
+#[derive(Clone, Copy, Drop, PartialEq, Eq)]
 pub enum Interest {
     /// Bytes can be read.
     Input,
@@ -40,7 +40,7 @@ pub enum Interest {
 }
 
 /// When a step happens.
-#[derive(Clone, Copy, Debug, Drop, PartialEq, Eq)]
+#[derive(Clone, Copy, Drop, PartialEq, Eq)]
 pub struct Moment {
     /// In milliseconds from the start of the port.
     pub now: u64,

@@ -10,7 +10,7 @@ use crate::priority::LinePriority;
 use crate::readiness::{MOST_READY, Readiness, Ready};
 use crate::reply::Reply;
 use crate::turn::Precedence;
-use bg_peers::Users;
+use bg_peers::{SystemLookup, Users};
 use bg_sockets::{PortClock, descriptor_limits};
 use std::alloc::Global;
 use std::io;
@@ -59,8 +59,8 @@ impl ControlPort {
     /// connections. An error if this allocation or the clock fails, if the system cannot create an epoll set or
     /// watch the listener, or if the listener cannot be made non-blocking.
     ///
-    /// A connection of another user, and one of which the system does not tell the user ([`bg_peers::PeerTable::user_of`]), is
-    /// sent `refused NotAllowed` and closed. No line of it is given.
+    /// A connection of another user, and one whose user two reads of the system's list of sockets do not confirm
+    /// ([`Users::confirmed`]), is sent `refused NotAllowed` and closed. No line of it is given.
     pub fn new<R: Clock>(
         rt: &R,
         alloc: Global,
@@ -265,7 +265,8 @@ impl State {
     /// Keeps those of these connections that are served, and returns their number. Each takes the place of another one if
     /// there is no room. Without memory, none of them is served.
     fn keep_served(&mut self, arrived: Vec<TcpStream>, readiness: &Readiness, now: u64) -> usize {
-        let Ok(admitted) = self.admission.admit(arrived) else {
+        let mut lookup = SystemLookup::new(self.alloc);
+        let Ok(admitted) = self.admission.admit(&mut lookup, arrived) else {
             return 0;
         };
         let count = admitted.len();

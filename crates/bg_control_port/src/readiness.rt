@@ -15,7 +15,7 @@ const LISTENER: u64 = u64::MAX;
 pub const MOST_READY: usize = 64;
 
 /// What is ready.
-#[derive(Clone, Copy, Debug, Drop, PartialEq, Eq)]
+#[derive(Clone, Copy, Drop, PartialEq, Eq)]
 pub enum Ready {
     /// Connections may be accepted.
     Listener,

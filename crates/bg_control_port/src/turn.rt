@@ -7,7 +7,7 @@ ghost use Rattle.bg_control_port.specs.Turns.{first_so_far, goes_before, precede
 const MOST_URGENT_IN_A_ROW: u32 = 16;
 
 /// An order of connections.
-#[derive(Clone, Copy, Debug, Drop, PartialEq, Eq)]
+#[derive(Clone, Copy, Drop, PartialEq, Eq)]
 pub enum Precedence {
     /// That in which their lines are given. Urgent lines are ahead.
     Lines,
@@ -19,7 +19,7 @@ pub enum Precedence {
 }
 
 /// A place in an order.
-#[derive(Clone, Copy, Debug, Drop, PartialEq, Eq)]
+#[derive(Clone, Copy, Drop, PartialEq, Eq)]
 pub struct Place {
     /// Whether it goes before the places of which this is false.
     pub is_ahead: bool,

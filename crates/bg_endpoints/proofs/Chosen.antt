@@ -2,8 +2,8 @@
 use Rattle.std.proofs.Common.{◌≡◌, ℕ, Bool, true, false, cond, ◌&&◌, List, [], ◌∷◌, Option, Some, None, IfSome, refl, drop, take}
 use Rattle.std.specs.List.{find}
 use Rattle.std.specs.Option.{option_or}
-use Rattle.bg_endpoints.specs.Choices.{chosen, chosen_by, first_from, free_criteria, is_new, passes, place_of}
-use Rattle.bg_endpoints.specs.Lists.{listed, only_list}
+use Rattle.bg_endpoints.specs.Choices.{chosen, chosen_by, first_by, free_criteria, is_new, passes}
+use Rattle.bg_endpoints.specs.Lists.{listed, only_list, place_of}
 use Rattle.bg_endpoints.specs.declared.port_lists.PortList.{PortList}
 use Rattle.bg_endpoints.specs.declared.table.Choice.{Choice}
 use Rattle.bg_endpoints.specs.declared.table.Choice.TheVariants as choice
@@ -27,24 +27,26 @@ weaken : (P Q : ℕ → Type 0) → ((x : ℕ) → P x → Q x) → (o : Option 
 weaken P Q f None h = tt
 weaken P Q f (Some x) h = f x h
 
-first_of_three : (a b c : Bool) → (a && b && c) ≡ true → a ≡ true
-first_of_three true b c h = refl
-first_of_three false b c h = h
+first_of_four : (a b c d : Bool) → (a && b && c && d) ≡ true → a ≡ true
+first_of_four true b c d h = refl
+first_of_four false b c d h = h
 
 module _ (t : Table) (ticket : ℕ) (tried : List ℕ) where
-  -- a port that was tried is not chosen from a list
-  first_once : (criteria : Criteria) (ports : List ℕ)
-      → IfSome (first_from ticket (passes t tried criteria) ports) (λ port. is_new port tried ≡ true)
-  first_once criteria ports =
-      let test : ℕ → Bool = passes t tried criteria in
-      weaken (λ port. test port ≡ true) (λ port. is_new port tried ≡ true)
-      (λ port h. first_of_three _ _ _ h) (first_from ticket test ports)
-      (either (λ port. test port ≡ true) (find test (drop (place_of ticket ports) ports))
-      (find test (take (place_of ticket ports) ports))
-      (found test (drop (place_of ticket ports) ports)) (found test (take (place_of ticket ports) ports)))
+  abbrev new : ℕ → Type 0
+  new port = is_new port tried ≡ true
 
-  by_once : (now : ℕ) (own : Option PortList)
-      → IfSome (chosen_by t ticket tried now own) (λ port. is_new port tried ≡ true)
+  -- a port that was tried is not chosen from a list
+  first_once : (l : PortList) (criteria : Criteria) → IfSome (first_by t l tried criteria) new
+  first_once l criteria =
+      let test : ℕ → Bool = passes t l tried criteria in
+      let ports = l.ports.items in
+      let place = place_of criteria.ticket ports in
+      weaken (λ port. test port ≡ true) new
+      (λ port h. first_of_four _ _ _ _ h) (first_by t l tried criteria)
+      (either (λ port. test port ≡ true) (find test (drop place ports)) (find test (take place ports))
+      (found test (drop place ports)) (found test (take place ports)))
+
+  by_once : (now : ℕ) (own : Option PortList) → IfSome (chosen_by t ticket tried now own) new
   by_once now None =
       (elim (is_new ticket tried) as (λ b. is_new ticket tried ≡ b
       → IfSome (cond b (Some ticket) None) (λ port. is_new port tried ≡ true)) [
@@ -52,14 +54,12 @@ module _ (t : Table) (ticket : ℕ) (tried : List ℕ) where
         | false ↦ λ e. tt
       ]) refl
   by_once now (Some l) =
-      let criteria : Choice → Criteria = λ c. record (free_criteria t now l) { choice = c } in
-      let ports = l.ports.items in
-      let new : ℕ → Type 0 = λ port. is_new port tried ≡ true in
-      let first : Choice → Option ℕ = λ c. first_from ticket (passes t tried (criteria c)) ports in
+      let criteria : Choice → Criteria = λ c. record (free_criteria t ticket now l) { choice = c } in
+      let first : Choice → Option ℕ = λ c. first_by t l tried (criteria c) in
       either new (option_or (first choice.Free) (first choice.Unmarked)) (first choice.Any)
       (either new (first choice.Free) (first choice.Unmarked)
-      (first_once (criteria choice.Free) ports) (first_once (criteria choice.Unmarked) ports))
-      (first_once (criteria choice.Any) ports)
+      (first_once l (criteria choice.Free)) (first_once l (criteria choice.Unmarked)))
+      (first_once l (criteria choice.Any))
 
   -- a port that was tried is not chosen
   pub chosen_once : (now : ℕ) → IfSome (chosen t ticket tried now) (λ port. is_new port tried ≡ true)

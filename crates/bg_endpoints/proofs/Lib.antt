@@ -1,1 +1,4 @@
 pub mod Chosen
+pub mod InTurn
+pub mod Left
+pub mod WorkedChoices

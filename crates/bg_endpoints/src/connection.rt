@@ -1,4 +1,5 @@
 //! The connection to an endpoint.
+ghost use Rattle.std.specs.Prelude.{◌≡◌, IfOk, None, Some};
 ghost use Rattle.std.specs.Io.{ReadsAtMost, WritesAtMost};
 
 use crate::counted_request::CountedRequest;
@@ -56,7 +57,9 @@ impl<'a, C: Clock + Wait> EndpointConnection<'a, C> {
         timeout: ResponseTimeout,
         start: Instant,
         left: Duration,
-    ) -> Result<EndpointConnection<'a, C>, ConnectFault> {
+    ) -> Result<EndpointConnection<'a, C>, ConnectFault>
+        ensures { IfOk result (λ stream. stream.unread ≡ None) }
+    {
         let idle_reads = timeout.idle_seconds();
         let write_wait = left.min(Duration::from_secs(CONNECT_SECONDS));
         let read_wait = left.min(Duration::from_secs(READ_WAIT_SECONDS));
@@ -74,7 +77,9 @@ impl<'a, C: Clock + Wait> EndpointConnection<'a, C> {
     }
 
     /// Counts the request at its port until the connection is dropped.
-    pub(crate) fn count(&mut self, counted: CountedRequest<'a, C>) {
+    pub(crate) fn count(&mut self, counted: CountedRequest<'a, C>)
+        ensures { self.new ≡ record self.old { counted = Some counted.entry } }
+    {
         self.counted = Some(counted);
     }
 

@@ -1,6 +1,7 @@
 //! A request that is counted at a port.
-ghost use Rattle.std.specs.Prelude.{◌≡◌, true, IfSome};
+ghost use Rattle.std.specs.Prelude.{◌≡◌, ◌≢◌, [], true, IfSome, IfNone};
 ghost use Rattle.bg_endpoints.specs.Choices.{is_new};
+ghost use Rattle.bg_endpoints.specs.Routing.{IsChosen};
 
 use crate::directory::{Directory, Health};
 use std::sync::Wait;
@@ -16,14 +17,16 @@ pub(crate) struct CountedRequest<'a, R: Clock + Wait> {
 
 impl<'a, R: Clock + Wait> CountedRequest<'a, R> {
     /// Chooses the port that is dialled next for a ticket's port, after those that were tried, and counts a
-    /// request there. `None` if no port is left.
+    /// request there. `None` if no port is left; one is left if none was tried.
     pub(crate) fn begin(
         rt: &'a R,
         directory: &'a Directory,
         ticket: u16,
         tried: &[u16],
     ) -> Option<CountedRequest<'a, R>>
-        ensures { IfSome result (λ counted. is_new counted.port tried.now ≡ true) }
+        ensures chosen { IfSome result (λ counted. IsChosen ticket tried.now counted.port) }
+        ensures once { IfSome result (λ counted. is_new counted.port tried.now ≡ true) }
+        ensures left { IfNone result (tried.now ≢ []) }
     {
         let port = directory.begin(rt, ticket, tried)?;
         Some(CountedRequest {
@@ -35,7 +38,9 @@ impl<'a, R: Clock + Wait> CountedRequest<'a, R> {
     }
 
     /// The port.
-    pub(crate) fn port(&self) -> u16 {
+    pub(crate) fn port(&self) -> u16
+        ensures { result ≡ self.now.port }
+    {
         self.port
     }
 

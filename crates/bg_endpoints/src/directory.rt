@@ -1,6 +1,7 @@
 //! The endpoints of the revisions, which the workers and the operators share.
-ghost use Rattle.std.specs.Prelude.{◌≡◌, true, IfSome};
+ghost use Rattle.std.specs.Prelude.{◌≡◌, ◌≢◌, [], true, IfSome, IfNone};
 ghost use Rattle.bg_endpoints.specs.Choices.{is_new};
+ghost use Rattle.bg_endpoints.specs.Routing.{IsChosen};
 ghost use Rattle.bg_endpoints.specs.Healths.{after_request};
 
 use crate::port_lists::PortLists;
@@ -12,7 +13,7 @@ use std::sync::{Mutex, Wait};
 use std::time::{Clock, Instant};
 
 /// How a port took a request.
-#[derive(Clone, Copy, Debug, Drop, PartialEq, Eq)]
+#[derive(Clone, Copy, Drop, PartialEq, Eq)]
 pub(crate) enum Health {
     /// It has sent nothing yet.
     Unknown,
@@ -50,16 +51,20 @@ impl Directory {
         self.table.lock(rt).set_lists(lists);
     }
 
-    /// Takes these ports as those that are down, in place of those before. A port that is down is dialled only
-    /// if all other ports of its list are down, marked, or were dialled for the same request.
+    /// Takes these ports as those that are down, in place of those before. If N endpoints of a list are available,
+    /// the first N ports that are not down take the requests. A port that is down is dialled only if it is the
+    /// ticket's or one of the first N, and all others that take part are down, marked, or were dialled for the same
+    /// request.
     pub fn set_down<R: Wait>(&self, rt: &R, ports: Vec<u16>) {
         self.table.lock(rt).set_down(ports);
     }
 
     /// Chooses the port that is dialled next for a ticket's port, after those that were tried, and counts a
-    /// request there. `None` if no port is left.
+    /// request there. `None` if no port is left; one is left if none was tried.
     pub(crate) fn begin<R: Wait + Clock>(&self, rt: &R, ticket: u16, tried: &[u16]) -> Option<u16>
-        ensures { IfSome result (λ port. is_new port tried.now ≡ true) }
+        ensures chosen { IfSome result (λ port. IsChosen ticket tried.now port) }
+        ensures once { IfSome result (λ port. is_new port tried.now ≡ true) }
+        ensures left { IfNone result (tried.now ≢ []) }
     {
         let now = self.millis(rt);
         let mut table = self.table.lock(rt);

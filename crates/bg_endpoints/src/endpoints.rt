@@ -1,33 +1,22 @@
 //! Connections to endpoints.
-ghost use Rattle.std.specs.Prelude.{◌≡◌, ◌<◌};
-ghost use Rattle.bg_endpoints.specs.Routing.{IsRoute};
+ghost use Rattle.std.specs.Prelude.{◌≡◌, IfOk, None};
+ghost use Rattle.std.specs.Option.{IsSomeAnd};
+ghost use Rattle.bg_endpoints.specs.Routing.{IsChosen, IsInTurn, IsRoute};
 
 use crate::connection::EndpointConnection;
 use crate::counted_request::CountedRequest;
 use crate::directory::Directory;
+use crate::in_turn::{Attempt, DialNext, dial_in_turn};
 use crate::own_ports::OwnPorts;
 use crate::response_timeout::ResponseTimeout;
 use crate::sockets::ConnectFault;
 use crate::time_left::time_left;
-use bg_forward::{Dial, Dialled, Route};
+use bg_dial::{Dial, Dialled};
 use std::io;
 use std::io::ErrorKind;
 use std::net::Net;
 use std::sync::Wait;
 use std::time::{Clock, Duration, Instant};
-
-/// The maximum number of ports that are dialled for a request.
-const MOST_TRIES: u32 = 65_535;
-
-/// The dials for a request after the first one has failed.
-#[derive(Clone, Copy, Drop)]
-struct Redispatch<'a> {
-    directory: &'a Directory,
-    /// The port of the request's ticket.
-    ticket: u16,
-    /// When the response timeout began.
-    start: Instant,
-}
 
 /// Opens connections to endpoints, which are ports of 127.0.0.1.
 #[derive(Drop)]
@@ -62,7 +51,9 @@ impl<'a, R: Net + Clock + Wait> Endpoints<'a, R> {
         port: u16,
         start: Instant,
         left: Duration,
-    ) -> Result<EndpointConnection<'a, R>, ConnectFault> {
+    ) -> Result<EndpointConnection<'a, R>, ConnectFault>
+        ensures { IfOk result (λ stream. stream.unread ≡ None) }
+    {
         if self.own.is_own(port) {
             return Err(ConnectFault::Failed(io::Error::from(ErrorKind::InvalidInput)));
         }
@@ -80,98 +71,57 @@ impl<'a, R: Net + Clock + Wait> Endpoints<'a, R> {
 }
 
 impl<'a, R: Net + Clock + Wait> Endpoints<'a, R> {
-    /// Connects to the ports that the directory chooses, one after the other, until one connects. Each is dialled
-    /// once. The error is that of the first dial.
+    /// Connects to the ports that the directory chooses, one after the other, each once, until one connects. The
+    /// error is that of the first dial. Nothing is written to a connection.
     fn dial_by_directory(
         &self,
         directory: &'a Directory,
         ticket: u16,
     ) -> Dialled<EndpointConnection<'a, R>>
-        ensures { 0 < result.route.tries }
+        ensures { IsInTurn (IsChosen ticket) result.route }
     {
-        let (start, counted) = match (
-            Instant::now(self.rt),
-            CountedRequest::begin(self.rt, directory, ticket, &[]),
-        ) {
-            (Ok(start), Some(counted)) => (start, counted),
-            _ => return Dialled::once(ticket, self.dial_one(ticket)),
+        let dials = DirectoryDials {
+            endpoints: self,
+            directory,
+            ticket,
+            start: Instant::now(self.rt),
         };
-        let first = counted.port();
-        match self.dial_at(counted, start) {
-            Ok(connection) => Dialled::once(first, Ok(connection)),
-            Err(ConnectFault::NoSocket(error)) => Dialled::once(first, Err(error)),
-            Err(ConnectFault::Failed(error)) => {
-                let redispatch = Redispatch {
-                    directory,
-                    ticket,
-                    start,
-                };
-                self.dial_others(redispatch, first, error)
-            }
-        }
+        dial_in_turn(&dials, directory.alloc)
     }
 
-    /// Connects to the ports that the directory chooses after the first one, until one connects. `error` is that
-    /// of the first dial, and the result's if no port connects. The dials end early if no socket or no memory is
-    /// left, or no time of the response timeout.
-    fn dial_others(
-        &self,
-        redispatch: Redispatch<'a>,
-        first: u16,
-        error: io::Error,
-    ) -> Dialled<EndpointConnection<'a, R>>
-        ensures { 0 < result.route.tries }
-    {
-        let mut tried = Vec::new(redispatch.directory.alloc);
-        let mut route = Route {
-            port: first,
-            tries: 1,
-        };
-        for _ in 0..MOST_TRIES {
-            if tried.push(route.port).is_err() {
-                break;
-            }
-            let next = CountedRequest::begin(
-                self.rt,
-                redispatch.directory,
-                redispatch.ticket,
-                &tried,
-            );
-            let Some(counted) = next else {
-                break;
-            };
-            let next = Route {
-                port: counted.port(),
-                tries: route.tries.saturating_add(1),
-            };
-            match self.dial_at(counted, redispatch.start) {
-                Ok(connection) => {
-                    return Dialled {
-                        route: next,
-                        stream: Ok(connection),
-                    };
-                }
-                Err(ConnectFault::Failed(_)) => route = next,
-                Err(ConnectFault::NoSocket(_)) => break,
-            }
-        }
-        Dialled {
-            route,
-            stream: Err(error),
-        }
+    /// What is left of the response timeout that began at `start`; `TimedOut` if nothing is left.
+    fn left_since(&self, start: Instant) -> io::Result<Duration> {
+        let elapsed = start.elapsed(self.rt)?;
+        time_left(Duration::from_secs(self.timeout.seconds), elapsed)
     }
+}
 
+/// The dials for a request by a directory.
+#[derive(Drop)]
+struct DirectoryDials<'e, 'a, R: Net + Clock + Wait> {
+    endpoints: &'e Endpoints<'a, R>,
+    directory: &'a Directory,
+    /// The port of the request's ticket.
+    ticket: u16,
+    /// When the response timeout began.
+    start: io::Result<Instant>,
+}
+
+impl<'a, R: Net + Clock + Wait> DirectoryDials<'_, 'a, R> {
     /// Connects to the port at which a request is counted, within what is left of the response timeout.
     fn dial_at(
         &self,
         mut counted: CountedRequest<'a, R>,
-        start: Instant,
-    ) -> Result<EndpointConnection<'a, R>, ConnectFault> {
-        let left = match self.left_since(start) {
-            Ok(left) => left,
+    ) -> Result<EndpointConnection<'a, R>, ConnectFault>
+        ensures unwritten { IfOk result (λ stream. stream.unread ≡ None) }
+        ensures counted { IfOk result (λ stream.
+            IsSomeAnd stream.counted (λ own. own.port ≡ counted.entry.port)) }
+    {
+        let (start, left) = match self.times() {
+            Ok(times) => times,
             Err(error) => return Err(ConnectFault::NoSocket(error)),
         };
-        match self.connect(counted.port(), start, left) {
+        match self.endpoints.connect(counted.port(), start, left) {
             Ok(mut connection) => {
                 connection.count(counted);
                 Ok(connection)
@@ -184,10 +134,34 @@ impl<'a, R: Net + Clock + Wait> Endpoints<'a, R> {
         }
     }
 
-    /// What is left of the response timeout that began at `start`; `TimedOut` if nothing is left.
-    fn left_since(&self, start: Instant) -> io::Result<Duration> {
-        let elapsed = start.elapsed(self.rt)?;
-        time_left(Duration::from_secs(self.timeout.seconds), elapsed)
+    /// When the response timeout began, and what is left of it.
+    fn times(&self) -> io::Result<(Instant, Duration)> {
+        match &self.start {
+            Ok(start) => Ok((*start, self.endpoints.left_since(*start)?)),
+            Err(error) => Err(io::Error::from(error.kind())),
+        }
+    }
+}
+
+impl<'a, R: Net + Clock + Wait> DialNext for DirectoryDials<'_, 'a, R> {
+    ghost use Rattle.std.specs.Prelude.{◌≡◌, None};
+    ghost use Rattle.std.specs.Option.{IsSomeAnd};
+    ghost use Rattle.bg_endpoints.specs.Routing.{IsChosen};
+
+    ghost follows = { λ dials. IsChosen dials.ticket };
+
+    type Stream = EndpointConnection<'a, R>;
+
+    ghost gives = { λ port stream. (stream.unread ≡ None)
+        × IsSomeAnd stream.counted (λ counted. counted.port ≡ port) };
+
+    fn dial_next(&self, tried: &[u16]) -> Option<Attempt<EndpointConnection<'a, R>>> {
+        let counted = CountedRequest::begin(self.endpoints.rt, self.directory, self.ticket, tried)?;
+        let port = counted.port();
+        Some(Attempt {
+            port,
+            outcome: self.dial_at(counted),
+        })
     }
 }
 

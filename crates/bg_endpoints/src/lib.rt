@@ -5,6 +5,7 @@ mod connection;
 mod counted_request;
 mod directory;
 mod endpoints;
+mod in_turn;
 mod own_ports;
 mod port_lists;
 mod port_state;

@@ -9,7 +9,7 @@ const FIRST_PAUSE: u64 = 1_000;
 const LONGEST_PAUSE: u64 = 10_000;
 
 /// What is known of a port. Moments are milliseconds from the start of the program.
-#[derive(Clone, Copy, Debug, Drop, PartialEq, Eq)]
+#[derive(Clone, Copy, Drop, PartialEq, Eq)]
 pub(crate) struct PortState {
     pub(crate) port: u16,
     /// The number of requests that are at the port.

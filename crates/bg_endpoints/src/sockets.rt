@@ -24,7 +24,7 @@ const SOCKET_TRIES: u32 = 50;
 const SOCKET_PAUSE_MILLIS: u64 = 20;
 
 /// Why there is no connection.
-#[derive(Debug, Drop)]
+#[derive(Drop)]
 pub(crate) enum ConnectFault {
     /// The process has no socket for it. No port was asked.
     NoSocket(io::Error),

@@ -1,9 +1,9 @@
 //! Which port is dialled next.
-ghost use Rattle.std.specs.Prelude.{◌≡◌, ◌==◌, ◌<◌, ◌≤◌, true, not, IfSome, OnOk, count_by, filter, length};
-ghost use Rattle.std.specs.List.{find, list_any, position};
+ghost use Rattle.std.specs.Prelude.{◌≡◌, ◌≢◌, ◌==◌, [], true, not, IfSome, IfNone, OnOk, filter};
+ghost use Rattle.std.specs.List.{find, list_any};
 ghost use Rattle.std.specs.Option.{option_copied};
-ghost use Rattle.bg_endpoints.specs.Choices.{alone_choice, chosen, chosen_from, chosen_of, first_from, free_criteria};
-ghost use Rattle.bg_endpoints.specs.Choices.{is_down, is_healthy, is_new, passes, place_of};
+ghost use Rattle.bg_endpoints.specs.Choices.{allows, alone_choice, chosen, chosen_from, chosen_of, count_not_down, first_by};
+ghost use Rattle.bg_endpoints.specs.Choices.{free_criteria, is_down, is_healthy, is_new, is_up, passes, takes_part};
 ghost use Rattle.bg_endpoints.specs.States.{state_of, with_state};
 
 use crate::port_lists::{PortList, PortLists};
@@ -11,8 +11,8 @@ use crate::port_state::PortState;
 use crate::share::Share;
 use std::alloc::{AllocError, Global};
 
-/// Which ports may be taken. Each allows more than the one before.
-#[derive(Clone, Copy, Debug, Drop, PartialEq, Eq)]
+/// Which of the ports that take part may be taken. Each allows more than the one before.
+#[derive(Clone, Copy, Drop, PartialEq, Eq)]
 pub(crate) enum Choice {
     /// Neither marked nor down, and below the limit of requests.
     Free,
@@ -23,8 +23,10 @@ pub(crate) enum Choice {
 }
 
 /// What a port has to meet.
-#[derive(Clone, Copy, Debug, Drop)]
+#[derive(Clone, Copy, Drop)]
 pub(crate) struct Criteria {
+    /// The port of the request's ticket, which takes part.
+    pub(crate) ticket: u16,
     pub(crate) choice: Choice,
     /// The moment, in milliseconds from the start of the program.
     pub(crate) now: u64,
@@ -42,7 +44,7 @@ impl Criteria {
 }
 
 /// The lists of the revisions' ports, and what is known of the ports.
-#[derive(Debug, Drop)]
+#[derive(Drop)]
 pub(crate) struct Table {
     pub(crate) lists: PortLists,
     states: Vec<PortState>,
@@ -114,12 +116,17 @@ impl Table {
     }
 
     /// The port that is dialled next for a request whose ticket has the port `ticket`, after those that were
-    /// tried: the first one, from the ticket's on, of the ports of the only list that has it, wrapping round.
-    /// Free ports come first, then unmarked ones, and then all others. A port that two lists have is dialled only
-    /// for its own tickets, and no other port is dialled for these. `None` if no port is left.
+    /// tried: the first one, from the ticket's on, of the ports that take part of the only list that has it, wrapping
+    /// round. Free ports come first, then unmarked ones, and then all others. A port that two lists have is dialled
+    /// only for its own tickets, and no other port is dialled for these. `None` if no port is left; one is left if
+    /// none was tried.
+    ///
+    /// The ticket's port takes part. If N endpoints of its list are available, so do the first N ports, and the first
+    /// N ports that are not down. So a port beyond the first N takes part only in the place of one that is down.
     pub(crate) fn choose(&self, ticket: u16, tried: &[u16], now: u64) -> Option<u16>
         ensures choice { result ≡ chosen self.now ticket tried.now now }
         ensures once { IfSome result (λ port. is_new port tried.now ≡ true) }
+        ensures left { IfNone result (tried.now ≢ []) }
     {
         self.choose_by(ticket, tried, now)
     }
@@ -138,82 +145,104 @@ impl Table {
     fn choose_from(&self, list: &PortList, ticket: u16, tried: &[u16], now: u64) -> Option<u16>
         ensures { result ≡ chosen_from self.now ticket tried.now now list.now }
     {
-        let criteria = self.criteria_at(list, now);
-        self.choose_of(list.get(), ticket, tried, criteria)
+        let criteria = self.criteria_at(list, ticket, now);
+        self.choose_of(list, tried, criteria)
     }
 
     /// What a port of a list has to meet to be free.
-    fn criteria_at(&self, list: &PortList, now: u64) -> Criteria
-        ensures { result ≡ free_criteria self.now now list.now }
+    fn criteria_at(&self, list: &PortList, ticket: u16, now: u64) -> Criteria
+        ensures { result ≡ free_criteria self.now ticket now list.now }
     {
+        let up = self.count_not_down(list.get()).min(list.available());
         Criteria {
+            ticket,
             choice: Choice::Free,
             now,
-            limit: self.share.of(self.count_up(list.get())),
+            limit: self.share.of(up),
         }
     }
 
-    /// The choice from the ports of a list: a free port, or else an unmarked one, or else any.
-    fn choose_of(
-        &self,
-        ports: &[u16],
-        ticket: u16,
-        tried: &[u16],
-        criteria: Criteria,
-    ) -> Option<u16>
-        ensures { result ≡ chosen_of self.now ticket tried.now criteria ports.now }
+    /// The choice from a list: a free port, or else an unmarked one, or else any one that takes part.
+    fn choose_of(&self, list: &PortList, tried: &[u16], criteria: Criteria) -> Option<u16>
+        ensures { result ≡ chosen_of self.now list.now tried.now criteria }
     {
-        self.first(ports, ticket, tried, criteria.with(Choice::Free))
-            .or(self.first(ports, ticket, tried, criteria.with(Choice::Unmarked)))
-            .or(self.first(ports, ticket, tried, criteria.with(Choice::Any)))
+        self.first(list, tried, criteria.with(Choice::Free))
+            .or(self.first(list, tried, criteria.with(Choice::Unmarked)))
+            .or(self.first(list, tried, criteria.with(Choice::Any)))
     }
 
     /// The number of these ports that are not down.
-    fn count_up(&self, ports: &[u16]) -> usize
-        ensures { result ≡ count_by (λ port. not (is_down self.now port)) ports.now }
+    fn count_not_down(&self, ports: &[u16]) -> usize
+        ensures { result ≡ count_not_down self.now ports.now }
     {
         ports.iter().filter(|port| !self.is_down(**port)).count()
     }
 
-    /// The first of these ports that may be taken, from the ticket's on, wrapping round.
-    fn first(&self, ports: &[u16], ticket: u16, tried: &[u16], criteria: Criteria) -> Option<u16>
-        ensures { result ≡ first_from ticket
-            (λ port. passes self.now tried.now criteria port) ports.now }
+    /// The first port of a list that may be taken, from the ticket's on, wrapping round.
+    fn first(&self, list: &PortList, tried: &[u16], criteria: Criteria) -> Option<u16>
+        ensures { result ≡ first_by self.now list.now tried.now criteria }
     {
-        let place = place_of(ports, ticket);
-        self.find(&ports[place..], tried, criteria)
-            .or(self.find(&ports[..place], tried, criteria))
+        self.find(list.ports_from(criteria.ticket), list, tried, criteria)
+            .or(self.find(list.ports_before(criteria.ticket), list, tried, criteria))
     }
 
     /// The first of these ports that may be taken.
-    fn find(&self, ports: &[u16], tried: &[u16], criteria: Criteria) -> Option<u16>
-        ensures { result ≡ find (λ port. passes self.now tried.now criteria port) ports.now }
+    fn find(&self, ports: &[u16], list: &PortList, tried: &[u16], criteria: Criteria) -> Option<u16>
+        ensures { result ≡
+            find (λ port. passes self.now list.now tried.now criteria port) ports.now }
     {
-        self.found(ports, tried, criteria).copied()
+        self.found(ports, list, tried, criteria).copied()
     }
 
-    fn found<'p>(&self, ports: &'p [u16], tried: &[u16], criteria: Criteria) -> Option<&'p u16>
+    fn found<'p>(
+        &self,
+        ports: &'p [u16],
+        list: &PortList,
+        tried: &[u16],
+        criteria: Criteria,
+    ) -> Option<&'p u16>
         ensures { option_copied result ≡
-            find (λ port. passes self.now tried.now criteria port) ports.now }
+            find (λ port. passes self.now list.now tried.now criteria port) ports.now }
     {
         ports
             .iter()
-            .find(|port| self.may_take(**port, tried, criteria))
+            .find(|port| self.may_take(**port, list, tried, criteria))
     }
 
-    /// Whether a port may be taken.
-    fn may_take(&self, port: u16, tried: &[u16], criteria: Criteria) -> bool
-        ensures { result ≡ passes self.now tried.now criteria port }
+    /// Whether a port of a list may be taken.
+    fn may_take(&self, port: u16, list: &PortList, tried: &[u16], criteria: Criteria) -> bool
+        ensures { result ≡ passes self.now list.now tried.now criteria port }
     {
-        if was_tried(port, tried) || !self.lists.is_in_one_list(port) {
-            return false;
-        }
+        !was_tried(port, tried)
+            && self.lists.is_in_one_list(port)
+            && self.takes_part(port, list, criteria.ticket)
+            && self.is_allowed(port, criteria)
+    }
+
+    /// Whether a choice allows a port that takes part.
+    fn is_allowed(&self, port: u16, criteria: Criteria) -> bool
+        ensures { result ≡ allows self.now criteria criteria.choice port }
+    {
         match criteria.choice {
             Choice::Any => true,
             Choice::Unmarked => self.is_unmarked(port, criteria.now),
             Choice::Free => self.is_unmarked(port, criteria.now)
                 && self.state_of(port).requests < criteria.limit,
         }
+    }
+
+    /// Whether a request whose ticket has the port `ticket` may be dialled at a port of a list.
+    fn takes_part(&self, port: u16, list: &PortList, ticket: u16) -> bool
+        ensures { result ≡ takes_part self.now list.now ticket port }
+    {
+        port == ticket || list.has_slot(port) || self.is_up(port, list)
+    }
+
+    /// Whether a port of a list is one of the first that are not down, as many as endpoints are available.
+    fn is_up(&self, port: u16, list: &PortList) -> bool
+        ensures { result ≡ is_up self.now list.now port }
+    {
+        !self.is_down(port) && self.count_not_down(list.ports_before(port)) < list.available()
     }
 
     /// Whether a port is neither down nor marked.
@@ -246,19 +275,4 @@ fn was_tried(port: u16, tried: &[u16]) -> bool
     ensures { result ≡ list_any (λ other. other == port) tried.now }
 {
     tried.iter().any(|other| *other == port)
-}
-
-/// The place of a port; the number of ports if it is none of them.
-fn place_of(ports: &[u16], port: u16) -> usize
-    ensures place { result ≡ place_of port ports.now }
-    ensures within { result ≤ length ports.now }
-{
-    place_in(ports, port).unwrap_or(ports.len())
-}
-
-fn place_in(ports: &[u16], port: u16) -> Option<usize>
-    ensures place { result ≡ position (λ p. p == port) ports.now }
-    ensures within { IfSome result (λ place. place < length ports.now) }
-{
-    ports.iter().position(|other| *other == port)
 }

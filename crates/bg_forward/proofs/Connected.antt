@@ -12,17 +12,25 @@ use Rattle.bg_http.specs.declared.request_fault.RequestFault.{RequestFault}
 use Rattle.bg_http.specs.declared.request_fault.RequestFault.TheVariants as fault
 use Rattle.bg_http_read.specs.Requests.{AnswersHead, ReadsRequest, RequestFails, WritesContinue}
 use Rattle.bg_http_read.specs.Requests.{WroteFor, WroteOnFault, continue_text}
+use Rattle.bg_forward.specs.Clients.{IsReceived, IsServed}
 use Rattle.bg_forward.specs.Connections.{Connection, EndsBy, IsInterim, IsLastText, IsOwed, MayEnd}
-use Rattle.bg_forward.specs.Connections.{ReadOutcome, ReadsAs, Wrote, WroteLast, WroteUnlessFailed}
+use Rattle.bg_forward.specs.Connections.{ReadOutcome, ReadsAs, Receives, Wrote, WroteLast, WroteUnlessFailed}
 use Rattle.bg_forward.specs.declared.serving.End.{End}
 use Rattle.bg_forward.specs.declared.serving.End.TheVariants as end
 
 -- the outcome of a read is what its clauses say of the request and of the fault
-pub reads_as : (input : Option (List ℕ)) (read : ReadOutcome)
+reads_as : (input : Option (List ℕ)) (read : ReadOutcome)
     → IfOk read (λ request. IfSome input (λ bytes. (rest : List ℕ) × ReadsRequest bytes request rest))
     → IfErr read (λ fault. IfSome input (λ bytes. RequestFails bytes fault)) → ReadsAs input read
 reads_as input (Ok request) reads fails = reads
 reads_as input (Err f) reads fails = fails
+
+-- a read of a client's bytes
+pub receives : (input old new : Option (List ℕ)) (read : ReadOutcome)
+    → IfOk read (λ request. IfSome input (λ bytes. (rest : List ℕ) × ReadsRequest bytes request rest))
+    → IfErr read (λ fault. IfSome input (λ bytes. RequestFails bytes fault)) → WroteFor input old new read
+    → Receives input old new read
+receives input old new read reads fails wrote = record { reads = reads_as input read reads fails; wrote = wrote }
 
 kept : (old new : Option (List ℕ)) → Keeps old new → Appends old new []
 kept None new k = tt
@@ -91,13 +99,12 @@ module _ (input old mid new : Option (List ℕ)) where
   -- a request was read
   served : (request : Request) (entered : Option Ticket) (e : End) → ReadsAs input (Ok request)
       → AnswersHead input old mid → MayEnd (Ok request) entered e → WroteLast mid new (Ok request) e
-      → Connection input old new entered e
+      → Connection input old new (Ok request) entered e
   served request entered e reads head may_end last =
       let a = answered input old mid head in
       let b : Began input old mid (Ok request) =
       record { interim = a.0; is_interim = a.1; appends = a.2 } in
       record {
-        read = Ok request;
         reads = reads;
         may_end = may_end;
         wrote = ended input old mid new (Ok request) b e last;
@@ -106,9 +113,8 @@ module _ (input old mid new : Option (List ℕ)) where
   -- no request was read, and writing to the stream did not fail
   refused : (f : RequestFault) (e : End) → IfSome input (λ bytes. RequestFails bytes f)
       → WroteOnFault input old mid f → EndsBy (request_status f) f e → WroteLast mid new (Err f) e
-      → Connection input old new None e
+      → Connection input old new (Err f) None e
   refused f e fails wrote ends last = record {
-    read = Err f;
     reads = fails;
     may_end = ends;
     wrote = ended input old mid new (Err f) (began input old mid f wrote) e last;
@@ -117,9 +123,8 @@ module _ (input old mid new : Option (List ℕ)) where
   -- no request was read
   turned_away : (f : RequestFault) (e : End) → IfSome input (λ bytes. RequestFails bytes f)
       → WroteFor input old mid (Err f) → EndsBy (request_status f) f e → WroteLast mid new (Err f) e
-      → Connection input old new None e
+      → Connection input old new (Err f) None e
   turned_away fault.WriteFailed e fails wrote ends last = record {
-    read = Err fault.WriteFailed;
     reads = fails;
     may_end = ends;
     wrote = rw ends tt;
@@ -133,9 +138,16 @@ module _ (input old mid new : Option (List ℕ)) where
   turned_away fault.OutOfMemory e fails wrote ends last = refused fault.OutOfMemory e fails wrote ends last
 
   -- the request or its fault was received, and then the connection ended
-  pub connected : (read : ReadOutcome) (entered : Option Ticket) (e : End) → ReadsAs input read
-      → WroteFor input old mid read → MayEnd read entered e → WroteLast mid new read e
-      → Connection input old new entered e
-  connected (Ok request) entered e reads wrote may_end last = served request entered e reads wrote may_end last
-  connected (Err f) None e reads wrote may_end last = turned_away f e reads wrote may_end last
-  connected (Err f) (Some t) e reads wrote may_end last = absurd may_end
+  pub connected : (read : ReadOutcome) (entered : Option Ticket) (e : End) → Receives input old mid read
+      → MayEnd read entered e → WroteLast mid new read e → Connection input old new read entered e
+  connected (Ok request) entered e r may_end last = served request entered e r.reads r.wrote may_end last
+  connected (Err f) None e r may_end last = turned_away f e r.reads r.wrote may_end last
+  connected (Err f) (Some t) e r may_end last = absurd may_end
+
+-- a client of whom this was received was served
+pub served_client : (sent old new : Option (List ℕ)) (read : ReadOutcome) (entered : Option Ticket) (e : End)
+    → IsReceived sent old read
+    → ((input before : Option (List ℕ)) → Receives input before old read → Connection input before new read entered e)
+    → IsServed sent new read entered e
+served_client None old new read entered e received connection = tt
+served_client (Some input) old new read entered e received connection = connection (Some input) (Some []) received

@@ -12,7 +12,7 @@ use Rattle.bg_http.specs.declared.request_fault.RequestFault.{RequestFault}
 use Rattle.bg_http.specs.declared.request_fault.RequestFault.TheVariants as fault
 use Rattle.bg_http.specs.declared.request_rules.Framing.{Framing}
 use Rattle.bg_http.specs.declared.response.Response.{Response}
-use Rattle.bg_http_read.specs.Requests.{HeadRefused, JudgedHead, ReadsRequest, RequestFails, continue_text}
+use Rattle.bg_http_read.specs.Requests.{HeadRefused, JudgedHead, ReadsRequest, RequestFails, WroteFor, continue_text}
 use Rattle.bg_forward.specs.declared.serving.End.{End}
 use Rattle.bg_forward.specs.declared.serving.End.TheVariants as end
 
@@ -25,6 +25,11 @@ abbrev pub ReadsAs : Option (List ℕ) → ReadOutcome → Type 0
 ReadsAs input (Ok request) =
     IfSome input (λ bytes. (rest : List ℕ) × ReadsRequest bytes request rest)
 ReadsAs input (Err fault) = IfSome input (λ bytes. RequestFails bytes fault)
+
+-- the outcome of reading a client's bytes, and what was written to the client meanwhile
+pub record Receives (input old new : Option (List ℕ)) (read : ReadOutcome) : Type 0 where
+  pub reads : ReadsAs input read
+  pub wrote : WroteFor input old new read
 
 -- a refusal with this status, unless writing it failed
 abbrev pub MayBeRefused : ℕ → End → Type 0
@@ -109,11 +114,10 @@ abbrev pub WroteUnlessFailed
 WroteUnlessFailed input old new read end.WriteFailed = ⊤
 WroteUnlessFailed input old new read e = Wrote input old new read e
 
--- a connection: what was read, that this end is possible, and the bytes that were written to the
--- client
-pub record Connection (input old new : Option (List ℕ)) (entered : Option Ticket) (e : End)
+-- a connection on which this was read: it is the outcome of reading the client's bytes, this end is
+-- possible for it, and the bytes that were written to the client
+pub record Connection (input old new : Option (List ℕ)) (read : ReadOutcome) (entered : Option Ticket) (e : End)
     : Type 0 where
-  pub read : ReadOutcome
   pub reads : ReadsAs input read
   pub may_end : MayEnd read entered e
   pub wrote : WroteUnlessFailed input old new read e

@@ -1,4 +1,5 @@
 pub mod Buffers
+pub mod Clients
 pub mod Connections
 pub mod Reasons
 pub mod Routes

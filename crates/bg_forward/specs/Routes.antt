@@ -1,7 +1,7 @@
 -- What is dialled for a request.
 use Rattle.std.specs.Prelude.{ℕ, Option, Some, None, ⊤}
 use Rattle.bg_rollout.specs.declared.ticket.Ticket.{Ticket}
-use Rattle.bg_forward.specs.declared.streams.Route.{Route}
+use Rattle.bg_dial.specs.declared.dialled.Route.{Route}
 
 -- a request that entered was dialled for at its ticket's port, and this fact holds for the route; without a
 -- ticket nothing was dialled

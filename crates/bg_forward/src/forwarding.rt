@@ -14,8 +14,9 @@ use crate::buffered::Buffered;
 use crate::gate::Gate;
 use crate::reason::Reason;
 use crate::serving::{End, Worker};
-use crate::streams::{ClientStream, Dial, Dialled};
+use crate::streams::ClientStream;
 use bg_book::GoOn;
+use bg_dial::{Dial, Dialled};
 use bg_http::{MOST_TURNS, Request, Response, write_refusal, write_request, write_response};
 use bg_http_read::ResponseParser;
 use bg_ledger::{Names, Seat};
@@ -26,7 +27,7 @@ use std::io::{ErrorKind, Read, Write};
 const PIECE: usize = 8192;
 
 /// The outcome of a request that entered.
-#[derive(Clone, Copy, PartialEq, Eq, Debug, Drop)]
+#[derive(Clone, Copy, PartialEq, Eq, Drop)]
 pub(crate) struct ForwardOutcome {
     pub(crate) end: End,
     /// Why the client was refused.

@@ -1,15 +1,18 @@
-//! A connection that is in memory.
+//! Connections that are in memory.
 ghost use Rattle.std.specs.Prelude.{◌≡◌, ◌+◌, ◌<◌, [], IfSome, Some};
-ghost use Rattle.bg_forward.specs.Connections.{Connection};
+ghost use Rattle.bg_forward.specs.Connections.{Connection, ReadOutcome, Receives};
 ghost use Rattle.bg_forward.specs.Routes.{IsRouted};
 ghost use Rattle.bg_forward.specs.Seats.{calls_made, seat_after};
 
 use crate::buffered::Buffered;
 use crate::gate::Gate;
 use crate::serving::{Served, Worker, serve_one};
-use crate::streams::Dial;
+use crate::streams::Arrived;
+use bg_dial::Dial;
 use bg_http::{Bytes, MemoryStream};
+use bg_http_read::read_request;
 use bg_ledger::{Names, Seat};
+use std::alloc::Global;
 
 /// The outcome of a connection that is in memory.
 #[derive(Drop, Debug)]
@@ -38,11 +41,27 @@ pub fn serve_in_memory<N: Names, G: Gate<N>, D: Dial>(
     ensures gives { IfSome result.served.entered
         (λ t. G.gives worker.now.gate.now worker.now.service seat.old t) }
     ensures route { IsRouted (D.routes worker.now.dial.now) result.served.entered result.served.route }
-    ensures client { Connection (Some input.now) (Some []) (Some result.written)
-        result.served.entered result.served.end }
+    ensures client { (read : ReadOutcome) × Connection (Some input.now) (Some []) (Some result.written)
+        read result.served.entered result.served.end }
 {
     let mut client = Buffered::new(worker.alloc, MemoryStream::new(worker.alloc, input));
     let served = serve_one(worker, seat, &mut client);
     let written = Bytes::from_vec(client.into_inner().written);
     InMemoryResult { served, written }
+}
+
+/// A client that is in memory and has sent these bytes, after its request was read. Nothing but `100 Continue`
+/// was written to it, if it was owed.
+pub fn receive_in_memory<'a>(alloc: Global, input: &'a [u8]) -> Arrived<MemoryStream<'a>, &'a [u8]>
+    ensures sender { result.sender.now ≡ input.now }
+    ensures received { Receives (Some input.now) (Some []) (Some result.stream.written.items)
+        result.received }
+{
+    let mut stream = MemoryStream::new(alloc, input);
+    let received = read_request(alloc, &mut stream);
+    Arrived {
+        stream,
+        sender: input,
+        received,
+    }
 }

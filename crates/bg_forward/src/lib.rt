@@ -15,11 +15,12 @@ mod serving;
 mod streams;
 mod workers;
 
+pub use bg_dial::{Dial, Dialled, Route};
 pub use buffered::Buffered;
 pub use desk_gate::DeskGate;
 pub use gate::Gate;
-pub use in_memory::{InMemoryResult, serve_in_memory};
+pub use in_memory::{InMemoryResult, receive_in_memory, serve_in_memory};
 pub use reason::Reason;
 pub use serving::{End, Served, Worker, serve_one, serve_received};
-pub use streams::{Accept, Arrived, ClientStream, Dial, Dialled, Route};
+pub use streams::{Accept, Arrived, ClientStream};
 pub use workers::{WorkerContext, run_workers};

@@ -2,9 +2,9 @@
 ghost use Rattle.std.specs.Prelude.{◌≡◌, ◌+◌, ◌<◌, [], ℕ, List, Option, IfSome, Ok, Err};
 ghost use Rattle.bg_forward.specs.Routes.{IsRouted};
 ghost use Rattle.bg_http.specs.Statuses.{request_status};
-ghost use Rattle.bg_http_read.specs.Requests.{WroteFor};
 ghost use Rattle.bg_forward.specs.Buffers.{held, stream_of};
-ghost use Rattle.bg_forward.specs.Connections.{Connection, EndsBy, MayEnd, ReadsAs, WroteLast};
+ghost use Rattle.bg_forward.specs.Connections.{Connection, EndsBy, MayEnd, ReadOutcome, Receives};
+ghost use Rattle.bg_forward.specs.Connections.{WroteLast};
 ghost use Rattle.bg_forward.specs.Reasons.{TellsWhy};
 ghost use Rattle.bg_forward.specs.Seats.{calls_made, seat_after};
 
@@ -12,8 +12,9 @@ use crate::buffered::Buffered;
 use crate::forwarding::{ForwardOutcome, forward_and_answer, refuse};
 use crate::gate::Gate;
 use crate::reason::Reason;
-use crate::streams::{ClientStream, Dial, Route};
+use crate::streams::ClientStream;
 use bg_book::Ticket;
+use bg_dial::{Dial, Route};
 use bg_http::{Duplex, Request, RequestFault};
 use bg_http_read::read_request;
 use bg_ledger::{Names, Seat};
@@ -79,9 +80,9 @@ pub fn serve_one<N: Names, G: Gate<N>, S: ClientStream + Duplex, D: Dial>(
         (λ t. G.gives worker.now.gate.now worker.now.service seat.old t) }
     ensures route { IsRouted (D.routes worker.now.dial.now) result.entered result.route }
     ensures why { TellsWhy result.end result.reason }
-    ensures client { Connection (S.remaining (stream_of client.old))
+    ensures client { (read : ReadOutcome) × Connection (S.remaining (stream_of client.old))
         (S.contents (stream_of client.old)) (S.contents (stream_of client.new))
-        result.entered result.end }
+        read result.entered result.end }
 {
     let received = read_request(worker.alloc, &mut client.stream);
     serve_received(worker, seat, &received, client)
@@ -93,7 +94,8 @@ pub fn serve_one<N: Names, G: Gate<N>, S: ClientStream + Duplex, D: Dial>(
 ///
 /// `received` is the request or its fault. The last clause says what follows if it is what
 /// `read_request` gives for some bytes of the client: then the whole connection is one of these bytes,
-/// with what was written to the client while its request was read.
+/// with what was written to the client while its request was read. [`Accept::accept`](crate::Accept::accept)
+/// gives workers just that.
 ///
 /// A request that cannot be read does not enter. It is answered with its fault's status
 /// (`RequestFault::status`), or not at all if the fault has none. If the gate refuses the request,
@@ -128,9 +130,10 @@ pub fn serve_received<N: Names, G: Gate<N>, S: ClientStream, D: Dial>(
     ensures may_end { MayEnd received.now result.entered result.end }
     ensures wrote { WroteLast (S.contents (stream_of client.old))
         (S.contents (stream_of client.new)) received.now result.end }
-    ensures client { (input before : Option (List ℕ)) → ReadsAs input received.now
-        → WroteFor input before (S.contents (stream_of client.old)) received.now
-        → Connection input before (S.contents (stream_of client.new)) result.entered result.end }
+    ensures client { (input before : Option (List ℕ))
+        → Receives input before (S.contents (stream_of client.old)) received.now
+        → Connection input before (S.contents (stream_of client.new)) received.now
+        result.entered result.end }
 {
     match received {
         Ok(request) => serve_request(worker, seat, request, client),

@@ -1,55 +1,14 @@
-//! The sources of client connections, and the connections to endpoints.
-ghost use Rattle.std.specs.Prelude.{◌≡◌, ℕ, false, Some, ⊤};
+//! The sources of client connections.
+ghost use Rattle.std.specs.Prelude.{◌≡◌, false, ℕ, IfOk, IfSome, List, Option, Some};
 ghost use Rattle.std.specs.Io.KnownBytes.{Keeps};
-ghost use Rattle.bg_forward.specs.declared.streams.Route.{Route};
+ghost use Rattle.bg_forward.specs.Clients.{IsReceived, IsServed};
+ghost use Rattle.bg_forward.specs.Connections.{MayEnd};
 
 use crate::serving::Served;
 use bg_http::{MemoryStream, Request, RequestFault};
 use bg_revisions::Service;
 use std::io;
-use std::io::{Read, Write};
-
-/// The ports that were dialled for a request.
-#[derive(Clone, Copy, PartialEq, Eq, Debug, Drop)]
-pub struct Route {
-    /// The port that was dialled last. It is the port of the connection, if there is one.
-    pub port: u16,
-    /// The number of ports that were dialled, at least 1.
-    pub tries: u32,
-}
-
-/// What a dial gave: a connection, or why there is none, and which ports were dialled.
-#[derive(Drop)]
-pub struct Dialled<S> {
-    pub route: Route,
-    pub stream: io::Result<S>,
-}
-
-impl<S> Dialled<S> {
-    /// What the dial of one port gave.
-    pub fn once(port: u16, stream: io::Result<S>) -> Dialled<S>
-        ensures { result ≡ record { route = record { port = port; tries = 1 }; stream = stream } }
-    {
-        Dialled {
-            route: Route { port, tries: 1 },
-            stream,
-        }
-    }
-}
-
-/// Opens connections to endpoints.
-pub trait Dial {
-    /// The fact that holds for the route of a dial of a port.
-    ghost routes: { Self → ℕ → Route → Type 0 } = { λ _ _ _. ⊤ };
-
-    /// A connection to an endpoint. It is closed when it is dropped.
-    type Stream: Read + Write + Drop;
-
-    /// Opens a connection to a port, or to another port of the same revision. The implementation decides
-    /// which ports it dials, and tells it as the route. Nothing is written to the connection.
-    fn dial(&self, port: u16) -> Dialled<Self::Stream>
-        ensures { Self.routes self.now port result.route };
-}
+use std::io::Write;
 
 /// A connection of a client whose request was received. Its answer is written to it, and it says whether
 /// the client still waits for the answer.
@@ -77,9 +36,11 @@ impl ClientStream for MemoryStream<'_> {
 
 /// A client whose request is over.
 #[derive(Drop)]
-pub struct Arrived<S> {
+pub struct Arrived<S, C> {
     /// The client's connection.
     pub stream: S,
+    /// Who sent the request.
+    pub sender: C,
     /// The request, or its fault.
     pub received: Result<Request, RequestFault>,
 }
@@ -89,13 +50,30 @@ pub trait Accept {
     /// A connection of a client.
     type Stream: ClientStream + Drop;
 
+    /// Who sent a request. It stays the same while the client's stream is written to.
+    type Sender: Drop;
+
+    /// The bytes that a sender has sent on its connection; `None` if they are not known, as over a socket.
+    ghost sent: { Self.Sender → Option (List ℕ) };
+
     /// Waits for the next client of a service whose request is over: it was received whole, it has a
     /// fault, or the client ended it. `None` means that no further client comes; the worker that gets
     /// it asks no more. An error counts as one connection.
-    fn accept(&self, service: Service) -> io::Result<Option<Arrived<Self::Stream>>>;
+    ///
+    /// What was received is what `read_request` gives for the bytes that the client sent, and nothing but
+    /// `100 Continue` was written to the client, if it was owed.
+    fn accept(&self, service: Service) -> io::Result<Option<Arrived<Self::Stream, Self::Sender>>>
+        ensures received { IfOk result (λ next. IfSome next (λ client. IsReceived (sent client.sender)
+            (Self.Stream.contents client.stream) client.received)) };
 
     /// Ends the connection of a client after its seat is out. `client` is what `accept` gave, after
     /// its answer was written, and `served` is the outcome of the connection. If no request entered,
     /// the client may still be sending it.
-    fn close(&self, client: Arrived<Self::Stream>, served: &Served);
+    ///
+    /// The end is possible for what was received. If the bytes that the client sent are known, this is its whole
+    /// connection: what was received of them, and exactly what was written to it, if no write failed.
+    fn close(&self, client: Arrived<Self::Stream, Self::Sender>, served: &Served)
+        requires may_end { MayEnd client.received served.now.entered served.now.end }
+        requires connection { IsServed (sent client.sender) (Self.Stream.contents client.stream)
+            client.received served.now.entered served.now.end };
 }

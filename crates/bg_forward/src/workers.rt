@@ -5,7 +5,8 @@ ghost use Rattle.bg_forward.specs.Seats.{AllOut, AllWorked, Worked};
 use crate::buffered::Buffered;
 use crate::gate::Gate;
 use crate::serving::{Worker, serve_received};
-use crate::streams::{Accept, Arrived, Dial};
+use crate::streams::{Accept, Arrived};
+use bg_dial::Dial;
 use bg_ledger::{Names, Seat};
 use bg_revisions::Service;
 use std::alloc::Global;
@@ -40,6 +41,7 @@ pub fn run_workers<
 >(rt: &R, context: &WorkerContext<G, A, D>, seats: &mut [Seat<N>], services: &[Service], count: u64)
 where
     A::Stream: Send,
+    A::Sender: Send,
     D::Stream: Send,
     requires out { AllOut seats.old }
     requires services { length services.now ≡ length seats.old }
@@ -60,7 +62,7 @@ where
     );
 }
 
-/// Serves up to `count` connections on one seat.
+/// Serves up to `count` connections on one seat. Each is ended with what was received on it and with its outcome.
 fn work<N: Names, G: Gate<N>, A: Accept, D: Dial>(
     context: &WorkerContext<G, A, D>,
     seat: &mut Seat<N>,
@@ -77,7 +79,11 @@ fn work<N: Names, G: Gate<N>, A: Accept, D: Dial>(
         service,
     };
     for _ in 0..count {
-        let Arrived { stream, received } = match context.accept.accept(service) {
+        let Arrived {
+            stream,
+            sender,
+            received,
+        } = match context.accept.accept(service) {
             Ok(Some(arrived)) => arrived,
             Ok(None) => break,
             Err(_) => continue,
@@ -85,6 +91,11 @@ fn work<N: Names, G: Gate<N>, A: Accept, D: Dial>(
         let mut client = Buffered::new(context.alloc, stream);
         let served = serve_received(&worker, seat, &received, &mut client);
         let stream = client.into_inner();
-        context.accept.close(Arrived { stream, received }, &served);
+        let client = Arrived {
+            stream,
+            sender,
+            received,
+        };
+        context.accept.close(client, &served);
     }
 }

@@ -8,6 +8,7 @@ pub mod Promotion
 pub mod Requests
 pub mod Marks
 pub mod Deadlines
+pub mod Tables
 pub mod Templates
 pub mod Allowed
 pub mod Steps

@@ -12,7 +12,6 @@ ghost use Rattle.bg_history.specs.Sound.{is_sound};
 use crate::entry::Entry;
 
 /// What compaction does with an entry, as `treatment_of` of specs/Compacting.antt says it.
-#[derive(Clone, Copy, PartialEq, Eq, Debug, Drop)]
 enum Treatment {
     /// Keep the entry.
     Keep,

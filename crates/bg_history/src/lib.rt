@@ -6,9 +6,13 @@
 #![tactic(auto)]
 
 mod compacting;
+mod control;
 mod entry;
 mod history;
 pub mod laws;
+mod mark;
 
+pub use control::Control;
 pub use entry::{Analysis, AnalysisResult, Entry, Outcome};
 pub use history::History;
+pub use mark::{Cause, RevisionMark};

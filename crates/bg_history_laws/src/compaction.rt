@@ -5,7 +5,7 @@ ghost use Rattle.bg_history.specs.declared.entry.Entry.{Entry};
 ghost use Rattle.bg_history.specs.declared.entry.Outcome.{Outcome};
 ghost use Rattle.bg_history.specs.Kept.{Opening};
 ghost use Rattle.bg_history.specs.Steps.{IsLegal, Step, all_allowed, is_settled};
-ghost use Rattle.bg_scaledown.specs.Past.{table_of};
+ghost use Rattle.bg_history.specs.Tables.{table_of};
 ghost use Rattle.bg_history.specs.Compacted.{compacted, closed_after};
 ghost use Rattle.bg_history.specs.Sound.{is_sound as sound};
 ghost use Rattle.bg_history_laws.specs.Compaction.{Compacts, Commutes, enters_anew};

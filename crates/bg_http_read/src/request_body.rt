@@ -9,11 +9,21 @@ use bg_http::{Framing, MOST_REQUEST_BODY, Request, RequestHead, owes_continue};
 use std::alloc::{AllocError, Global};
 
 /// A request whose head is known and whose body is being fed.
-#[derive(Drop)]
 pub(crate) struct RequestBody {
     head: RequestHead,
     framing: Framing,
     pub(crate) body: Body,
+}
+
+impl Drop for RequestBody {
+    /// Drops the fields by one call, so that the proofs of what owns a value are short (CONTRIBUTING.md, "What a check costs").
+    fn drop(self) {
+        let RequestBody {
+            head: _,
+            framing: _,
+            body: _,
+        } = self;
+    }
 }
 
 /// The body before its first byte.
@@ -60,8 +70,13 @@ impl RequestBody {
     pub(crate) fn into_refused_head(self) -> RefusedHead
         ensures { result ≡ record { head = self.head; is_sound = true } }
     {
+        let RequestBody {
+            head,
+            framing: _,
+            body: _,
+        } = self;
         RefusedHead {
-            head: self.head,
+            head,
             is_sound: true,
         }
     }
@@ -80,12 +95,6 @@ impl RequestBody {
             Framing::NoBody => None,
             Framing::Chunks | Framing::Length(_) => Some(bytes),
         };
-        Request {
-            method: head.method,
-            target: head.target,
-            minor: head.minor,
-            fields: head.fields,
-            body,
-        }
+        head.with_body(body)
     }
 }

@@ -31,11 +31,21 @@ fn length_of_response(
 }
 
 /// A response whose head is known and whose body is being fed.
-#[derive(Drop)]
 pub(crate) struct ResponseBody {
     head: ResponseHead,
     framing: ResponseFraming,
     pub(crate) body: Body,
+}
+
+impl Drop for ResponseBody {
+    /// Drops the fields by one call, so that the proofs of what owns a value are short (CONTRIBUTING.md, "What a check costs").
+    fn drop(self) {
+        let ResponseBody {
+            head: _,
+            framing: _,
+            body: _,
+        } = self;
+    }
 }
 
 /// The body before its first byte.
@@ -74,14 +84,13 @@ impl ResponseBody {
     pub(crate) fn into_response(self, alloc: Global) -> Result<Response, AllocError>
         ensures { IfOk result (λ response. HasParts response self) }
     {
-        let body = self.body.into_bytes();
-        let length = length_of_response(alloc, self.framing, &self.head, &body)?;
-        Ok(Response {
-            code: self.head.code,
-            reason: self.head.reason,
-            fields: self.head.fields,
-            length,
+        let ResponseBody {
+            head,
+            framing,
             body,
-        })
+        } = self;
+        let body = body.into_bytes();
+        let length = length_of_response(alloc, framing, &head, &body)?;
+        Ok(head.with_body(length, body))
     }
 }

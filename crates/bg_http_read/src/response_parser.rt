@@ -17,11 +17,21 @@ use std::marker::Model;
 
 /// A parser of a response. It is fed the bytes of the input as they arrive (RFC 9112). The result
 /// does not depend on how the input is cut into pieces.
-#[derive(Drop)]
 pub struct ResponseParser<'a> {
     feed: ResponseFeed<'a>,
     seen: Seen,
     is_open: bool,
+}
+
+impl Drop for ResponseParser<'_> {
+    /// Drops the fields by one call, so that the proofs of what owns a value are short (CONTRIBUTING.md, "What a check costs").
+    fn drop(self) {
+        let ResponseParser {
+            feed: _,
+            seen: _,
+            is_open: _,
+        } = self;
+    }
 }
 
 /// Whether the parser has given neither a response nor a fault.

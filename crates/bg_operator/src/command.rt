@@ -1,6 +1,6 @@
 //! The command of a line of a script.
 
-use bg_book::Control;
+use bg_history::Control;
 use bg_revisions::{Name, Ports, Service};
 
 /// The command of a line of a script.

@@ -12,7 +12,7 @@ use crate::line_fault::LineFault;
 use crate::lines::LONGEST_LINE;
 use crate::vocabulary::{analysis_named, result_named, service_named};
 use crate::words::{Words, end, is_at_end, long_number, number, one, short_number, two};
-use bg_book::Control;
+use bg_history::Control;
 use bg_revisions::{Name, Ports};
 use std::alloc::Global;
 

@@ -12,7 +12,7 @@ use std::io::{BufRead, ErrorKind};
 pub const MOST_TURNS: u32 = 1 << 24;
 
 /// How a line that was read ends.
-#[derive(Clone, Copy, Debug, Drop, PartialEq, Eq)]
+#[derive(Clone, Copy, Drop)]
 pub(crate) enum LineEnd {
     /// With a line break, which was read too.
     Break,

@@ -1,14 +1,19 @@
-//! What the system tells of the process at the other end of a connection on this machine: whether it has closed its
-//! socket, and which user it runs as; and the users that a list names.
+//! What the system tells of the other end of a connection on this machine: which user made its socket; and the users that
+//! a list names.
 #![tactic(auto)]
 
+mod confirmed;
 mod end_point;
 mod lines;
 mod passwd;
+mod peer_lookup;
 mod peer_table;
 mod socket_row;
+mod system_lookup;
 mod text_file;
 mod users;
 
-pub use peer_table::{PeerTable, is_peer_closed};
+pub use peer_lookup::PeerLookup;
+pub use socket_row::PeerSocket;
+pub use system_lookup::SystemLookup;
 pub use users::{Users, UsersFault};

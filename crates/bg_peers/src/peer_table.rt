@@ -14,7 +14,7 @@ const SOCKETS_OF_IPV6: &[u8] = b"/proc/net/tcp6";
 
 /// The other ends of the connections of a port, as the system lists them at about one moment.
 #[derive(Drop)]
-pub struct PeerTable {
+pub(crate) struct PeerTable {
     alloc: Global,
     /// The port's end of the connections; `None` if it is not one of IPv4.
     ours: Option<EndPoint>,
@@ -26,7 +26,7 @@ pub struct PeerTable {
 impl PeerTable {
     /// Reads the other ends of the connections that have the same port as this one, which takes some milliseconds. The
     /// only error is an allocation failure.
-    pub fn read(alloc: Global, stream: &TcpStream) -> Result<PeerTable, AllocError> {
+    pub(crate) fn read(alloc: Global, stream: &TcpStream) -> Result<PeerTable, AllocError> {
         let mut table = PeerTable {
             alloc,
             ours: our_end(stream),
@@ -37,27 +37,20 @@ impl PeerTable {
         Ok(table)
     }
 
-    /// The number of the user (`uid`) whose process is at the other end of a connection of this port; `None` if that
-    /// process has closed its socket already, or the system does not tell. The only error is an allocation failure.
-    pub fn user_of(&mut self, stream: &TcpStream) -> Result<Option<u32>, AllocError> {
-        match self.peer_socket(stream)? {
-            PeerSocket::Held { user } => Ok(Some(user)),
-            PeerSocket::Closed | PeerSocket::Unknown => Ok(None),
-        }
-    }
-
-    /// Whether the table has the other end of each of these connections. The only error is an allocation failure.
-    pub fn has_all(&mut self, streams: &[TcpStream]) -> Result<bool, AllocError> {
+    /// Whether the table has the other end of each of these connections, without those that were reset. The only error is
+    /// an allocation failure.
+    pub(crate) fn has_all(&mut self, streams: &[TcpStream]) -> Result<bool, AllocError> {
         for stream in streams {
-            if self.peer_socket(stream)? == PeerSocket::Unknown {
+            if their_end(stream).is_some() && self.peer_socket(stream)? == PeerSocket::Unknown {
                 return Ok(false);
             }
         }
         Ok(true)
     }
 
-    /// What the table tells of the other end of a connection. Reads the second table if the first one does not have it.
-    fn peer_socket(&mut self, stream: &TcpStream) -> Result<PeerSocket, AllocError> {
+    /// What the table tells of the other end of a connection, whose address is asked for after the table was read. Reads the
+    /// second table if the first one does not have it. The only error is an allocation failure.
+    pub(crate) fn peer_socket(&mut self, stream: &TcpStream) -> Result<PeerSocket, AllocError> {
         if our_end(stream) != self.ours {
             return Ok(PeerSocket::Unknown);
         }
@@ -99,23 +92,6 @@ impl PeerTable {
             rest = next;
         }
         Ok(())
-    }
-}
-
-/// Whether a client on this machine that ended its input has closed its connection. A client that only
-/// shut its writing side still has its socket, and the system's table shows that. If the socket is not
-/// found, or an allocation fails, the answer is that the client has not closed. For about a minute after it has closed,
-/// its socket is listed as one that no process has (`tcp_fin_timeout` of tcp(7)).
-///
-/// The table is read twice, because it may change during a read.
-pub fn is_peer_closed(alloc: Global, stream: &TcpStream) -> bool {
-    is_listed_as_closed(alloc, stream) && is_listed_as_closed(alloc, stream)
-}
-
-fn is_listed_as_closed(alloc: Global, stream: &TcpStream) -> bool {
-    match PeerTable::read(alloc, stream) {
-        Ok(mut table) => matches!(table.peer_socket(stream), Ok(PeerSocket::Closed)),
-        Err(AllocError) => false,
     }
 }
 

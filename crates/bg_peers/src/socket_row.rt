@@ -20,8 +20,8 @@ const CONNECTED: [&[u8]; 3] = [b"01", b"04", b"05"];
 
 /// What the table tells of a socket.
 #[derive(Clone, Copy, PartialEq, Eq, Debug, Drop)]
-pub(crate) enum PeerSocket {
-    /// A process of this user has it.
+pub enum PeerSocket {
+    /// A process has it, and this user (`uid`) made it.
     Held { user: u32 },
     /// It is listed, and no process has it.
     Closed,

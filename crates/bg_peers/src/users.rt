@@ -1,6 +1,6 @@
 //! Users that a list names.
 ghost use Rattle.std.specs.Prelude.{◌≡◌, [], ◌∷◌, ◌++◌, OnErr, OnOk};
-ghost use Rattle.bg_peers.specs.Users.{has_peer_user, has_user, numbers};
+ghost use Rattle.bg_peers.specs.Users.{has_user, numbers};
 
 use crate::lines::number_of;
 use crate::passwd::{read_passwd, user_named};
@@ -80,17 +80,6 @@ impl Users {
         ensures { result ≡ has_user user self.now }
     {
         self.numbers.iter().any(|number| *number == user)
-    }
-
-    /// Whether the user at the other end of a connection is one of them. A user that the system does not tell is
-    /// none of them.
-    pub fn has_peer_user(&self, user: Option<u32>) -> bool
-        ensures { result ≡ has_peer_user user self.now }
-    {
-        match user {
-            Some(user) => self.has_user(user),
-            None => false,
-        }
     }
 }
 

@@ -46,9 +46,13 @@ is_full settings r =
     nat_le settings.connections (pending r)
     || nat_lt settings.response_bytes (sum_by response_bytes_of r.places / 2)
 
+-- a connection waits for a worker
+abbrev pub has_waiting : Register → Bool
+has_waiting r = not (length r.queue == 0)
+
 -- a worker will be given a connection: one waits, or a request is arriving
 abbrev pub has_requests : Register → Bool
-has_requests r = not (length r.queue == 0) || not (sum_by arriving_of r.places == 0)
+has_requests r = has_waiting r || not (sum_by arriving_of r.places == 0)
 
 -- the port shuts down, and nothing is left to do: there is no connection, or the timeout has passed, and the port reads
 -- and writes none

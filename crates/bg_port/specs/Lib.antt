@@ -10,6 +10,7 @@ pub mod Received
 pub mod Registers
 pub mod Slowness
 pub mod Stages
+pub mod Stalls
 pub mod Timeouts
 pub mod Totals
 pub mod Vacancies

@@ -1,5 +1,5 @@
 -- Whether a connection makes progress.
-use Rattle.std.specs.Prelude.{ℕ, ◌-◌, Bool, ◌==◌, ◌&&◌, ◌||◌, if◌then◌else◌, nat_le}
+use Rattle.std.specs.Prelude.{ℕ, ◌-◌, Bool, ◌==◌, ◌&&◌, ◌||◌, if◌then◌else◌, nat_le, nat_lt}
 use Rattle.bg_port.specs.declared.progress.Pace.{Pace}
 use Rattle.bg_port.specs.declared.progress.Progress.{Progress}
 
@@ -7,7 +7,8 @@ use Rattle.bg_port.specs.declared.progress.Progress.{Progress}
 abbrev pub request_pace : ℕ → Pace
 request_pace count =
     if count == 0 then record { bytes = 1; within_millis = 1000; silent_millis = 1000 }
-    else record { bytes = 4096; within_millis = 4000; silent_millis = 2000 }
+    else if nat_lt count 32768 then record { bytes = 4096; within_millis = 4000; silent_millis = 2000 }
+    else record { bytes = 32768; within_millis = 4000; silent_millis = 2000 }
 
 -- the pace of a response, and of a lingering close
 abbrev pub response_pace : Pace

@@ -1,10 +1,10 @@
 -- The events of a port.
-use Rattle.std.specs.Prelude.{◌≡◌, ◌==◌, ◌&&◌, if◌then◌else◌, ℕ, ◌+◌, Bool, false, not, List, ◌∷◌, min, is_some, slice_set, Option, Some, None}
+use Rattle.std.specs.Prelude.{◌≡◌, ◌==◌, ◌&&◌, if◌then◌else◌, ℕ, ◌+◌, Bool, false, not, List, ◌∷◌, min, slice_set, Option, Some, None}
 use Rattle.bg_port.specs.Incoming.{Incoming, counted}
 use Rattle.bg_port.specs.Outgoing.{Outgoing}
 use Rattle.bg_port.specs.Registers.{Register, at, takeable, with_connection}
 use Rattle.bg_port.specs.Stages.{EndsInput, Feeds, as_lingering, as_reading, as_writing, discards, interest_of, is_just_accepted, is_with_worker, shut, turns, wrote}
-use Rattle.bg_port.specs.Timeouts.{is_shutdown_over}
+use Rattle.bg_port.specs.Timeouts.{is_grace_over, is_shutdown_over}
 use Rattle.bg_port.specs.declared.connection.Connection.{Connection}
 use Rattle.bg_port.specs.declared.connection.ConnectionId.{ConnectionId}
 use Rattle.bg_port.specs.declared.port.Port.{Port}
@@ -125,12 +125,12 @@ abbrev pub is_accepted : ConnectionId → Option Connection → Bool
 is_accepted id None = false
 is_accepted id (Some c) = (c.number == id.number) && is_just_accepted c.stage
 
--- a connection may be left to the port: a worker has just accepted it, and if the port shuts down, a byte came, and the
--- timeout of the shutdown has not passed
+-- a connection may be left to the port: a worker has just accepted it; the timeout of a shutdown has not passed; and a byte
+-- came, once the grace of a shutdown is over
 abbrev pub may_leave : Port → ConnectionId → Incoming → ℕ → Bool
 may_leave port id request now =
     is_accepted id (at port.connections.places id.key)
-    && not (is_some port.closing_until && (counted request.came == 0))
+    && not (is_grace_over port.settings now port.closing_until && (counted request.came == 0))
     && not (is_shutdown_over now port.closing_until)
 
 -- a request that is left to the port

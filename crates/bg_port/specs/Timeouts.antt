@@ -1,6 +1,7 @@
 -- Which connections are late, and which are stopped.
-use Rattle.std.specs.Prelude.{◌||◌, ℕ, Bool, false, nat_le, length, Option, Some, None}
+use Rattle.std.specs.Prelude.{◌||◌, ℕ, ◌-◌, Bool, false, nat_le, length, Option, Some, None}
 use Rattle.bg_port.specs.declared.connection.Connection.{Connection}
+use Rattle.bg_port.specs.declared.port.PortSettings.{PortSettings}
 use Rattle.bg_port.specs.declared.stage.Stage.{Stage}
 use Rattle.bg_port.specs.declared.stage.Stage.TheVariants as stage
 use Rattle.bg_port.specs.declared.stage.Stopped.{Stopped}
@@ -29,6 +30,11 @@ is_late now is_over (Some c) = has_passed now is_over (until_of c.stage)
 abbrev pub is_shutdown_over : ℕ → Option ℕ → Bool
 is_shutdown_over now None = false
 is_shutdown_over now (Some until) = nat_le until now
+
+-- the grace of a shutdown, whose timeout ends then, is over: it has lasted for that of the settings, or for 60 seconds
+abbrev pub is_grace_over : PortSettings → ℕ → Option ℕ → Bool
+is_grace_over settings now None = false
+is_grace_over settings now (Some until) = nat_le (until - (60000 - settings.grace_millis)) now
 
 -- what becomes of a connection that is stopped at a stage
 abbrev pub stopped_stage : Stage → Stopped

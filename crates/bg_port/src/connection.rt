@@ -1,6 +1,7 @@
 //! A connection of a client.
 
 ghost use Rattle.std.specs.Prelude.{◌≡◌};
+ghost use Rattle.bg_port.specs.Closing.{is_silent};
 ghost use Rattle.bg_port.specs.Registers.{accepted_at};
 ghost use Rattle.bg_port.specs.Timeouts.{has_passed, until_of};
 
@@ -36,6 +37,16 @@ impl Connection {
             Some(until) => is_over || until <= now,
             None => false,
         }
+    }
+}
+
+/// Whether the request of a place is arriving, and no byte of it came.
+pub(crate) fn is_silent(place: &Option<Connection>) -> bool
+    ensures { result ≡ is_silent place.now }
+{
+    match place {
+        Some(connection) => connection.stage.is_silent(),
+        None => false,
     }
 }
 

@@ -5,12 +5,14 @@ ghost use Rattle.std.specs.Option.{option_copied};
 ghost use Rattle.bg_port.specs.Closing.{is_silent};
 ghost use Rattle.bg_port.specs.Pauses.{is_large_from, is_paused, is_stuck, large_from};
 ghost use Rattle.bg_port.specs.Slowness.{IsNoLater, earlier, slow_at};
+ghost use Rattle.bg_port.specs.Stalls.{is_moving, still_since};
 ghost use Rattle.bg_port.specs.Timeouts.{is_late};
 ghost use Rattle.bg_port.specs.Totals.{AreSums};
 
-use crate::connection::Connection;
+use crate::connection::{Connection, is_silent};
 use crate::pauses::{is_large_from, is_paused, is_stuck, large_from};
 use crate::slowness::{Among, slow_at};
+use crate::stalls::{is_moving, still_since};
 use crate::totals::Totals;
 use crate::vacancies::Vacancies;
 use std::alloc::{AllocError, Global};
@@ -214,20 +216,54 @@ impl ConnectionTable {
         None
     }
 
-    /// The key of the first connection whose request is arriving and of which no byte came; `None` if there is none.
-    pub(crate) fn first_silent(&self) -> Option<usize>
+    /// The key of the first connection from this one on whose request is arriving and of which no byte came; `None` if there
+    /// is none.
+    pub(crate) fn silent_from(&self, from: usize) -> Option<usize>
+        ensures from { IfSome result (λ key. from ≤ key) }
         ensures silent { IfSome result (λ key. is_silent (slice_index_or self.now key None) ≡ true) }
-        ensures none { IfNone result (EachIndex self.now (λ key.
-            is_silent (slice_index_or self.now key None) ≡ false)) }
+        ensures first { IfSome result (λ key. (other : ℕ) → from ≤ other → other < key
+            → is_silent (slice_index_or self.now other None) ≡ false) }
+        ensures none { IfNone result ((other : ℕ) → from ≤ other → other < length self.now
+            → is_silent (slice_index_or self.now other None) ≡ false) }
     {
-        for (key, place) in self.places.iter().enumerate() {
-            if let Some(connection) = place
-                && connection.stage.is_silent()
-            {
+        for key in from..self.places.len() {
+            if is_silent(&self.places[key]) {
                 return Some(key);
             }
         }
         None
+    }
+
+    /// The key of the first connection whose request is large, goes on, and has made progress lately; `None` if there is none.
+    pub(crate) fn first_moving(&self, now: u64) -> Option<usize>
+        ensures within { IfSome result (λ key. key < length self.now) }
+        ensures moving { IfSome result (λ key. is_moving now (slice_index_or self.now key None) ≡ true) }
+        ensures none { IfNone result (EachIndex self.now (λ key.
+            is_moving now (slice_index_or self.now key None) ≡ false)) }
+    {
+        for key in 0..self.places.len() {
+            if is_moving(&self.places[key], now) {
+                return Some(key);
+            }
+        }
+        None
+    }
+
+    /// The key of the connection whose request is large and has made no progress for the longest time; `None` if no request
+    /// is large.
+    pub(crate) fn longest_still(&self) -> Option<usize>
+        ensures large { IfSome result (λ key. IsSome (still_since (slice_index_or self.now key None))) }
+        ensures least { IfSome result (λ key. EachIndex self.now (λ other.
+            IsNoLater (still_since (slice_index_or self.now key None))
+            (still_since (slice_index_or self.now other None)))) }
+        ensures none { IfNone result (EachIndex self.now (λ other.
+            still_since (slice_index_or self.now other None) ≡ None)) }
+    {
+        let mut first: Option<(usize, u64)> = None;
+        for (key, place) in self.places.iter().enumerate() {
+            first = earlier(first, key, still_since(place));
+        }
+        first.map(|(key, _since)| key)
     }
 
     /// The key of the connection that is slow and has made no progress for the longest time, among these; `None` if none is

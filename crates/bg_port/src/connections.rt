@@ -3,6 +3,7 @@ ghost use Rattle.std.specs.Prelude.{◌≡◌, ◌<◌, ◌≤◌, ℕ, [], Each
 ghost use Rattle.std.specs.Option.{option_copied};
 ghost use Rattle.bg_port.specs.Closing.{is_silent};
 ghost use Rattle.bg_port.specs.Pauses.{IsAsRuled, is_large_from, is_stuck, is_to_pause};
+ghost use Rattle.bg_port.specs.Stalls.{is_moving, still_since};
 ghost use Rattle.bg_port.specs.declared.pauses.Pauses.TheVariants as pauses;
 ghost use Rattle.bg_port.specs.Slowness.{IsNoLater, slow_at};
 ghost use Rattle.bg_port.specs.Stages.{is_waiting};
@@ -100,13 +101,17 @@ impl Connections {
         self.table.first_late(now, is_over)
     }
 
-    /// The key of the first connection whose request is arriving and of which no byte came; `None` if there is none.
-    pub(crate) fn first_silent(&self) -> Option<usize>
+    /// The key of the first connection from this one on whose request is arriving and of which no byte came; `None` if there
+    /// is none.
+    pub(crate) fn silent_from(&self, from: usize) -> Option<usize>
+        ensures from { IfSome result (λ key. from ≤ key) }
         ensures silent { IfSome result (λ key. is_silent (at self.now.places key) ≡ true) }
-        ensures none { IfNone result (EachIndex self.now.places (λ key.
-            is_silent (at self.now.places key) ≡ false)) }
+        ensures first { IfSome result (λ key. (other : ℕ) → from ≤ other → other < key
+            → is_silent (at self.now.places other) ≡ false) }
+        ensures none { IfNone result ((other : ℕ) → from ≤ other → other < length self.now.places
+            → is_silent (at self.now.places other) ≡ false) }
     {
-        self.table.first_silent()
+        self.table.silent_from(from)
     }
 
     /// The key of the connection that is slow and has made no progress for the longest time, among these; `None` if none is
@@ -173,6 +178,28 @@ impl Connections {
             → is_stuck now (at self.now.places other) ≡ false) }
     {
         self.table.stuck_from(from, now)
+    }
+
+    /// The key of the first connection whose request is large, goes on, and has made progress lately; `None` if there is none.
+    pub(crate) fn first_moving(&self, now: u64) -> Option<usize>
+        ensures within { IfSome result (λ key. key < length self.now.places) }
+        ensures moving { IfSome result (λ key. is_moving now (at self.now.places key) ≡ true) }
+        ensures none { IfNone result (EachIndex self.now.places (λ key.
+            is_moving now (at self.now.places key) ≡ false)) }
+    {
+        self.table.first_moving(now)
+    }
+
+    /// The key of the connection whose request is large and has made no progress for the longest time; `None` if no request
+    /// is large.
+    pub(crate) fn longest_still(&self) -> Option<usize>
+        ensures large { IfSome result (λ key. IsSome (still_since (at self.now.places key))) }
+        ensures least { IfSome result (λ key. EachIndex self.now.places (λ other.
+            IsNoLater (still_since (at self.now.places key)) (still_since (at self.now.places other)))) }
+        ensures none { IfNone result (EachIndex self.now.places (λ other.
+            still_since (at self.now.places other) ≡ None)) }
+    {
+        self.table.longest_still()
     }
 
     /// Adds a connection that was accepted at a moment. `None` only if no place or no number is free.

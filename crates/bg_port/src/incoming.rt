@@ -9,11 +9,20 @@ use std::marker::Model;
 
 /// A request whose end has not come. Its bytes are parsed as they come, and are not kept otherwise. So the memory
 /// that it takes is bounded by the limits of a request: of its head, of its body, and of a line of a chunk.
-#[derive(Drop)]
 pub struct IncomingRequest {
     parser: RequestParser,
     /// The number of bytes that came, or the greatest number.
     count: usize,
+}
+
+impl Drop for IncomingRequest {
+    /// Drops the fields by one call, so that the proofs of what owns a value are short (CONTRIBUTING.md, "What a check costs").
+    fn drop(self) {
+        let IncomingRequest {
+            parser: _,
+            count: _,
+        } = self;
+    }
 }
 
 impl Model for IncomingRequest {

@@ -13,6 +13,7 @@ mod progress;
 mod received;
 mod slowness;
 mod stage;
+mod stalls;
 mod totals;
 mod vacancies;
 

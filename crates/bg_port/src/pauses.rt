@@ -8,10 +8,10 @@ use crate::slowness::is_slow_request;
 use crate::stage::Stage;
 
 /// The number of bytes from which on a request is large.
-const LARGE_REQUEST: usize = 1 << 15;
+pub(crate) const LARGE_REQUEST: usize = 1 << 15;
 
 /// Which large requests are paused.
-#[derive(Clone, Copy, PartialEq, Eq, Debug, Drop)]
+#[derive(Clone, Copy, PartialEq, Eq, Drop)]
 pub enum Pauses {
     /// None.
     Off,
@@ -94,7 +94,7 @@ pub(crate) fn is_large_from(place: &Option<Connection>, least: u64) -> bool
     }
 }
 
-fn number_if(large: bool, number: u64) -> Option<u64>
+pub(crate) fn number_if(large: bool, number: u64) -> Option<u64>
     ensures { result ≡ number_if large number }
 {
     if large { Some(number) } else { None }

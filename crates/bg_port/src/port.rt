@@ -1,5 +1,5 @@
 //! The state of a client port.
-ghost use Rattle.std.specs.Prelude.{◌≡◌, ◌+◌, ◌<◌, ◌≤◌, [], EachIndex, IfNone, IfOk, IfSome, None, false, is_some, length, min, replicate};
+ghost use Rattle.std.specs.Prelude.{◌≡◌, ◌+◌, ◌<◌, ◌≤◌, [], EachIndex, IfNone, IfOk, IfSome, None, false, length, min, replicate};
 ghost use Rattle.bg_port.specs.Registers.{Enters, at};
 ghost use Rattle.bg_port.specs.Totals.{AreSums};
 
@@ -26,6 +26,9 @@ pub struct PortSettings {
     pub workers: u64,
     /// The timeout of a request from the moment at which it is left to the port, in milliseconds.
     pub request_millis: u64,
+    /// The grace of a shutdown, in milliseconds: for so long connections stay of which no byte came. It is over after 60
+    /// seconds at the latest.
+    pub grace_millis: u64,
     /// The memory, in bytes, that responses may take before slow clients are closed.
     pub response_bytes: u64,
     /// The memory, in bytes, that requests may take before large requests are paused.
@@ -83,13 +86,6 @@ impl Port {
         ensures { result ≡ length self.now.connections.places }
     {
         self.connections.places()
-    }
-
-    /// Whether the port shuts down.
-    pub fn is_closing(&self) -> bool
-        ensures { result ≡ is_some self.now.closing_until }
-    {
-        self.closing_until.is_some()
     }
 
     /// What the connections come to. There are at most as many as places.

@@ -2,6 +2,8 @@
 ghost use Rattle.std.specs.Prelude.{◌≡◌};
 ghost use Rattle.bg_port.specs.Paces.{is_slower, noted, request_pace};
 
+use crate::pauses::LARGE_REQUEST;
+
 /// What counts as progress: this many bytes within this many milliseconds. If no bytes come at all, the time is
 /// shorter.
 #[derive(Clone, Copy, PartialEq, Eq, Debug, Drop)]
@@ -20,9 +22,15 @@ pub(crate) const RESPONSE_PACE: Pace = Pace {
     silent_millis: 250,
 };
 
-/// The pace of a request that has bytes already, and of one that has none yet.
+/// The pace of a request that has bytes already, of one that is large, and of one that has no bytes yet.
 const REQUEST_PACE: Pace = Pace {
     bytes: 4_096,
+    within_millis: 4_000,
+    silent_millis: 2_000,
+};
+
+const LARGE_REQUEST_PACE: Pace = Pace {
+    bytes: 32_768,
     within_millis: 4_000,
     silent_millis: 2_000,
 };
@@ -39,13 +47,15 @@ pub(crate) fn request_pace(count: u64) -> Pace
 {
     if count == 0 {
         FIRST_BYTE_PACE
-    } else {
+    } else if count < LARGE_REQUEST as u64 {
         REQUEST_PACE
+    } else {
+        LARGE_REQUEST_PACE
     }
 }
 
 /// The state of a connection when it last made progress. Moments are milliseconds from the start of its port.
-#[derive(Clone, Copy, PartialEq, Eq, Debug, Drop)]
+#[derive(Clone, Copy, PartialEq, Eq, Drop)]
 pub struct Progress {
     pub(crate) moment: u64,
     /// The number of bytes that were moved by then.

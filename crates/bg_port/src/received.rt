@@ -20,7 +20,6 @@ pub enum Ending {
 }
 
 /// What a worker is given of a connection.
-#[derive(Drop)]
 pub struct ReceivedRequest {
     /// The request, or its fault: `ReadFailed` if a read failed, or if the port gave the request up.
     pub answer: Result<Request, RequestFault>,
@@ -33,7 +32,42 @@ pub struct ReceivedRequest {
     pub bytes: usize,
 }
 
+impl Drop for ReceivedRequest {
+    /// Drops the fields by one call, so that the proofs of what owns a value are short (CONTRIBUTING.md, "What a check costs").
+    fn drop(self) {
+        let ReceivedRequest {
+            answer: _,
+            refused: _,
+            ending: _,
+            bytes: _,
+        } = self;
+    }
+}
+
 impl ReceivedRequest {
+    /// The answer, the head of a refused request, what ended the request, and the number of bytes.
+    pub fn into_parts(
+        self,
+    ) -> (
+        Result<Request, RequestFault>,
+        Option<RefusedHead>,
+        Ending,
+        usize,
+    )
+        ensures answer { result.0 ≡ self.answer }
+        ensures refused { result.1 ≡ self.refused }
+        ensures ending { result.2 ≡ self.ending }
+        ensures bytes { result.3 ≡ self.bytes }
+    {
+        let ReceivedRequest {
+            answer,
+            refused,
+            ending,
+            bytes,
+        } = self;
+        (answer, refused, ending, bytes)
+    }
+
     /// A request that the port gave up.
     pub fn given_up() -> ReceivedRequest
         ensures { result ≡ unread ending.GivenUp 0 }

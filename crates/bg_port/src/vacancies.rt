@@ -6,7 +6,7 @@ use crate::connection::Connection;
 
 /// Where free places may be: the place of `first`, and the places from `rest` on. Each other place is occupied. So a
 /// connection that is taken out of its place for a moment and put back leaves this as it was.
-#[derive(Clone, Copy, Debug, Drop)]
+#[derive(Clone, Copy, Drop)]
 pub(crate) struct Vacancies {
     /// At most `rest`.
     pub(crate) first: usize,

@@ -4,7 +4,7 @@ use crate::name::Name;
 use crate::ports::Ports;
 
 /// A revision of the rollout. Argo Rollouts keeps a ReplicaSet for each.
-#[derive(Drop, Debug)]
+#[derive(Debug)]
 pub struct Revision {
     /// The number, at least 1. No two revisions ever get the same number.
     pub number: u64,
@@ -16,6 +16,19 @@ pub struct Revision {
     /// The number of available endpoints by the last report since the revision was scaled down, else 0. A report has
     /// at most the number desired at that time.
     pub available: u32,
+}
+
+impl Drop for Revision {
+    /// Drops the fields by one call, so that the proofs of what owns a value are short (CONTRIBUTING.md, "What a check costs").
+    fn drop(self) {
+        let Revision {
+            number: _,
+            name: _,
+            ports: _,
+            desired: _,
+            available: _,
+        } = self;
+    }
 }
 
 /// A service, which selects a revision.

@@ -15,9 +15,8 @@ use Rattle.bg_promotion.specs.declared.phase.Phase.{Phase}
 use Rattle.bg_promotion.specs.declared.phase.Phase.TheVariants.{Steady, Scaling, PreAnalysis, Paused, Sizing, PostAnalysis, Aborted}
 use Rattle.bg_promotion.specs.Core.{Core}
 use Rattle.bg_promotion.specs.Represents.{CoreRepresents}
-use Rattle.bg_scaledown.specs.Tables.{Table}
 use Rattle.bg_scaledown.specs.Due.{deadline_in}
-use Rattle.bg_scaledown.specs.Past.{table_of}
+use Rattle.bg_history.specs.Tables.{Table, table_of}
 use Rattle.bg_history_laws.specs.Listed.{revisions_of}
 use Rattle.bg_rollout.specs.declared.rollout.Rollout.TheInside.{Inside}
 use Rattle.bg_rollout.specs.PastState.{lists_of, SeatsInvariant}

@@ -17,8 +17,8 @@ use Rattle.bg_history.specs.Allowed.{selection, port_of}
 use Rattle.bg_promotion.specs.Answers.{abort_answer, retry_answer, promote_answer, promote_full_answer, verdict_answer}
 use Rattle.bg_history_laws.specs.Answers.{template_answer}
 use Rattle.bg_rollout.specs.declared.limits.Limits.{Limits}
-use Rattle.bg_rollout.specs.declared.control.Control.{Control}
-use Rattle.bg_rollout.specs.declared.control.Control.TheVariants.{Tick, Deploy, Available, Verdict, Promote, PromoteFull, Abort, Retry}
+use Rattle.bg_history.specs.declared.control.Control.{Control}
+use Rattle.bg_history.specs.declared.control.Control.TheVariants.{Tick, Deploy, Available, Verdict, Promote, PromoteFull, Abort, Retry}
 use Rattle.bg_rollout.specs.declared.ticket.Ticket.{Ticket}
 use Rattle.bg_rollout.specs.declared.fault.OpenFault as opening
 use Rattle.bg_rollout.specs.declared.fault.OpenFault.TheVariants as open_fault

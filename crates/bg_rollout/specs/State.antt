@@ -12,7 +12,7 @@ use Rattle.bg_history_laws.specs.Listed.{revision_of}
 use Rattle.bg_promotion.specs.declared.phase.Phase.{Phase}
 use Rattle.bg_promotion.specs.Phases.{phase_of}
 use Rattle.bg_scaledown.specs.Due.{deadline_in}
-use Rattle.bg_scaledown.specs.Past.{table_of}
+use Rattle.bg_history.specs.Tables.{table_of}
 use Rattle.bg_ledger.specs.declared.holding.Holding.{Holding}
 use Rattle.bg_rollout.specs.declared.request_lists.OpenRequest.{OpenRequest}
 use Rattle.bg_rollout.specs.PastState.{requests_at, seat_of}

@@ -22,7 +22,7 @@ ghost use Rattle.bg_rollout.specs.PastState.{lists_of, requests_at, share};
 ghost use Rattle.bg_rollout.specs.Refusals.{all_open};
 ghost use Rattle.bg_rollout.specs.Routing.{Routing};
 ghost use Rattle.bg_rollout.specs.State.{deadline_at, open_count_at, revision_at, state_of};
-ghost use Rattle.bg_scaledown.specs.Past.{table_of};
+ghost use Rattle.bg_history.specs.Tables.{table_of};
 
 use bg_history_laws as laws;
 use bg_scaledown::laws as scaledown_laws;

@@ -6,7 +6,6 @@
 #![tactic(auto)]
 
 mod accepted_event;
-mod control;
 mod control_fault;
 mod fault;
 mod go_on;
@@ -18,7 +17,7 @@ mod rollout;
 mod ticket;
 
 pub use accepted_event::AcceptedEvent;
-pub use control::Control;
+pub use bg_history::Control;
 pub use control_fault::ControlFault;
 pub use fault::{EnterFault, GatherFault, OpenFault};
 pub use go_on::GoOn;

@@ -9,11 +9,11 @@ use Rattle.bg_history.specs.AttemptBounds.{moment, newest_of}
 use Rattle.bg_history.specs.Sizes.{is_scaled}
 use Rattle.bg_history.specs.Selections.{selectors_of}
 use Rattle.bg_history.specs.Marks.{MarkKind, Left, Superseded, Cleared, kind_of}
-use Rattle.bg_scaledown.specs.declared.mark.RevisionMark.{RevisionMark}
-use Rattle.bg_scaledown.specs.declared.mark.Cause.TheVariants as cause
+use Rattle.bg_history.specs.declared.mark.RevisionMark.{RevisionMark}
+use Rattle.bg_history.specs.declared.mark.Cause.TheVariants as cause
 use Rattle.bg_scaledown.specs.Due.{marks_without}
 use Rattle.bg_scaledown.specs.Events.{takes_up, supersedes_newest, goes_back, with_left, with_superseded, cleared, replaced, deployed}
-use Rattle.bg_scaledown.specs.Past.{stamps_of, marks_of}
+use Rattle.bg_history.specs.Tables.{stamps_of, marks_of}
 use Rattle.bg_scaledown.proofs.PastTables.{marked, marks_without-twice, marks_without-again, marks_without-same, thrice, thrice-first, thrice-last, thrice-kinds, marks-step}
 
 -- the effect of a deploy of r on q, with the selectors x before it, depending on whether the newest one was scaled

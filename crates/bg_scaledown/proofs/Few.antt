@@ -12,10 +12,10 @@ use Rattle.bg_history.specs.AttemptBounds.{newest_of}
 use Rattle.bg_history.specs.Selections.{active_of, selectors_of}
 use Rattle.bg_history.specs.Sizes.{existing, Ascends}
 use Rattle.bg_history.specs.Deadlines.{deadline, exists_in}
-use Rattle.bg_scaledown.specs.declared.mark.RevisionMark.{RevisionMark}
+use Rattle.bg_history.specs.declared.mark.RevisionMark.{RevisionMark}
 use Rattle.bg_scaledown.specs.Due.{mark_of, one_if, has_room_for}
 use Rattle.bg_scaledown.specs.Events.{replaces_newest, goes_back, only_if, marked_by_halt, may_mark}
-use Rattle.bg_scaledown.specs.Past.{Stamp, stamps_of, marks_of, table_of, DeadlinesInvariant}
+use Rattle.bg_history.specs.Tables.{Stamp, stamps_of, marks_of, table_of, DeadlinesInvariant}
 use Rattle.bg_scaledown.proofs.Counts.{member, Distinct, is_false, ascends-distinct, length-within}
 use Rattle.bg_scaledown.proofs.Once.{revisions, stamps-distinct}
 use Rattle.bg_scaledown.proofs.PastRanks.{stamped-deadline}

@@ -9,7 +9,7 @@ use Rattle.bg_history.specs.Sizes.{existing, AllAbove, Ascends}
 use Rattle.bg_history.specs.Marks.{mark}
 use Rattle.bg_history.specs.Deadlines.{exists_in, is_spare, marks_due, is_due}
 use Rattle.bg_scaledown.specs.Due.{IsLeastDue}
-use Rattle.bg_scaledown.specs.Past.{table_of, DeadlinesInvariant}
+use Rattle.bg_history.specs.Tables.{table_of, DeadlinesInvariant}
 use Rattle.bg_scaledown.proofs.Counts.{member, is_false, above-absent}
 use Rattle.bg_scaledown.proofs.PastDue.{due-is_due}
 

@@ -11,11 +11,11 @@ use Rattle.bg_history.specs.declared.entry.AnalysisResult.TheVariants.{Successfu
 use Rattle.bg_history.specs.AttemptBounds.{moment}
 use Rattle.bg_history.specs.Selections.{selectors_of}
 use Rattle.bg_history.specs.Marks.{MarkKind, Left, Aborted, Cleared, has_abort_delay, kind_of}
-use Rattle.bg_scaledown.specs.declared.mark.RevisionMark.{RevisionMark}
-use Rattle.bg_scaledown.specs.declared.mark.Cause.TheVariants as cause
+use Rattle.bg_history.specs.declared.mark.RevisionMark.{RevisionMark}
+use Rattle.bg_history.specs.declared.mark.Cause.TheVariants as cause
 use Rattle.bg_scaledown.specs.Due.{marks_without}
 use Rattle.bg_scaledown.specs.Events.{with_left, with_aborted, halted}
-use Rattle.bg_scaledown.specs.Past.{stamps_of, marks_of}
+use Rattle.bg_history.specs.Tables.{stamps_of, marks_of}
 use Rattle.bg_scaledown.proofs.PastTables.{marked, marked-twice, marks_without-twice, thrice, thrice-first, thrice-last, thrice-kinds, marks-step}
 
 -- the effect of an abort on the newest revision

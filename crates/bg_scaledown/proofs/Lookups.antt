@@ -11,8 +11,8 @@ use Rattle.bg_history.specs.AttemptBounds.{moment}
 use Rattle.bg_history.specs.Marks.{MarkKind, Left, Superseded, Aborted, Cleared, Mark, kind_of, mark}
 use Rattle.bg_history.specs.Deadlines.{deadline_of}
 use Rattle.bg_strategy.specs.declared.strategy.Strategy.{Strategy}
-use Rattle.bg_scaledown.specs.declared.mark.Cause.TheVariants as cause
-use Rattle.bg_scaledown.specs.Past.{Stamp, stamp_at, others, stamp_of, stamped, touched, stamp_all, stamps_of}
+use Rattle.bg_history.specs.declared.mark.Cause.TheVariants as cause
+use Rattle.bg_history.specs.Tables.{Stamp, stamp_at, others, stamp_of, stamped, touched, stamp_all, stamps_of}
 
 -- the stamp of r after a mark of that kind
 abbrev pub after : Strategy → Option MarkKind → ℕ → ℕ → ℕ → Option Stamp → Option Stamp

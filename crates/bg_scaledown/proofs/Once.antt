@@ -5,7 +5,7 @@ use Rattle.bg_strategy.specs.declared.strategy.Strategy.{Strategy}
 use Rattle.bg_history.specs.declared.entry.Entry.{Entry}
 use Rattle.bg_history.specs.AttemptBounds.{moment}
 use Rattle.bg_history.specs.Marks.{MarkKind, Left, Superseded, Aborted, Cleared, kind_of}
-use Rattle.bg_scaledown.specs.Past.{Stamp, others, stamped, touched, stamp_all, stamps_of}
+use Rattle.bg_history.specs.Tables.{Stamp, others, stamped, touched, stamp_all, stamps_of}
 use Rattle.bg_scaledown.proofs.Counts.{member, Distinct}
 
 -- the revisions of the stamps

@@ -6,10 +6,9 @@ use Rattle.bg_history.specs.declared.entry.Entry.{Entry}
 use Rattle.bg_history.specs.AttemptBounds.{moment}
 use Rattle.bg_history.specs.Selections.{active_of}
 use Rattle.bg_history.specs.Marks.{MarkKind, Left, Superseded, Aborted, Cleared, kind_of}
-use Rattle.bg_scaledown.specs.declared.mark.Cause.{Cause}
-use Rattle.bg_scaledown.specs.declared.mark.Cause.TheVariants as cause
-use Rattle.bg_scaledown.specs.Due.{has_left}
-use Rattle.bg_scaledown.specs.Past.{Stamp, stamp_at, others, stamped, touched, stamp_all, stamps_of}
+use Rattle.bg_history.specs.declared.mark.Cause.{Cause}
+use Rattle.bg_history.specs.declared.mark.Cause.TheVariants as cause
+use Rattle.bg_history.specs.Tables.{has_left, Stamp, stamp_at, others, stamped, touched, stamp_all, stamps_of}
 use Rattle.bg_scaledown.proofs.Filters.{filter-swap, filter-twice}
 
 -- the stamp is of a revision that left

@@ -7,9 +7,9 @@ use Rattle.std.proofs.lemmas.Bool.Decides.{nat_tests, eqb_tells}
 use Rattle.std.proofs.lemmas.List.Folds.{list_any-append}
 use Rattle.bg_history.specs.Deadlines.{reaches_limit}
 use Rattle.bg_revisions.specs.declared.revision.Selectors.{Selectors}
-use Rattle.bg_scaledown.specs.declared.mark.RevisionMark.{RevisionMark}
-use Rattle.bg_scaledown.specs.Tables.{Table}
-use Rattle.bg_scaledown.specs.Due.{mark_of, has_left, exempts, one_if, rank_in, rank_among, found_is_due}
+use Rattle.bg_history.specs.declared.mark.RevisionMark.{RevisionMark}
+use Rattle.bg_history.specs.Tables.{Table, has_left}
+use Rattle.bg_scaledown.specs.Due.{mark_of, exempts, one_if, rank_in, rank_among, found_is_due}
 use Rattle.bg_scaledown.specs.Sorted.{sorted, OncePerRevision}
 use Rattle.bg_scaledown.proofs.Counts.{member}
 use Rattle.bg_scaledown.proofs.Least.{is_candidate}

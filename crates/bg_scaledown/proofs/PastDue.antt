@@ -8,11 +8,10 @@ use Rattle.bg_history.specs.AttemptBounds.{moment}
 use Rattle.bg_history.specs.Sizes.{existing, Ascends}
 use Rattle.bg_history.specs.Marks.{MarkKind, Left, Superseded, Aborted, Cleared, Mark, mark}
 use Rattle.bg_history.specs.Deadlines as history
-use Rattle.bg_scaledown.specs.declared.mark.Cause.TheVariants as cause
+use Rattle.bg_history.specs.declared.mark.Cause.TheVariants as cause
 use Rattle.bg_scaledown.specs.Due as due
 use Rattle.bg_history.specs.Selections.{selectors_of}
-use Rattle.bg_scaledown.specs.Tables.{Table}
-use Rattle.bg_scaledown.specs.Past.{Stamp, stamp_at, stamp_of, stamps_of, marks_of, table_of, DeadlinesInvariant}
+use Rattle.bg_history.specs.Tables.{Table, Stamp, stamp_at, stamp_of, stamps_of, marks_of, table_of, DeadlinesInvariant}
 use Rattle.bg_scaledown.proofs.Counts.{member}
 use Rattle.bg_scaledown.proofs.Lookups.{live, stamp_of-past}
 use Rattle.bg_scaledown.proofs.Once.{revisions}

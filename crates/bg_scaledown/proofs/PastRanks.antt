@@ -9,7 +9,7 @@ use Rattle.bg_history.specs.Sizes.{existing, Ascends}
 use Rattle.bg_history.specs.Marks.{MarkKind, Left, Superseded, Aborted, Cleared, Mark, mark}
 use Rattle.bg_history.specs.Deadlines.{deadline, is_spare, left_later, rank_after}
 use Rattle.bg_scaledown.specs.Due.{one_if, rank_in}
-use Rattle.bg_scaledown.specs.Past.{Stamp, stamp_of, stamps_of, marks_of, DeadlinesInvariant}
+use Rattle.bg_history.specs.Tables.{Stamp, stamp_of, stamps_of, marks_of, DeadlinesInvariant}
 use Rattle.bg_scaledown.proofs.Counts.{count, member, Distinct, count-same, ascends-distinct}
 use Rattle.bg_scaledown.proofs.Lookups.{live, live-deadline, stamp_of-past}
 use Rattle.bg_scaledown.proofs.Orders.{stamp_has_left, stamps-ordered}

@@ -5,11 +5,11 @@ use Rattle.bg_strategy.specs.declared.strategy.Strategy.{Strategy}
 use Rattle.bg_history.specs.declared.entry.Entry.{Entry}
 use Rattle.bg_history.specs.AttemptBounds.{moment}
 use Rattle.bg_history.specs.Marks.{MarkKind, Left, Superseded, Aborted, Cleared, kind_of}
-use Rattle.bg_scaledown.specs.declared.mark.RevisionMark.{RevisionMark}
-use Rattle.bg_scaledown.specs.declared.mark.Cause.{Cause}
-use Rattle.bg_scaledown.specs.declared.mark.Cause.TheVariants as cause
+use Rattle.bg_history.specs.declared.mark.RevisionMark.{RevisionMark}
+use Rattle.bg_history.specs.declared.mark.Cause.{Cause}
+use Rattle.bg_history.specs.declared.mark.Cause.TheVariants as cause
 use Rattle.bg_scaledown.specs.Due.{marks_without}
-use Rattle.bg_scaledown.specs.Past.{Stamp, others, stamped, touched, stamp_all, stamps_of, marks_of}
+use Rattle.bg_history.specs.Tables.{Stamp, others, stamped, touched, stamp_all, stamps_of, marks_of}
 use Rattle.bg_scaledown.proofs.Filters.{filter-swap, filter-twice}
 
 -- the marks after the call of that kind for q: `left_active`, `superseded`, `aborted`, `clear` or none

@@ -2,7 +2,7 @@
 use Rattle.std.proofs.Common.{◌≡◌, ◌<◌, ◌≤◌, ◌+◌, ℕ, Bool, true, false, ◌==◌, ◌&&◌, nat_lt, List, [], ◌∷◌, Some, refl, arith, inl, inr}
 use Rattle.std.proofs.lemmas.Bool.Decides.{nat_tests, eqb_tells}
 use Rattle.bg_scaledown.specs.Due.{one_if, rank_in}
-use Rattle.bg_scaledown.specs.Past.{Stamp, stamp_of, marks_of}
+use Rattle.bg_history.specs.Tables.{Stamp, stamp_of, marks_of}
 use Rattle.bg_scaledown.proofs.Orders.{stamp_has_left, LeftBefore, Ordered}
 
 -- the number of counted stamps that left after that many entries

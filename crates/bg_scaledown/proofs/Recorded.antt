@@ -5,9 +5,8 @@ use Rattle.bg_history.specs.declared.entry.Entry.{Entry}
 use Rattle.bg_history.specs.AttemptBounds.{moment}
 use Rattle.bg_history.specs.Selections.{selectors_of}
 use Rattle.bg_strategy.specs.declared.strategy.Strategy.{Strategy}
-use Rattle.bg_scaledown.specs.declared.mark.RevisionMark.{RevisionMark}
-use Rattle.bg_scaledown.specs.Tables.{Table}
-use Rattle.bg_scaledown.specs.Past.{stamps_of, marks_of, table_of}
+use Rattle.bg_history.specs.declared.mark.RevisionMark.{RevisionMark}
+use Rattle.bg_history.specs.Tables.{Table, stamps_of, marks_of, table_of}
 
 -- `change` is the effect of the entry on the marks
 pub table-changed : (s : Strategy) (past : List Entry) (e : Entry) (change : Selectors → ℕ → ℕ → ℕ → List RevisionMark → List RevisionMark) (t u : Table) (x : Selectors) (now : ℕ)

@@ -3,7 +3,7 @@ use Rattle.std.proofs.Common.{◌≡◌, ◌<◌, ◌+◌, ℕ, Bool, true, fals
 use Rattle.std.specs.List.{list_any, prefix_len}
 use Rattle.std.proofs.lemmas.Bool.Decides.{nat_tests}
 use Rattle.std.proofs.lemmas.List.Sums.{take_while-cons}
-use Rattle.bg_scaledown.specs.declared.mark.RevisionMark.{RevisionMark}
+use Rattle.bg_history.specs.declared.mark.RevisionMark.{RevisionMark}
 use Rattle.bg_scaledown.specs.Due.{marks_without, mark_of}
 use Rattle.bg_scaledown.specs.Sorted.{comes_before, inserted, sorted, OncePerRevision, InBothOrders}
 use Rattle.bg_scaledown.proofs.Room.{length-marks_without}

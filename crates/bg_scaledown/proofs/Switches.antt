@@ -10,7 +10,7 @@ use Rattle.bg_history.specs.Selections.{active_of, selectors_of}
 use Rattle.bg_history.specs.Marks.{Left, Cleared, kind_of}
 use Rattle.bg_scaledown.specs.Due.{marks_without}
 use Rattle.bg_scaledown.specs.Events.{switched}
-use Rattle.bg_scaledown.specs.Past.{stamps_of, marks_of}
+use Rattle.bg_history.specs.Tables.{stamps_of, marks_of}
 use Rattle.bg_scaledown.proofs.PastTables.{marked, marks-step}
 
 -- the effect of a switch on the revision that was active and on the one that becomes active

@@ -2,11 +2,9 @@
 use Rattle.std.specs.Prelude.{◌≤◌, ℕ, Bool, true, false, not, if◌then◌else◌, ◌+◌, ◌==◌, ◌&&◌, ◌||◌, nat_le, is_none, length, List, [], ◌∷◌, filter, find, Option, Some, None, IfSome, IfNone, IsTrue, IsFalse}
 use Rattle.std.specs.Option.{option_map}
 use Rattle.bg_history.specs.Deadlines.{reaches_limit}
-use Rattle.bg_scaledown.specs.declared.mark.RevisionMark.{RevisionMark}
-use Rattle.bg_scaledown.specs.declared.mark.Cause.{Cause}
-use Rattle.bg_scaledown.specs.declared.mark.Cause.TheVariants.{Left, Superseded, Aborted}
+use Rattle.bg_history.specs.declared.mark.RevisionMark.{RevisionMark}
 use Rattle.bg_revisions.specs.declared.revision.Selectors.{Selectors}
-use Rattle.bg_scaledown.specs.Tables.{Table}
+use Rattle.bg_history.specs.Tables.{Table, has_left}
 
 -- the marks of other revisions
 abbrev pub marks_without : ℕ → List RevisionMark → List RevisionMark
@@ -28,12 +26,6 @@ unmarked (r ∷ rest) marks = one_if (is_none (mark_of r marks)) + unmarked rest
 -- there is room for a mark of each of the revisions: at most 64 revisions can have a mark
 abbrev pub has_room_for : List ℕ → List RevisionMark → Bool
 has_room_for rs marks = nat_le (unmarked rs marks + length marks) 64
-
--- the revision left the active service
-abbrev pub has_left : Cause → Bool
-has_left Left = true
-has_left Superseded = false
-has_left Aborted = false
 
 -- the deadline of the revision: the moment from which it may be scaled down
 abbrev pub deadline_in : Table → ℕ → Option ℕ

@@ -5,8 +5,8 @@ use Rattle.bg_history.specs.declared.entry.Entry.TheVariants.{Deploy, Verdict, A
 use Rattle.bg_history.specs.declared.entry.Outcome.TheVariants.{Switched}
 use Rattle.bg_history.specs.declared.entry.AnalysisResult.TheVariants.{Failed, Error}
 use Rattle.bg_revisions.specs.declared.revision.Selectors.{Selectors}
-use Rattle.bg_scaledown.specs.declared.mark.RevisionMark.{RevisionMark}
-use Rattle.bg_scaledown.specs.declared.mark.Cause.TheVariants.{Left, Superseded, Aborted}
+use Rattle.bg_history.specs.declared.mark.RevisionMark.{RevisionMark}
+use Rattle.bg_history.specs.declared.mark.Cause.TheVariants.{Left, Superseded, Aborted}
 use Rattle.bg_scaledown.specs.Due.{marks_without}
 
 -- the marks after r left the active service, with this deadline

@@ -1,5 +1,3 @@
-pub mod Tables
 pub mod Due
 pub mod Sorted
 pub mod Events
-pub mod Past

@@ -1,6 +1,6 @@
 -- The marks in the order of their deadlines.
 use Rattle.std.specs.Prelude.{◌≡◌, ◌≤◌, Bool, if◌then◌else◌, ◌==◌, ◌&&◌, ◌||◌, nat_lt, nat_le, List, [], ◌∷◌, length, None}
-use Rattle.bg_scaledown.specs.declared.mark.RevisionMark.{RevisionMark}
+use Rattle.bg_history.specs.declared.mark.RevisionMark.{RevisionMark}
 use Rattle.bg_scaledown.specs.Due.{mark_of}
 
 -- m has the earlier deadline, or the same deadline and no greater revision number

@@ -11,15 +11,14 @@ ghost use Rattle.bg_history.specs.Deadlines.{is_due as is_due_in_past};
 ghost use Rattle.bg_scaledown.specs.Due.{marks_without, has_room_for, deadline_in};
 ghost use Rattle.bg_scaledown.specs.Due.{exempts, is_due_in, IsLeastDue};
 ghost use Rattle.bg_scaledown.specs.Events.{with_aborted};
-ghost use Rattle.bg_scaledown.specs.Past.{table_of, DeadlinesInvariant};
-ghost use Rattle.bg_scaledown.specs.declared.mark.Cause.TheVariants.{Left, Superseded};
+ghost use Rattle.bg_history.specs.Tables.{table_of, DeadlinesInvariant};
+ghost use Rattle.bg_history.specs.declared.mark.Cause.TheVariants.{Left, Superseded};
 
 mod events;
 
 use crate::laws as scaledown_laws;
-use crate::mark::{Cause, RevisionMark};
 use crate::marks::Marks;
-use bg_history::laws as history_laws;
+use bg_history::{Cause, RevisionMark, laws as history_laws};
 use bg_revisions::Selectors;
 use std::marker::Model;
 
@@ -38,7 +37,7 @@ pub struct Deadlines {
 
 impl Model for Deadlines {
     ghost use Rattle.std.specs.Prelude.{◌≤◌, length};
-    ghost use Rattle.bg_scaledown.specs.Tables.{Table};
+    ghost use Rattle.bg_history.specs.Tables.{Table};
 
     ghost Value = { Table };
 

@@ -8,7 +8,7 @@ ghost use Rattle.bg_history.specs.Sizes.{existing};
 ghost use Rattle.bg_history.specs.Deadlines.{deadline, exists_in, is_due};
 ghost use Rattle.bg_scaledown.specs.Due.{deadline_in, has_room_for, is_due_in};
 ghost use Rattle.bg_scaledown.specs.Events.{may_mark};
-ghost use Rattle.bg_scaledown.specs.Past.{table_of, DeadlinesInvariant};
+ghost use Rattle.bg_history.specs.Tables.{table_of, DeadlinesInvariant};
 
 use bg_history::laws as history_laws;
 

@@ -3,9 +3,7 @@
 
 mod deadlines;
 pub mod laws;
-mod mark;
 mod mark_list;
 mod marks;
 
 pub use deadlines::Deadlines;
-pub use mark::{Cause, RevisionMark};

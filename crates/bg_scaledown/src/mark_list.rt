@@ -1,7 +1,7 @@
 //! A row of marks of fixed size.
 ghost use Rattle.std.specs.Prelude.{◌≡◌, ◌<◌, ◌≤◌, [], ◌∷◌, ◌++◌, length};
 
-use crate::mark::{Cause, RevisionMark};
+use bg_history::{Cause, RevisionMark};
 use std::marker::Model;
 
 /// The greatest number of marks in a row: one for each revision.
@@ -22,7 +22,7 @@ pub struct MarkList {
 
 impl Model for MarkList {
     ghost use Rattle.std.specs.Prelude.{◌≤◌, List, take};
-    ghost use Rattle.bg_scaledown.specs.declared.mark.RevisionMark.{RevisionMark};
+    ghost use Rattle.bg_history.specs.declared.mark.RevisionMark.{RevisionMark};
 
     ghost Value = { List RevisionMark };
 

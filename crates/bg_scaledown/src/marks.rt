@@ -3,8 +3,8 @@ ghost use Rattle.std.specs.Prelude.{◌≡◌, ◌<◌, ◌≤◌, [], ◌∷◌
 ghost use Rattle.bg_scaledown.specs.Due.{marks_without};
 ghost use Rattle.bg_scaledown.specs.Sorted.{comes_before, inserted, sorted, OncePerRevision};
 
-use crate::mark::RevisionMark;
 use crate::mark_list::MarkList;
+use bg_history::RevisionMark;
 use std::marker::Model;
 
 /// At most 64 marks, at most one of each revision. Contracts see them newest first. They are also kept in the order
@@ -17,7 +17,7 @@ pub struct Marks {
 
 impl Model for Marks {
     ghost use Rattle.std.specs.Prelude.{List};
-    ghost use Rattle.bg_scaledown.specs.declared.mark.RevisionMark.{RevisionMark};
+    ghost use Rattle.bg_history.specs.declared.mark.RevisionMark.{RevisionMark};
     ghost use Rattle.bg_scaledown.specs.Sorted.{InBothOrders};
 
     ghost Value = { List RevisionMark };

@@ -2,9 +2,9 @@
 use Rattle.std.proofs.Common.{◌≡◌, ◌≢◌, ◌≤◌, ◌⊎◌, inl, inr, ℕ, List, length, Option, None, Some, subst}
 use Rattle.std.specs.Prelude.{Result, Ok, Err, MatchResult, IfOk, IfSome}
 use Rattle.std.specs.Io.KnownBytes.{Appends}
-use Rattle.bg_strategy.specs.Reading.{IsStrategyIn, IsFaultIn}
-use Rattle.bg_strategy.specs.declared.fault.StrategyFault.{StrategyFault}
-use Rattle.bg_strategy.specs.declared.fault.StrategyFault.TheVariants as fault
+use Rattle.bg_strategy_text.specs.Reading.{IsStrategyIn, IsFaultIn}
+use Rattle.bg_strategy_text.specs.declared.fault.StrategyFault.{StrategyFault}
+use Rattle.bg_strategy_text.specs.declared.fault.StrategyFault.TheVariants as fault
 use Rattle.bg_script.specs.declared.finding.Finding.{Finding}
 use Rattle.bg_script.specs.declared.finding.Finding.TheVariants.{Means, Refused, TooLarge}
 use Rattle.bg_script.specs.declared.run_end.RunEnd.{RunEnd}

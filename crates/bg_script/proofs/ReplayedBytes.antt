@@ -2,7 +2,7 @@
 -- were read.
 use Rattle.std.proofs.Common.{◌≡◌, ◌≤◌, ℕ, Bool, List, length, if◌then◌else◌, Option, None, Some, refl, subst}
 use Rattle.std.specs.Prelude.{IfSome}
-use Rattle.bg_strategy.specs.Reading.{IsStrategyIn, IsFaultIn}
+use Rattle.bg_strategy_text.specs.Reading.{IsStrategyIn, IsFaultIn}
 use Rattle.bg_strategy.specs.declared.strategy.Strategy.{Strategy}
 use Rattle.bg_script.specs.declared.finding.Finding.{Finding}
 use Rattle.bg_script.specs.declared.finding.Finding.TheVariants.{Means, Refused, TooLarge}

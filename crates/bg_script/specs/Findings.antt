@@ -1,9 +1,9 @@
 -- The result of reading the text of a strategy, and its text.
 use Rattle.std.specs.Prelude.{◌≢◌, ℕ, ◌<◌, ◌≤◌, List, length, codes, ⊤}
-use Rattle.bg_strategy.specs.Reading.{IsStrategyIn, IsFaultIn}
-use Rattle.bg_strategy.specs.declared.fault.StrategyFault.TheVariants.{OutOfMemory}
+use Rattle.bg_strategy_text.specs.Reading.{IsStrategyIn, IsFaultIn}
+use Rattle.bg_strategy_text.specs.declared.fault.StrategyFault.TheVariants.{OutOfMemory}
 use Rattle.bg_operator.specs.Parting.{largest_strategy}
-use Rattle.bg_report.specs.Settings.{strategy_text, fault_text}
+use Rattle.bg_strategy_text.specs.Texts.{strategy_text, fault_text}
 use Rattle.bg_operator.specs.declared.strategy_part.StrategyPart.{StrategyPart}
 use Rattle.bg_operator.specs.declared.strategy_part.StrategyPart.TheVariants as part
 use Rattle.bg_script.specs.declared.finding.Finding.{Finding}

@@ -1,9 +1,9 @@
 -- The answer to a line of a script or of a control connection.
-use Rattle.std.specs.Prelude.{◌≡◌, ◌≤◌, ◌+◌, ◌&&◌, nat_le, ℕ, Bool, true, false, if◌then◌else◌, length, List, None, Result, Ok, Err, ◌⊎◌}
+use Rattle.std.specs.Prelude.{◌≡◌, ◌+◌, ◌&&◌, nat_le, ℕ, Bool, true, false, if◌then◌else◌, length, List, None, Result, Ok, Err, ◌⊎◌}
 use Rattle.bg_strategy.specs.declared.strategy.Strategy.{Strategy}
 use Rattle.bg_revisions.specs.PortLists.{are_ports}
 use Rattle.bg_ledger.specs.declared.holding.Holding.{Holding}
-use Rattle.bg_rollout.specs.declared.control.Control.{Control}
+use Rattle.bg_history.specs.declared.control.Control.{Control}
 use Rattle.bg_rollout.specs.declared.fault.OpenFault.TheVariants as open_fault
 use Rattle.bg_rollout.specs.Refusals.{open_refusal, usual_limits, IsRefusedBy}
 use Rattle.bg_rollout.specs.Changes.{opened, NewSeats}
@@ -12,8 +12,7 @@ use Rattle.bg_rollout.specs.Routing.{Routing}
 use Rattle.bg_book.specs.declared.calls.Call.{Call}
 use Rattle.bg_book.specs.declared.calls.Call.TheVariants as call
 use Rattle.bg_book.specs.declared.calls.Reply.{Reply}
-use Rattle.bg_book.specs.declared.calls.Reply.TheVariants.{Done, ControlRefused}
-use Rattle.bg_book.specs.Desks.{AnswersControl}
+use Rattle.bg_book.specs.Desks.{AnswersControlCompacting}
 use Rattle.bg_book.specs.Headline.{Headline}
 use Rattle.bg_book.specs.Runs.{CallStep}
 use Rattle.bg_operator.specs.declared.command.Command.{Command}
@@ -115,11 +114,10 @@ ByBook in_script at_desk ConnectionClosed written next =
     Stays ConnectionClosed answer.NotOpen written next
 ByBook in_script at_desk ConnectionOpen written next = at_desk written × (next ≡ ConnectionOpen)
 
--- the reply of a desk to an event: the number of outcomes of its step, or the refusal
+-- the reply of a desk to an event: that of some book, after a compaction if its history is full
 abbrev pub EventReply : Control → Reply → Type 0
-EventReply event (Done outcomes) = AnswersControl event (Ok outcomes) × (outcomes ≤ 140)
-EventReply event (ControlRefused fault) = AnswersControl event (Err fault)
-EventReply event _ = ⊥
+EventReply event reply =
+    (b : Routing) × (new : Routing) × AnswersControlCompacting b event reply new
 
 -- the answer of a desk to an event
 abbrev pub DeskReplies : Control → Written → Type 0

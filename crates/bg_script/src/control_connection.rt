@@ -2,9 +2,11 @@
 //!
 //! The lines are read and answered like those of a script, but requests enter and leave by the
 //! workers, not by lines. Each answer is flushed before the next line is read.
-ghost use Rattle.std.specs.Prelude.{IfOk};
+ghost use Rattle.std.specs.Prelude.{◌≡◌, IfOk};
 ghost use Rattle.bg_operator.specs.Reading.{Known};
-ghost use Rattle.bg_script.specs.Connections.{AnswersAtDesk, AnswersBeforeOpen};
+ghost use Rattle.bg_script.specs.Connections.{AnswersAtDesk, AnswersBeforeOpen, end_at_desk};
+ghost use Rattle.bg_script.specs.LineAnswers.{MayEnd};
+ghost use Rattle.bg_script.specs.LineSteps.{ConnectionOpen};
 
 use crate::answering::{LinesEnd, answer_lines};
 use crate::marks_down::MarksDown;
@@ -71,10 +73,18 @@ pub fn answer_at_desk<N: Names, R: Wait, M: MarksDown, B: BufRead, W: Write>(
         (AnswersAtDesk end (W.contents writer.old) (W.contents writer.new))) }
 {
     let answered = answer_lines(&mut at_desk, lines, reader, writer)?;
-    match answered.end {
+    Ok(control_end(answered.end))
+}
+
+/// The end of the lines at a desk, where no book can be opened.
+fn control_end(end: LinesEnd) -> ControlEnd
+    requires { MayEnd end ConnectionOpen }
+    ensures { end_at_desk result ≡ end }
+{
+    match end {
         LinesEnd::Open(_) => unreachable!(),
-        LinesEnd::Quit => Ok(ControlEnd::Quit),
-        LinesEnd::SpeaksHttp => Ok(ControlEnd::SpeaksHttp),
-        LinesEnd::End => Ok(ControlEnd::End),
+        LinesEnd::Quit => ControlEnd::Quit,
+        LinesEnd::SpeaksHttp => ControlEnd::SpeaksHttp,
+        LinesEnd::End => ControlEnd::End,
     }
 }

@@ -5,8 +5,8 @@ ghost use Rattle.bg_script.specs.Findings.{finding_text, IsFoundIn, status_of};
 
 use crate::run_end::RunEnd;
 use bg_operator::StrategyPart;
-use bg_report::{fault_line, strategy_lines};
-use bg_strategy::{Strategy, StrategyFault};
+use bg_strategy::Strategy;
+use bg_strategy_text::{StrategyFault, fault_line, read_with_hints, strategy_lines};
 use std::alloc::Global;
 use std::io;
 use std::io::Write;
@@ -45,7 +45,7 @@ pub fn finding_in<E: Write>(
     let StrategyPart::Whole(text) = part else {
         return Ok(Finding::TooLarge);
     };
-    match bg_strategy::read_with_hints(alloc, text, errors) {
+    match read_with_hints(alloc, text, errors) {
         Ok(strategy) => Ok(Finding::Means(strategy)),
         Err(fault) => refused(fault),
     }

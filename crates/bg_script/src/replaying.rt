@@ -1,5 +1,5 @@
 //! `replay`: the answers to a script.
-ghost use Rattle.std.specs.Prelude.{◌≡◌, ◌≤◌, IfOk, IfErr, IfSome, OnErr, OnOk};
+ghost use Rattle.std.specs.Prelude.{◌≡◌, ◌≤◌, Bool, if◌then◌else◌, IfOk, IfErr, IfSome, OnErr, OnOk};
 ghost use Rattle.std.specs.Io.KnownBytes.{Appends};
 ghost use Rattle.bg_ledger.specs.Blanks.{AreAllFor};
 ghost use Rattle.bg_script.specs.declared.answer.Answer.TheVariants.{Opened, OpenRefused};
@@ -15,6 +15,7 @@ use crate::stages::{ScriptSettings, WithoutBook};
 use bg_book::{Limits, OpenBook, OpenFault, RolloutOpening};
 use bg_ledger::{Blanks, Names};
 use bg_operator::{MOST_TURNS, OperatorLines, part_before_script};
+use bg_strategy::Strategy;
 use std::alloc::Global;
 use std::io::{BufRead, BufReader, Read, Write};
 use std::marker::Brand;
@@ -45,14 +46,7 @@ pub fn replay<R: Read, W: Write, E: Write>(
     let Finding::Means(strategy) = &finding else {
         return refuse(&finding, writer);
     };
-    let settings = ScriptSettings {
-        alloc,
-        strategy,
-        seats: u32::from(seats),
-    };
-    let mut lines = OperatorLines::new(alloc);
-    let faulted = run(&settings, &mut lines, &mut input, writer)?;
-    Ok(u8::from(faulted))
+    run_script(alloc, strategy, seats, &mut input, writer)
 }
 
 /// Writes the fault of the strategy. Returns the exit status.
@@ -61,6 +55,29 @@ fn refuse<W: Write>(finding: &Finding, writer: &mut W) -> Result<u8, RunEnd>
 {
     write_finding(finding, writer)?;
     Ok(finding.status())
+}
+
+/// Answers the script by books of this strategy. Returns the exit status.
+fn run_script<B: BufRead, W: Write>(
+    alloc: Global,
+    strategy: &Strategy,
+    seats: u8,
+    reader: &mut B,
+    writer: &mut W,
+) -> Result<u8, RunEnd>
+    ensures { IfOk result (λ status. (faulted : Bool)
+        × IfSome (B.remaining reader.old) (Ran (Closed strategy.now seats)
+        (W.contents writer.old) (W.contents writer.new) faulted)
+        × (status ≡ (if faulted then 1 else 0))) }
+{
+    let settings = ScriptSettings {
+        alloc,
+        strategy,
+        seats: u32::from(seats),
+    };
+    let mut lines = OperatorLines::new(alloc);
+    let faulted = run(&settings, &mut lines, reader, writer)?;
+    Ok(u8::from(faulted))
 }
 
 /// Answers each line up to the end or `quit`. Returns whether a fault was among the answers.

@@ -1,7 +1,1 @@
 pub mod Label
-pub mod Values
-pub mod Table
-pub mod Lookup
-pub mod Faults
-pub mod Settings
-pub mod Reading

@@ -6,7 +6,7 @@ use std::alloc::AllocError;
 
 /// The strategy of a blue-green rollout (Argo Rollouts, "BlueGreen Deployment Strategy" and "Rollout
 /// Specification").
-#[derive(Drop, Debug)]
+#[derive(Debug)]
 pub struct Strategy {
     /// The service that carries live traffic: `activeService`.
     pub active_service: ServiceName,
@@ -44,6 +44,27 @@ pub struct Strategy {
     ghost few_replicas: { replicas ≤ 64 },
     ghost some_preview: { 1 ≤ preview_replicas },
     ghost few_previews: { preview_replicas ≤ replicas },
+}
+
+impl Drop for Strategy {
+    /// Drops the fields by one call, so that the proofs of what owns a value are short (CONTRIBUTING.md, "What a check costs").
+    fn drop(self) {
+        let Strategy {
+            active_service: _,
+            preview_service: _,
+            replicas: _,
+            preview_replicas: _,
+            auto_promotion: _,
+            auto_seconds: _,
+            pre: _,
+            post: _,
+            delay: _,
+            revision_limit: _,
+            abort_delay: _,
+            drain_limit: _,
+            history_limit: _,
+        } = self;
+    }
 }
 
 /// The copy has the same settings. The only error is an allocation failure.

@@ -1,1 +1,2 @@
+pub mod RevisionLists
 pub mod SeatsKept

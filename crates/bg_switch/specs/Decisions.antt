@@ -3,8 +3,8 @@ use Rattle.std.specs.Prelude.{Bool, true, false, Result, Ok}
 use Rattle.bg_operator.specs.declared.command.Command.{Command}
 use Rattle.bg_operator.specs.declared.command.Command.TheVariants.{Control, Open, Quit}
 use Rattle.bg_operator.specs.declared.line_fault.LineFault.{LineFault}
-use Rattle.bg_rollout.specs.declared.control.Control.{Control as Event}
-use Rattle.bg_rollout.specs.declared.control.Control.TheVariants.{Available, Tick}
+use Rattle.bg_history.specs.declared.control.Control.{Control as Event}
+use Rattle.bg_history.specs.declared.control.Control.TheVariants.{Available, Tick}
 
 -- an event that somebody decides: each but a moment and a number of available endpoints
 abbrev pub is_decision : Event → Bool

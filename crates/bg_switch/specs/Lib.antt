@@ -1,3 +1,4 @@
 pub mod Decisions
+pub mod RevisionLists
 pub mod Rollbacks
 pub mod Services

@@ -5,8 +5,8 @@ use Rattle.bg_history.specs.declared.entry.AnalysisResult.TheVariants.{Successfu
 use Rattle.bg_operator.specs.declared.command.Command.{Command}
 use Rattle.bg_operator.specs.declared.command.Command.TheVariants.{Control}
 use Rattle.bg_operator.specs.declared.line_fault.LineFault.{LineFault}
-use Rattle.bg_rollout.specs.declared.control.Control.{Control as Event}
-use Rattle.bg_rollout.specs.declared.control.Control.TheVariants.{Abort, Verdict}
+use Rattle.bg_history.specs.declared.control.Control.{Control as Event}
+use Rattle.bg_history.specs.declared.control.Control.TheVariants.{Abort, Verdict}
 
 abbrev pub is_unsuccessful : AnalysisResult → Bool
 is_unsuccessful Successful = false

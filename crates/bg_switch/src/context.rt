@@ -1,10 +1,9 @@
 //! What the threads of `serve` share.
 
-use crate::notices::Notices;
-use crate::ports::Ports;
 use bg_access_log::AccessLog;
 use bg_command_line::MessageTimeout;
 use bg_endpoints::Directory;
+use bg_ports::{Notices, Ports};
 use bg_strategy::Strategy;
 use std::alloc::Global;
 

@@ -1,17 +1,11 @@
 //! A blue-green traffic switch: the program.
 #![tactic(auto)]
 
-mod addresses;
 mod book_opener;
 mod buffered_output;
-mod clients;
 mod context;
-mod descriptors;
-mod notices;
 mod operator_users;
 mod operators;
-mod ports;
-mod request_text;
 mod revision_ports;
 mod serve;
 mod workers;

@@ -4,13 +4,13 @@ ghost use Rattle.bg_switch.specs.Decisions.{is_decision, makes_decision};
 ghost use Rattle.bg_switch.specs.Rollbacks.{ends_attempt, is_rollback, is_unsuccessful};
 
 use crate::context::ServeContext;
-use crate::notices::Notices;
 use crate::revision_ports::{DownPorts, update_directory};
 use bg_book::{Control, Desk};
 use bg_control_port::{AfterReply, Asker, ControlPort, LinePriority, Reply};
 use bg_history::AnalysisResult;
 use bg_ledger::Names;
 use bg_operator::{Command, LineFault, OperatorLines};
+use bg_ports::Notices;
 use bg_script::{
     Answer, AtDesk, ControlEnd, LinesEnd, RunEnd, answer_at_desk, answer_before_open, write_answer,
 };
@@ -72,14 +72,15 @@ impl<'c, R: Clock + Wait> Operator<'c, R> {
         end
     }
 
-    /// Answers the next line by the book of a desk. Counts those that are refused because the history is full. The ports of a line `down` go to `down`. Returns whether the line is `quit`.
-    fn quits_at_desk<N: Names>(
+    /// Waits for the next line, and makes its reply by the book of a desk. Counts the lines that are refused because the
+    /// history is full. The ports of a line `down` go to `down`.
+    fn next_at_desk<N: Names>(
         &mut self,
         alloc: Global,
         desk: &Desk<N>,
         control: &ControlPort,
         down: &DownPorts<R>,
-    ) -> bool {
+    ) -> Result<ControlEnd, RunEnd> {
         self.next(control);
         let mut line = self.line.as_slice();
         let at_desk = AtDesk {
@@ -89,7 +90,11 @@ impl<'c, R: Clock + Wait> Operator<'c, R> {
             refused_for_room: self.notices.refused_lines(),
             receiver: down,
         };
-        let end = answer_at_desk(at_desk, &mut self.lines, &mut line, &mut self.reply);
+        answer_at_desk(at_desk, &mut self.lines, &mut line, &mut self.reply)
+    }
+
+    /// Gives the reply that was made to the line. Returns whether the line is `quit`.
+    fn quits(&mut self, control: &ControlPort, end: Result<ControlEnd, RunEnd>) -> bool {
         match end {
             Ok(ControlEnd::Quit) => {
                 self.note_decision();
@@ -220,12 +225,13 @@ fn is_unsuccessful(verdict: AnalysisResult) -> bool
 }
 
 /// Answers the `open` that opened the book, and then the lines of all operators, up to `quit`. The directory, if
-/// there is one, gets the ports of the revisions that exist after each line, before the next one is answered.
+/// there is one, gets the ports of the revisions that are in use after each line, before its reply is given.
 pub fn answer_operators<'a, N: Names, R: Clock + Wait>(
     context: &ServeContext<'a, R>,
     desk: &Desk<N>,
     operator: &mut Operator<R>,
 ) {
+    let control = &context.ports.control;
     let down = DownPorts {
         rt: context.rt,
         alloc: context.alloc,
@@ -233,12 +239,13 @@ pub fn answer_operators<'a, N: Names, R: Clock + Wait>(
     };
     context.notices.note_open();
     update_directory(context, desk);
-    operator.answer_open(&context.ports.control, &Answer::Opened);
+    operator.answer_open(control, &Answer::Opened);
     for _ in context.rt.forever() {
         context.notices.note_entries(desk.entries_used(context.rt));
-        if operator.quits_at_desk(context.alloc, desk, &context.ports.control, &down) {
+        let end = operator.next_at_desk(context.alloc, desk, control, &down);
+        update_directory(context, desk);
+        if operator.quits(control, end) {
             return;
         }
-        update_directory(context, desk);
     }
 }

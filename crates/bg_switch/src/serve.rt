@@ -1,15 +1,13 @@
 //! `serve`: workers at the client ports, and operators at the control port.
 
-use crate::addresses::BindFault;
 use crate::book_opener::await_open;
 use crate::context::ServeContext;
-use crate::descriptors::FewDescriptors;
-use crate::notices::Notices;
-use crate::ports::{Ports, preview_workers, service_name};
 use bg_access_log::AccessLog;
+use bg_book::Limits;
 use bg_command_line::{Connections, MessageTimeout, ServeSettings};
 use bg_endpoints::{Directory, Share};
 use bg_peers::Users;
+use bg_ports::{BindFault, FewDescriptors, Notices, Ports, preview_workers, service_name};
 use bg_revisions::Service;
 use bg_script::{Finding, RunEnd, finding_of_input, write_finding};
 use bg_strategy::Strategy;
@@ -128,7 +126,8 @@ where
 {
     written(write_listening(output))?;
     let words = &settings.words;
-    let notices = Notices::new(settings.alloc, ports, words, settings.log);
+    let most_entries = Limits::usual().entries;
+    let notices = Notices::new(settings.alloc, ports, words, settings.log, most_entries);
     let previews = preview_workers(words);
     let seats = u32::from(words.workers).saturating_add(previews);
     let directory = directory_of(rt, settings.alloc, words, seats);

@@ -3,10 +3,10 @@ ghost use Rattle.std.specs.Prelude.{◌≡◌, IfOk, length, vec_len};
 ghost use Rattle.bg_forward.specs.Seats.{AllOut, AllWorked};
 ghost use Rattle.bg_switch.specs.Services.{services_in};
 
-use crate::clients::Clients;
 use crate::context::ServeContext;
 use crate::operators::{Operator, answer_operators};
 use bg_book::Desk;
+use bg_clients::Clients;
 use bg_command_line::MessageTimeout;
 use bg_endpoints::{Endpoints, ResponseTimeout};
 use bg_forward::{DeskGate, WorkerContext, run_workers};
@@ -113,7 +113,14 @@ where
     ensures { AllWorked count seats.old seats.new }
 {
     let desk_gate = DeskGate::new(context.rt, desk);
-    let clients = Clients { context };
+    let clients = Clients {
+        rt: context.rt,
+        alloc: context.alloc,
+        ports: context.ports,
+        log: context.log,
+        notices: context.notices,
+        redispatches: context.directory.is_some(),
+    };
     let timeout = response_timeout(context.timeout);
     let endpoints = Endpoints::new(context.rt, context.ports.own, timeout, context.directory);
     let workers = WorkerContext {

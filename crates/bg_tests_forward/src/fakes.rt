@@ -1,9 +1,8 @@
 //! Clients, an endpoint and a gate.
 
 use bg_book::{EnterFault, GoOn, Left, Ticket};
-use bg_forward::{Arrived, ClientStream, Dial, Dialled, Gate};
+use bg_forward::{ClientStream, Dial, Dialled, Gate};
 use bg_http::Duplex;
-use bg_http_read::read_request;
 use bg_ledger::{Names, Seat};
 use bg_revisions::Service;
 use std::alloc::Global;
@@ -88,13 +87,6 @@ impl<'a> FakeStream<'a> {
             was_interrupted: false,
             output: Vec::new(alloc),
         }
-    }
-
-    /// A client that sent these bytes, after its request was read from them.
-    pub fn arrived(alloc: Global, input: &'a [u8]) -> Arrived<FakeStream<'a>> {
-        let mut stream = FakeStream::new(alloc, input, STEADY);
-        let received = read_request(alloc, &mut stream);
-        Arrived { stream, received }
     }
 
     pub fn uses(&self) -> Uses {

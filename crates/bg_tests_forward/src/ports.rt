@@ -1,8 +1,10 @@
 //! Client ports, which give their workers what a test says.
+ghost use Rattle.std.specs.Prelude.{Some};
+ghost use Rattle.bg_forward.specs.Clients.{IsServed};
 
-use crate::fakes::FakeStream;
 use crate::messages::{CHUNKS_ON, GET, refusal};
-use bg_forward::{Accept, Arrived, Served};
+use bg_forward::{Accept, Arrived, Served, receive_in_memory};
+use bg_http::MemoryStream;
 use bg_revisions::Service;
 use std::alloc::Global;
 use std::io;
@@ -76,9 +78,16 @@ pub struct Ports<'a> {
 }
 
 impl Accept for Ports<'_> {
-    type Stream = FakeStream<'static>;
+    type Stream = MemoryStream<'static>;
 
-    fn accept(&self, service: Service) -> io::Result<Option<Arrived<FakeStream<'static>>>> {
+    type Sender = &'static [u8];
+
+    ghost sent = { λ input. Some input.now };
+
+    fn accept(
+        &self,
+        service: Service,
+    ) -> io::Result<Option<Arrived<MemoryStream<'static>, &'static [u8]>>> {
         let accepts = match service {
             Service::Active => &self.counts.active_accepts,
             Service::Preview => &self.counts.preview_accepts,
@@ -90,14 +99,17 @@ impl Accept for Ports<'_> {
         };
         match next {
             NextClient::Client(request) => {
-                Ok(Some(FakeStream::arrived(self.alloc, request.as_bytes())))
+                Ok(Some(receive_in_memory(self.alloc, request.as_bytes())))
             }
             NextClient::Fails => Err(io::Error::from(ErrorKind::ConnectionAborted)),
             NextClient::Ends => Ok(None),
         }
     }
 
-    fn close(&self, client: Arrived<FakeStream<'static>>, served: &Served) {
+    fn close(&self, client: Arrived<MemoryStream<'static>, &'static [u8]>, served: &Served)
+        requires connection { IsServed (Some client.sender.now) (Some client.stream.written.items)
+            client.received served.now.entered served.now.end }
+    {
         // a request that entered was read to its end
         let ended = if served.entered.is_some() {
             &self.counts.whole
@@ -105,11 +117,11 @@ impl Accept for Ports<'_> {
             &self.counts.other
         };
         ended.fetch_add(1, Ordering::SeqCst);
-        let stream = &client.stream;
-        if stream.shows() == CHUNKS_ON.as_bytes() {
+        let written = client.stream.written.as_slice();
+        if written == CHUNKS_ON.as_bytes() {
             self.counts.answered.fetch_add(1, Ordering::SeqCst);
         }
-        if stream.shows() == refusal(503).as_bytes() {
+        if written == refusal(503).as_bytes() {
             self.counts.unavailable.fetch_add(1, Ordering::SeqCst);
         }
     }

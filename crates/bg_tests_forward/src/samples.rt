@@ -1,5 +1,6 @@
 //! The strategy of the books.
-use bg_strategy::{Strategy, StrategyFault, read};
+use bg_strategy::Strategy;
+use bg_strategy_text::{StrategyFault, read};
 use std::alloc::Global;
 
 /// Two replicas, and no preview service.

@@ -1,6 +1,7 @@
 //! Workers, each in a thread of its own.
-ghost use Rattle.std.specs.Prelude.{◌≡◌, length};
+ghost use Rattle.std.specs.Prelude.{◌≡◌, length, Some};
 ghost use Rattle.bg_rollout.specs.Gathering.{indices};
+ghost use Rattle.bg_forward.specs.Clients.{IsServed};
 ghost use Rattle.bg_forward.specs.Seats.{AllOut, AllWorked};
 ghost use Rattle.bg_ledger.specs.Blanks.{AreAllFor};
 
@@ -11,8 +12,9 @@ use crate::samples::strategy;
 use bg_book::{Control, Desk, EnterFault, GoOn, Left, Limits, Ticket, laws as book_laws};
 use bg_forward::{
     Accept, Arrived, ClientStream, DeskGate, Dial, Dialled, Gate, Served, WorkerContext,
-    run_workers,
+    receive_in_memory, run_workers,
 };
+use bg_http::MemoryStream;
 use bg_ledger::{Blanks, Names, Seat};
 use bg_revisions::Service;
 use std::alloc::Global;
@@ -78,17 +80,19 @@ struct Clients<'a> {
 /// A client that reports when it was answered. Nothing can be read from it.
 #[derive(Drop)]
 struct Client<'a> {
-    stream: FakeStream<'a>,
+    stream: MemoryStream<'static>,
     counts: &'a WorkerCounts,
 }
 
 impl Write for Client<'_> {
+    ghost contents = { λ client. Some client.stream.written.items };
+
     fn write(&mut self, buf: &[u8]) -> io::Result<usize> {
         self.stream.write(buf)
     }
 
     fn flush(&mut self) -> io::Result<()> {
-        if self.stream.shows() == CHUNKS_ON.as_bytes() {
+        if self.stream.written.as_slice() == CHUNKS_ON.as_bytes() {
             self.counts.answered.fetch_add(1, Ordering::SeqCst);
         }
         Ok(())
@@ -104,19 +108,31 @@ impl ClientStream for Client<'_> {
 impl<'a> Accept for Clients<'a> {
     type Stream = Client<'a>;
 
-    fn accept(&self, _service: Service) -> io::Result<Option<Arrived<Client<'a>>>> {
-        let Arrived { stream, received } = FakeStream::arrived(self.alloc, GET.as_bytes());
+    type Sender = &'static [u8];
+
+    ghost sent = { λ input. Some input.now };
+
+    fn accept(&self, _service: Service) -> io::Result<Option<Arrived<Client<'a>, &'static [u8]>>> {
+        let Arrived {
+            stream,
+            sender,
+            received,
+        } = receive_in_memory(self.alloc, GET.as_bytes());
         let client = Client {
             stream,
             counts: self.counts,
         };
         Ok(Some(Arrived {
             stream: client,
+            sender,
             received,
         }))
     }
 
-    fn close(&self, _client: Arrived<Client<'a>>, _served: &Served) {}
+    fn close(&self, _client: Arrived<Client<'a>, &'static [u8]>, _served: &Served)
+        requires connection { IsServed (Some _client.sender.now) (Some _client.stream.stream.written.items)
+            _client.received _served.now.entered _served.now.end }
+    {}
 }
 
 /// An endpoint whose first connection waits until a client was answered.

@@ -99,6 +99,11 @@ impl Known {
         }
     }
 
+    /// Whether its request is arriving, and no byte of it came.
+    pub fn is_silent(&self) -> bool {
+        self.at == Whereabouts::Reading && self.came == 0
+    }
+
     /// Whether a worker has it.
     pub fn is_held(&self) -> bool {
         matches!(self.at, Whereabouts::Accepted | Whereabouts::Given)

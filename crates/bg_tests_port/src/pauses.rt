@@ -82,12 +82,12 @@ fn give_up_slow(uploads: &mut Uploads) -> Result<(), Wrong> {
         check(uploads.give_up_slowest()? == Some(number), Wrong::Slow)?;
     }
     check(uploads.give_up_slowest()? == None, Wrong::Slow)?;
-    // four uploads take less than three quarters, so they are resumed, and are slow two seconds later
+    // four uploads take less than three quarters, so they are resumed, and are slow four seconds later
     uploads.regulate()?;
     check_paused(uploads, 12)?;
-    uploads.now = 11_999;
+    uploads.now = 13_999;
     check(uploads.give_up_slowest()? == None, Wrong::Slow)?;
-    uploads.now = 12_000;
+    uploads.now = 14_000;
     check(uploads.give_up_slowest()? == Some(8), Wrong::Slow)
 }
 
@@ -107,25 +107,47 @@ fn give_up_late(uploads: &mut Uploads) -> Result<(), Wrong> {
     check(uploads.port.totals().arriving == 0, Wrong::Stage)
 }
 
-/// Uploads that send nothing for two seconds are stuck, also paused ones, while requests take too much memory.
+/// Uploads that make no progress for four seconds are stuck, also paused ones, while requests take too much memory.
 fn find_stuck(uploads: &mut Uploads) -> Result<(), Wrong> {
     uploads.begin_all(11, MOST_PIECES)?;
-    uploads.now = 2_000;
-    check(uploads.port.stuck_upload(0, 2_000) == None, Wrong::Slow)?;
+    uploads.now = 4_000;
+    check(uploads.port.stuck_upload(0, 4_000) == None, Wrong::Slow)?;
     uploads.now = 0;
     uploads.begin_all(1, MOST_PIECES)?;
     uploads.regulate()?;
-    check(uploads.port.stuck_upload(0, 1_999) == None, Wrong::Slow)?;
-    uploads.now = 2_000;
-    check(uploads.port.stuck_upload(0, 2_000) == Some(0), Wrong::Slow)?;
+    check(uploads.port.stuck_upload(0, 3_999) == None, Wrong::Slow)?;
+    uploads.now = 4_000;
+    check(uploads.port.stuck_upload(0, 4_000) == Some(0), Wrong::Slow)?;
     check(
-        uploads.port.stuck_upload(11, 2_000) == Some(11),
+        uploads.port.stuck_upload(11, 4_000) == Some(11),
         Wrong::Slow,
     )?;
-    check(uploads.port.stuck_upload(12, 2_000) == None, Wrong::Slow)?;
-    uploads.feed(0, 5_000)?;
+    check(uploads.port.stuck_upload(12, 4_000) == None, Wrong::Slow)?;
+    uploads.feed(0, 10_000)?;
     uploads.check_stuck(0)?;
-    check(uploads.port.stuck_upload(0, 2_000) == Some(1), Wrong::Slow)
+    check(uploads.port.stuck_upload(0, 4_000) == Some(1), Wrong::Slow)
+}
+
+/// If none of the uploads that go on has made progress for 750 milliseconds, those are given up that have made none for the
+/// longest time, until all take a quarter of what they may.
+fn give_up_stalled(uploads: &mut Uploads) -> Result<(), Wrong> {
+    uploads.begin_all(8, 4)?;
+    uploads.begin_all(9, MOST_PIECES)?;
+    uploads.regulate()?;
+    check_paused(uploads, 8)?;
+    uploads.now = 749;
+    check(uploads.give_up_stalled()? == None, Wrong::Slow)?;
+    // one that goes on makes progress
+    uploads.feed(7, 32_768)?;
+    uploads.now = 750;
+    check(uploads.give_up_stalled()? == None, Wrong::Slow)?;
+    uploads.now = 1_499;
+    for number in (0..7).chain(8..16) {
+        check(uploads.give_up_stalled()? == Some(number), Wrong::Slow)?;
+    }
+    check(uploads.give_up_stalled()? == None, Wrong::Slow)?;
+    uploads.regulate()?;
+    check_paused(uploads, 17)
 }
 
 /// One random event.
@@ -140,6 +162,9 @@ fn step(uploads: &mut Uploads, random: &mut Random) -> Result<(), Wrong> {
         1..=3 => uploads.serve()?,
         4 => {
             uploads.give_up_slowest()?;
+        }
+        5 => {
+            uploads.give_up_stalled()?;
         }
         _ => uploads.feed(number, random.below(32_768) as usize)?,
     }
@@ -165,6 +190,7 @@ enum Case {
     GiveUpSlow,
     GiveUpLate,
     FindStuck,
+    GiveUpStalled,
     /// Random events of a seed.
     Random(u64),
 }
@@ -178,6 +204,7 @@ impl Case {
             Case::GiveUpSlow => give_up_slow(uploads),
             Case::GiveUpLate => give_up_late(uploads),
             Case::FindStuck => find_stuck(uploads),
+            Case::GiveUpStalled => give_up_stalled(uploads),
             Case::Random(seed) => run_random(uploads, seed),
         }
     }
@@ -229,6 +256,11 @@ fn the_timeout_of_a_paused_request_goes_on(rt: HostRuntime) {
 #[test]
 fn a_stuck_upload_is_found(rt: HostRuntime) {
     assert_eq!(rt; wrong_of(rt.alloc(), Case::FindStuck), None);
+}
+
+#[test]
+fn uploads_are_given_up_if_none_makes_progress(rt: HostRuntime) {
+    assert_eq!(rt; wrong_of(rt.alloc(), Case::GiveUpStalled), None);
 }
 
 #[test]

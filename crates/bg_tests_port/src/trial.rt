@@ -10,6 +10,9 @@ use std::alloc::Global;
 
 pub const REQUEST_MILLIS: u64 = 60_000;
 
+/// The grace of a shutdown.
+const GRACE_MILLIS: u64 = 2_000;
+
 /// The number of places of the port, and how many connections without a worker make it full.
 const ROOM: usize = 12;
 
@@ -39,6 +42,7 @@ impl Trial {
             connections: MOST_PENDING,
             workers: ROOM as u64 - MOST_PENDING,
             request_millis: REQUEST_MILLIS,
+            grace_millis: GRACE_MILLIS,
             response_bytes: RESPONSE_BYTES,
             request_bytes: REQUEST_BYTES,
         };
@@ -87,6 +91,14 @@ impl Trial {
         }
     }
 
+    /// Whether the grace of the shutdown is over. It began 60 seconds before its timeout.
+    fn is_grace_over(&self) -> bool {
+        match self.closing_until {
+            Some(until) => until.saturating_add(GRACE_MILLIS) <= self.now.saturating_add(60_000),
+            None => false,
+        }
+    }
+
     /// Accepts a connection whose client sends this.
     pub fn accept(&mut self, text: &'static [u8]) -> Result<(), Rule> {
         let used = self.count_used();
@@ -111,7 +123,7 @@ impl Trial {
 
     /// Leaves a connection to the port, of which no byte came yet.
     pub fn leave(&mut self, mut known: Known) -> Result<(), Rule> {
-        let may = known.at == Whereabouts::Accepted && self.closing_until.is_none();
+        let may = known.at == Whereabouts::Accepted && !self.is_grace_over();
         let request = IncomingRequest::new(self.alloc);
         let did = self.port.leave(known.id, request, self.now).is_ok();
         check(did == may, Rule::OneStage)?;

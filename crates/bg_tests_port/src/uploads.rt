@@ -89,6 +89,7 @@ impl Uploads {
             connections: ROOM,
             workers: 0,
             request_millis: REQUEST_MILLIS,
+            grace_millis: 0,
             response_bytes: REQUEST_BYTES,
             request_bytes: REQUEST_BYTES,
         };
@@ -163,13 +164,14 @@ impl Uploads {
             None => &PIECE,
         };
         let step = self.port.feed(upload.id.key, piece, self.now);
-        upload.came = upload.came.saturating_add(piece.len() as u64);
+        let before = upload.came;
+        upload.came = before.saturating_add(piece.len() as u64);
         if upload.came >= whole {
             check(step == ReadStep::Over, Wrong::Stage)?;
             upload.at = Place::Whole;
         } else {
             check(step == ReadStep::More, Wrong::Stage)?;
-            upload.note_progress(self.now);
+            upload.note_progress(before, self.now);
         }
         self.note(upload);
         Ok(())
@@ -255,6 +257,23 @@ impl Uploads {
             Wrong::Slow,
         )?;
         upload.at = Place::Cut;
+        self.note(upload);
+        Ok(Some(upload.id.number))
+    }
+
+    /// The port gives up the upload that has made no progress for the longest time, if it is stalled. Gives its number.
+    pub fn give_up_stalled(&mut self) -> Result<Option<u64>, Wrong> {
+        let least = self.longest_still();
+        let Some((key, _)) = self.port.give_up_stalled(self.now) else {
+            check(least.is_none(), Wrong::Slow)?;
+            return Ok(None);
+        };
+        let Some(mut upload) = self.at_key(key) else {
+            return Err(Wrong::Stage);
+        };
+        check(least == upload.still_since(), Wrong::Slow)?;
+        upload.at = Place::Cut;
+        upload.is_paused = false;
         self.note(upload);
         Ok(Some(upload.id.number))
     }

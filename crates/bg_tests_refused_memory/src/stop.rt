@@ -7,7 +7,7 @@ use bg_http::{RequestFault, ResponseFault};
 use bg_operator::LineFault;
 use bg_revisions::RevisionFault;
 use bg_script::RunEnd;
-use bg_strategy::StrategyFault;
+use bg_strategy_text::StrategyFault;
 use std::alloc::AllocError;
 use std::{fmt, io};
 use thiserror::Error;

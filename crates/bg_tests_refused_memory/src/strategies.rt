@@ -2,7 +2,8 @@
 
 use crate::asking::{made, made_again};
 use crate::stop::Stop;
-use bg_strategy::{ServiceName, Strategy, read};
+use bg_strategy::{ServiceName, Strategy};
+use bg_strategy_text::read;
 use std::alloc::Global;
 
 /// A document that gives many fields, of each kind.
@@ -74,9 +75,9 @@ pub fn base_strategy<R: AllocGlobal + Print + Eprint>(rt: &R) -> Result<Strategy
 /// The strategy of a document.
 pub fn strategy_of<R: AllocGlobal + Print + Eprint>(rt: &R, text: &str) -> Result<Strategy, Stop> {
     let alloc = rt.alloc();
-    match made(rt, "bg_strategy::read", read_strategy(alloc, text))? {
+    match made(rt, "bg_strategy_text::read", read_strategy(alloc, text))? {
         Some(strategy) => Ok(strategy),
-        None => made_again(rt, "bg_strategy::read", read_strategy(alloc, text)),
+        None => made_again(rt, "bg_strategy_text::read", read_strategy(alloc, text)),
     }
 }
 

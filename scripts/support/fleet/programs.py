@@ -7,10 +7,10 @@ import signal
 import subprocess
 import threading
 import time
-from collections.abc import Mapping, Sequence
+from collections.abc import Sequence
 from typing import IO
 
-from support import TOP
+from support import TOP, processes
 
 LONGEST = 10  # seconds that a program has to end by itself
 # What of the drill runs in processes of its own finds this package and that of the tools.
@@ -79,7 +79,7 @@ class Programs:
 
     def stop(self, name: str) -> None:
         """Stops a program as by SIGSTOP, until `wake`."""
-        self.running[name].send_signal(signal.SIGSTOP)
+        processes.pause(self.running[name].pid)
         self.stopped.add(name)
 
     def wake(self, name: str) -> None:

@@ -25,7 +25,7 @@ impl Asker {
 }
 
 /// The next line.
-#[derive(Clone, Copy, Debug, Drop, PartialEq, Eq)]
+#[derive(Clone, Copy, Drop, PartialEq, Eq)]
 pub enum NextLine {
     /// No whole line waits.
     Nothing,

@@ -9,7 +9,7 @@ use Rattle.bg_history.specs.Kept.{Opening}
 use Rattle.bg_history.specs.AttemptBounds.{moment, stable_of, newest_of}
 use Rattle.bg_history.specs.Selections.{active_of}
 use Rattle.bg_history.specs.Marks.{MarkKind, Left, Superseded, Aborted, Cleared, kind_of}
-use Rattle.bg_scaledown.specs.Past.{Stamp, stamped, others, touched, stamp_all, stamps_of, marks_of, table_of}
+use Rattle.bg_history.specs.Tables.{Stamp, stamped, others, touched, stamp_all, stamps_of, marks_of, table_of}
 use Rattle.bg_history.specs.Compacted.{without, untick, thin, compacted, left_numbers, is_among}
 use Rattle.bg_history_laws.specs.Alike.{Alike}
 use Rattle.bg_history_laws.proofs.Compacted.Steps.{active-both}

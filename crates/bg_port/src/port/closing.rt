@@ -1,10 +1,8 @@
 //! The shutdown of a port, and what a port may still do.
-ghost use Rattle.std.specs.Prelude.{◌≡◌, EachIndex, IfNone, IfSome, Some, false, is_none, true};
-ghost use Rattle.bg_port.specs.Closing.{attended, closing_from, has_requests, is_full, is_over, is_silent, pending};
-ghost use Rattle.bg_port.specs.Ports.{changed_by};
+ghost use Rattle.std.specs.Prelude.{◌≡◌, ◌<◌, ◌≤◌, ℕ, IfNone, IfSome, Some, false, length, true};
+ghost use Rattle.bg_port.specs.Closing.{attended, closing_from, has_requests, has_waiting, is_full, is_over, is_silent, pending};
 ghost use Rattle.bg_port.specs.Registers.{at};
-ghost use Rattle.bg_port.specs.Stages.{stopped};
-ghost use Rattle.bg_port.specs.declared.received.Ending.TheVariants as ending;
+ghost use Rattle.bg_port.specs.Timeouts.{is_grace_over};
 
 use crate::port::Port;
 
@@ -25,24 +23,45 @@ impl Port {
         };
     }
 
-    /// Gives up one connection whose request is arriving and of which no byte came, and gives its key. `None` if there
-    /// is none, or if the port does not shut down.
-    pub fn give_up_silent(&mut self) -> Option<usize>
-        ensures silent { IfSome result (λ key. is_silent (at self.old.connections.places key) ≡ true) }
-        ensures new { IfSome result (λ key. self.new ≡ record self.old {
-          connections = changed_by (stopped ending.GivenUp) self.old.connections key;
-        }) }
-        ensures none { IfNone result (IfSome self.old.closing_until (λ _.
-            EachIndex self.old.connections.places (λ key.
-            is_silent (at self.old.connections.places key) ≡ false))) }
-        ensures kept { IfNone result (self.new ≡ self.old) }
+    /// Whether the grace of the shutdown is over: it has lasted for `grace_millis` of the settings, or for 60 seconds.
+    pub(crate) fn is_grace_over(&self, now: u64) -> bool
+        ensures { result ≡ is_grace_over self.now.settings now self.now.closing_until }
     {
-        if self.closing_until.is_none() {
+        match self.closing_until {
+            Some(until) => {
+                let left = CLOSING_MILLIS.saturating_sub(self.settings.grace_millis);
+                until.saturating_sub(left) <= now
+            }
+            None => false,
+        }
+    }
+
+    /// The key of the first connection from this one on whose request is arriving and of which no byte came, once the grace
+    /// of the shutdown is over; `None` if there is none. If its socket has no byte either, it is to be given up.
+    pub fn silent_from(&self, from: usize, now: u64) -> Option<usize>
+        ensures when { IfSome result (λ _. is_grace_over self.now.settings now self.now.closing_until ≡ true) }
+        ensures from { IfSome result (λ key. from ≤ key) }
+        ensures silent { IfSome result (λ key. is_silent (at self.now.connections.places key) ≡ true) }
+        ensures first { IfSome result (λ key. (other : ℕ) → from ≤ other → other < key
+            → is_silent (at self.now.connections.places other) ≡ false) }
+        ensures none { IfNone result (is_grace_over self.now.settings now self.now.closing_until ≡ true
+            → (other : ℕ) → from ≤ other → other < length self.now.connections.places
+            → is_silent (at self.now.connections.places other) ≡ false) }
+    {
+        if !self.is_grace_over(now) {
             return None;
         }
-        let key = self.connections.first_silent()?;
-        self.give_up(key);
-        Some(key)
+        self.connections.silent_from(from)
+    }
+
+    /// Whether the request of a connection is arriving, and no byte of it came.
+    pub fn is_silent(&self, key: usize) -> bool
+        ensures { result ≡ is_silent (at self.now.connections.places key) }
+    {
+        match self.connections.get(key) {
+            Some(connection) => connection.stage.is_silent(),
+            None => false,
+        }
     }
 
     /// The number of connections that no worker has.
@@ -70,11 +89,18 @@ impl Port {
             || self.connections.totals().response_bytes / 2 > self.settings.response_bytes
     }
 
+    /// Whether a connection waits for a worker.
+    pub fn has_waiting(&self) -> bool
+        ensures { result ≡ has_waiting self.now.connections }
+    {
+        self.connections.waiting() != 0
+    }
+
     /// Whether a worker will be given a connection: one waits, or a request is arriving.
     pub fn has_requests(&self) -> bool
         ensures { result ≡ has_requests self.now.connections }
     {
-        self.connections.waiting() != 0 || self.connections.totals().arriving != 0
+        self.has_waiting() || self.connections.totals().arriving != 0
     }
 
     /// Whether the port shuts down and nothing is left to do: no connection is left, or the timeout of the shutdown has

@@ -1,12 +1,18 @@
 //! How a port pauses large requests while requests take too much memory.
-ghost use Rattle.std.specs.Prelude.{◌≡◌, ◌<◌, ◌≤◌, ℕ, EachIndex, IfNone, IfSome, false, length, true};
+ghost use Rattle.std.specs.Prelude.{◌≡◌, ◌↔◌, ◌<◌, ◌≤◌, ℕ, EachIndex, IfNone, IfSome, IsSome, IsTrue, None, false, length, true};
 ghost use Rattle.bg_port.specs.Pauses.{IsAsRuled, enough, is_stuck, looked, pauses_now, pauses_of, seeks_stuck};
 ghost use Rattle.bg_port.specs.Ports.{changed_by, turn_by};
 ghost use Rattle.bg_port.specs.Registers.{at};
+ghost use Rattle.bg_port.specs.Slowness.{IsNoLater};
+ghost use Rattle.bg_port.specs.Stages.{stopped};
+ghost use Rattle.bg_port.specs.Stalls.{IsStalled, still_since};
+ghost use Rattle.bg_port.specs.Timeouts.{stopped_as};
+ghost use Rattle.bg_port.specs.declared.received.Ending.TheVariants as ending;
 
 use crate::connection::Connection;
 use crate::pauses::Pauses;
 use crate::port::{Port, PortSettings};
+use crate::stage::Stopped;
 
 impl PortSettings {
     /// The number of bytes of requests below which no request is paused.
@@ -67,6 +73,44 @@ impl Port {
             return None;
         }
         self.connections.stuck_from(from, now)
+    }
+
+    /// Gives up the large request that has made no progress for the longest time, if the port is stalled. Gives its key, and
+    /// what became of it; `None` if the port is not stalled, or if no request is large. A request holds as much memory as it
+    /// has sent, so it makes the least progress for its memory.
+    ///
+    /// The port is stalled if it pauses the younger large requests, if none of those that go on has made progress for 750
+    /// milliseconds, and if requests take more than a quarter of `request_bytes` of the settings.
+    pub fn give_up_stalled(&mut self, now: u64) -> Option<(usize, Stopped)>
+        ensures when { IfSome result (λ _. IsStalled self.old now) }
+        ensures large { IfSome result (λ given. IsSome (still_since (at self.old.connections.places given.0))) }
+        ensures least { IfSome result (λ given. EachIndex self.old.connections.places (λ other.
+            IsNoLater (still_since (at self.old.connections.places given.0))
+            (still_since (at self.old.connections.places other)))) }
+        ensures new { IfSome result (λ given. self.new ≡ record self.old {
+          connections = changed_by (stopped ending.GivenUp) self.old.connections given.0;
+        }) }
+        ensures what { IfSome result (λ given. given.1 ≡ stopped_as (at self.old.connections.places given.0)) }
+        ensures none { IfNone result (IsStalled self.old now → EachIndex self.old.connections.places (λ other.
+            still_since (at self.old.connections.places other) ≡ None)) }
+        ensures kept { IfNone result (self.new ≡ self.old) }
+    {
+        if !self.is_stalled(now) {
+            return None;
+        }
+        let key = self.connections.longest_still()?;
+        let what = self.give_up(key);
+        Some((key, what))
+    }
+
+    /// Whether the port is stalled.
+    fn is_stalled(&self, now: u64) -> bool
+        ensures { IsTrue result ↔ IsStalled self.now now }
+    {
+        let taken = self.connections.totals().request_bytes;
+        self.pauses() == Pauses::Younger
+            && taken > self.settings.request_bytes / 4
+            && self.connections.first_moving(now).is_none()
     }
 
     /// Whether the port pauses by what its requests take now.

@@ -54,7 +54,8 @@ impl Port {
     }
 
     /// Leaves a connection to the port, whose request has not ended. The request comes back if no worker has just
-    /// accepted the connection, or if the port shuts down and no byte came or the timeout of the shutdown has passed.
+    /// accepted the connection, if the timeout of a shutdown has passed, or if no byte came and the grace of a shutdown is
+    /// over.
     pub fn leave(
         &mut self,
         id: ConnectionId,
@@ -182,7 +183,7 @@ impl Port {
         ensures { result ≡ may_leave self.now id request.now now }
     {
         self.is_accepted(id)
-            && !(self.is_closing() && request.count() == 0)
+            && !(self.is_grace_over(now) && request.count() == 0)
             && !self.is_shutdown_over(now)
     }
 

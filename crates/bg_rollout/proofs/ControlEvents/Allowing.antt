@@ -11,7 +11,7 @@ use Rattle.bg_history.specs.Sizes.{existing, last_number}
 use Rattle.bg_history.specs.Templates.{template, has_ports, namesake}
 use Rattle.bg_history.specs.AttemptBounds.{newest_of}
 use Rattle.bg_history_laws.specs.Answers.{namesake_answer, template_answer}
-use Rattle.bg_rollout.specs.declared.control.Control.TheVariants.{Deploy}
+use Rattle.bg_history.specs.declared.control.Control.TheVariants.{Deploy}
 use Rattle.bg_rollout.specs.declared.control_fault.ControlFault.TheVariants as fault
 use Rattle.bg_rollout.specs.ControlFaults.{of_revision}
 use Rattle.bg_rollout.specs.Refusals.{event_fault, fault_in, has_no_place}

@@ -10,7 +10,7 @@ use Rattle.bg_history.specs.Deadlines.{deadline, exists_in}
 use Rattle.bg_history_laws.specs.Reachable.{Reachable}
 use Rattle.bg_scaledown.specs.Due.{has_room_for}
 use Rattle.bg_scaledown.specs.Events.{may_mark}
-use Rattle.bg_scaledown.specs.Past.{table_of, DeadlinesInvariant}
+use Rattle.bg_history.specs.Tables.{table_of, DeadlinesInvariant}
 use Rattle.bg_rollout.specs.Invariant.{RolloutModel, RunningParts, PartsRepresent}
 use Rattle.bg_rollout.specs.Routing.{Routing}
 use Rattle.bg_rollout.proofs.OpenRequests.Requests.{and_parts}

@@ -10,7 +10,7 @@ use Rattle.bg_history.specs.Allowed.{is_allowed}
 use Rattle.bg_history.specs.Steps.{all_given}
 use Rattle.bg_promotion.specs.Core.{Core}
 use Rattle.bg_promotion.specs.Represents.{CoreRepresents}
-use Rattle.bg_scaledown.specs.Past.{table_of}
+use Rattle.bg_history.specs.Tables.{table_of}
 use Rattle.bg_history_laws.specs.Listed.{revisions_of}
 use Rattle.bg_rollout.specs.RequestLists.{OpenAt}
 use Rattle.bg_rollout.specs.PastState.{lists_of, seated, seat_of}

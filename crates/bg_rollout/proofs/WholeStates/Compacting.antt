@@ -12,8 +12,7 @@ use Rattle.bg_history_laws.specs.Listed.{revision_of, revisions_of}
 use Rattle.bg_ledger.specs.declared.holding.Holding.{Holding}
 use Rattle.bg_promotion.specs.Phases.{phase_of}
 use Rattle.bg_scaledown.specs.Due.{deadline_in}
-use Rattle.bg_scaledown.specs.Past.{table_of}
-use Rattle.bg_scaledown.specs.Tables.{Table}
+use Rattle.bg_history.specs.Tables.{Table, table_of}
 use Rattle.bg_rollout.specs.PastState.{lists_of, requests_at, seat_of, seated}
 use Rattle.bg_rollout.specs.State.{revision_state, seats_from, state_of}
 use Rattle.bg_rollout.specs.Routing.{Routing}

@@ -14,8 +14,7 @@ use Rattle.bg_promotion.specs.Phases.{phase_of}
 use Rattle.bg_promotion.specs.Core.{Core}
 use Rattle.bg_promotion.specs.Represents.{CoreRepresents}
 use Rattle.bg_scaledown.specs.Due.{deadline_in}
-use Rattle.bg_scaledown.specs.Past.{table_of}
-use Rattle.bg_scaledown.specs.Tables.{Table}
+use Rattle.bg_history.specs.Tables.{Table, table_of}
 use Rattle.bg_ledger.specs.declared.holding.Holding.{Holding}
 use Rattle.bg_rollout.specs.RequestLists.{OpenAt, requests_of, requests_in}
 use Rattle.bg_rollout.specs.Invariant.{RunningParts, PartsRepresent, phase_in, selectors_in, revision_shown, state_shown}

@@ -10,15 +10,14 @@ ghost use Rattle.bg_revisions.specs.Rosters.{numbered, resized};
 ghost use Rattle.bg_history.specs.Allowed.{is_allowed};
 ghost use Rattle.bg_promotion.specs.Represents.{CoreRepresents};
 ghost use Rattle.bg_rollout.specs.Recording.{is_command, Recorded};
-ghost use Rattle.bg_rollout.specs.declared.control.Control.TheVariants as control;
+ghost use Rattle.bg_history.specs.declared.control.Control.TheVariants as control;
 ghost use Rattle.bg_history.specs.declared.entry.Entry.TheVariants as entry;
 
 use crate::accepted_event::AcceptedEvent;
-use crate::control::Control;
 use crate::control_fault::ControlFault;
 use crate::limits::MOST_ENTRIES;
 use crate::rollout::Rollout;
-use bg_history::Entry;
+use bg_history::{Control, Entry};
 use bg_history_laws as laws;
 use bg_ledger::Names;
 use bg_promotion::{Core, laws as promotion_laws};

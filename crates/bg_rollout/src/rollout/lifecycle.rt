@@ -203,9 +203,17 @@ impl<N: Names> Rollout<N> {
             → seat.calls ≡ calls_of result.closed i result.past }
     {
         let Rollout {
+            strategy: _,
+            limits: _,
+            core: _,
+            roster: _,
+            deadlines: _,
+            lists: _,
             records,
             history,
-            ..
+            moment: _,
+            given: _,
+            open: _,
         } = self;
         reunite_all(records, seats);
         history

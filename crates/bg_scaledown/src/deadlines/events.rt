@@ -8,7 +8,7 @@ ghost use Rattle.bg_history.specs.Sizes.{is_scaled};
 ghost use Rattle.bg_scaledown.specs.Due.{has_room_for};
 ghost use Rattle.bg_scaledown.specs.Events.{deployed, halted, switched};
 ghost use Rattle.bg_scaledown.specs.Events.{marked_by_deploy, marked_by_halt, may_mark};
-ghost use Rattle.bg_scaledown.specs.Past.{table_of};
+ghost use Rattle.bg_history.specs.Tables.{table_of};
 
 use super::Deadlines;
 use bg_history::{AnalysisResult, Entry, Outcome};

@@ -1,5 +1,6 @@
 //! The strategies of the books.
-use bg_strategy::{Strategy, StrategyFault, read};
+use bg_strategy::Strategy;
+use bg_strategy_text::{StrategyFault, read};
 use std::alloc::Global;
 use std::io::Write;
 use std::test::Fail;

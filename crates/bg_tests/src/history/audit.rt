@@ -1,7 +1,7 @@
 //! The audit of a history by its definitions.
 use crate::history::texts::{history_of, lines_of};
 use bg_audit::audit;
-use bg_strategy::read;
+use bg_strategy_text::read;
 use std::test::Fail;
 
 const BASE: &str = r#"{"spec":{"replicas":2,"strategy":{"blueGreen":{"activeService":"web"}}}}"#;

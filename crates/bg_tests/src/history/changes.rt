@@ -5,7 +5,8 @@ use crate::history::texts::history_of;
 use bg_audit::audit;
 use bg_book::Limits;
 use bg_history::History;
-use bg_strategy::{Strategy, read};
+use bg_strategy::Strategy;
+use bg_strategy_text::read;
 use std::alloc::Global;
 use std::test::Fail;
 

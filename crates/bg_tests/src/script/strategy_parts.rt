@@ -14,7 +14,7 @@ fn stops_at_a_part_that_is_too_large(rt: HostRuntime) -> Result<(), Fail> {
     };
     let mut input = BufReader::new(rt.alloc(), endless)?;
     let part = part_before_script(rt.alloc(), &mut input)?;
-    assert!(rt; matches!(part, StrategyPart::TooLarge));
+    assert!(rt; matches!(&part, StrategyPart::TooLarge));
     let count = input.get_ref().count;
     assert!(rt; count <= LARGEST + 8192, "{count} bytes were read");
     Ok(())
@@ -28,7 +28,7 @@ fn stops_in_a_line_that_is_too_large(rt: HostRuntime) -> Result<(), Fail> {
     };
     let mut input = BufReader::new(rt.alloc(), endless)?;
     let part = part_before_script(rt.alloc(), &mut input)?;
-    assert!(rt; matches!(part, StrategyPart::TooLarge));
+    assert!(rt; matches!(&part, StrategyPart::TooLarge));
     let count = input.get_ref().count;
     assert!(rt; count <= LARGEST + 8192, "{count} bytes were read");
     Ok(())

@@ -6,10 +6,11 @@ const GET: &[u8] = b"GET / HTTP/1.1\r\nHost: x\r\n\r\n";
 
 pub static SHUTDOWNS: [Attack; 3] = [
     Attack {
-        name: "clients that sent nothing are given up at once, and others are waited for",
+        name: "clients that sent nothing are given up after the grace, and others are waited for",
         parts: &[Part {
             times: 1,
             events: &[
+                Event::Accept(GET),
                 Event::Accept(GET),
                 Event::Accept(GET),
                 Event::Accept(GET),
@@ -17,6 +18,10 @@ pub static SHUTDOWNS: [Attack; 3] = [
                 Event::Of(1, What::Left),
                 Event::Of(1, What::Fed(5)),
                 Event::Close,
+                Event::Of(3, What::Left),
+                Event::Pass(1_999),
+                Event::Of(3, What::Fed(5)),
+                Event::Pass(1),
                 Event::Of(2, What::Left),
                 Event::Pass(10_000),
                 Event::Of(1, What::Fed(100)),
@@ -26,6 +31,7 @@ pub static SHUTDOWNS: [Attack; 3] = [
             Whereabouts::Waiting,
             Whereabouts::Waiting,
             Whereabouts::Accepted,
+            Whereabouts::Reading,
         ],
     },
     Attack {

@@ -16,9 +16,10 @@ impl Upload {
         }
     }
 
-    /// It has made progress if 4,096 bytes more came.
-    pub fn note_progress(&mut self, now: u64) {
-        if self.came.saturating_sub(self.bytes) >= 4_096 {
+    /// It has made progress if 4,096 bytes more came, or 32,768 if it was large before.
+    pub fn note_progress(&mut self, before: u64, now: u64) {
+        let enough = if before < 32_768 { 4_096 } else { 32_768 };
+        if self.came.saturating_sub(self.bytes) >= enough {
             self.moment = now;
             self.bytes = self.came;
         }
@@ -32,10 +33,24 @@ impl Upload {
         self.is_paused = !self.is_paused;
     }
 
-    /// Whether it sends fewer than 4,096 bytes in 4 seconds, or nothing for 2.
+    /// Whether it makes no progress for 4 seconds, or sends nothing for 2.
     fn is_still(&self, now: u64) -> bool {
         let passed = now.saturating_sub(self.moment);
         passed >= 4_000 || passed >= 2_000 && self.came == self.bytes
+    }
+
+    /// Whether it is large, is not paused, and has made progress lately.
+    fn is_moving(&self, now: u64) -> bool {
+        self.is_large() && !self.is_paused && now.saturating_sub(self.moment) < 750
+    }
+
+    /// When it last made progress, if it is large.
+    pub fn still_since(&self) -> Option<u64> {
+        if self.is_large() {
+            Some(self.moment)
+        } else {
+            None
+        }
     }
 
     /// Whether it is arriving, is not paused, and is slow.
@@ -67,6 +82,32 @@ impl Uploads {
         if all < REQUEST_BYTES / 4 * 3 {
             self.is_pausing = false;
         }
+    }
+
+    /// Whether the port is stalled.
+    fn is_stalled(&self) -> bool {
+        let (all, waiting) = self.taken();
+        let now = self.now;
+        self.is_pausing
+            && waiting <= REQUEST_BYTES / 2
+            && all > REQUEST_BYTES / 4
+            && !self.known.iter().any(|upload| upload.is_moving(now))
+    }
+
+    /// The earliest moment at which an upload last made progress, if the port is stalled.
+    pub fn longest_still(&self) -> Option<u64> {
+        let mut least: Option<u64> = None;
+        if !self.is_stalled() {
+            return least;
+        }
+        for upload in &self.known {
+            least = match (least, upload.still_since()) {
+                (Some(least), Some(moment)) => Some(least.min(moment)),
+                (None, moment) => moment,
+                (least, None) => least,
+            };
+        }
+        least
     }
 
     /// How many large uploads are older than this one.

@@ -1,28 +1,36 @@
-use Rattle.std.specs.Prelude.{IfOk}
-use Rattle.std.proofs.Common.{◌≡◌, ℕ, List, Result, Ok, Err}
+use Rattle.std.specs.Prelude.{IfOk, OnErr}
+use Rattle.std.proofs.Common.{◌≡◌, ◌∷◌, [], Result, Ok, Err, slice_set, ap}
 use Rattle.bg_revisions.specs.declared.revision.Service.{Service}
 use Rattle.bg_ledger.specs.declared.holding.Holding.{Holding}
 use Rattle.bg_rollout.specs.declared.fault.EnterFault.{EnterFault}
+use Rattle.bg_rollout.specs.declared.fault.EnterFault.TheVariants.{OutOfMemory}
 use Rattle.bg_rollout.specs.declared.ticket.Ticket.{Ticket}
-use Rattle.bg_rollout.specs.Changes.{Stepped, with_past, enter_entry}
+use Rattle.bg_rollout.specs.Changes.{Stepped, with_past, enter_entry, seat_in}
+use Rattle.bg_rollout.specs.Refusals.{AnswersBy, IsTicket, enter_refusal}
 use Rattle.bg_rollout.specs.Routing.{Routing}
-use Rattle.bg_book.specs.Desks.{StepsTo}
-use Rattle.bg_book.specs.Headline.{Headline}
+use Rattle.bg_book.specs.Desks.{enter_reply}
+use Rattle.bg_book.specs.Runs.{EnterStep}
+use Rattle.bg_book.proofs.Running.{changed_alone}
 use Rattle.bg_book.proofs.desk.enter.Goals as goal
 
--- the book after the call
-steps : (b new : Routing) (seat : ℕ) (service : Service) (seats : List Holding) (answer : Result Ticket EnterFault) → Headline new
-    → IfOk answer (λ t. Stepped b.strategy (enter_entry seat service t) b.past new.past 0) → IfOk answer (λ t. new ≡ with_past b new.past seats)
-    → IfOk answer (λ t. (now : Routing) × StepsTo b (enter_entry seat service t) seats now 0)
-steps b new seat service seats (Ok t) headline step book = (new, record { headline = headline; step = step; book = book })
-steps b new seat service seats (Err e) headline step book = tt
+-- the answer as a reply to a call of this seat alone
+replied : (b new : Routing) (seat new_seat : Holding) (service : Service) (answer : Result Ticket EnterFault)
+    → AnswersBy (enter_refusal b service) OutOfMemory answer → IfOk answer (IsTicket b service)
+    → IfOk answer (λ t. new_seat ≡ seat_in seat t) → IfOk answer (λ t. Stepped b.strategy (enter_entry seat.index service t) b.past new.past 0)
+    → IfOk answer (λ t. new ≡ with_past b new.past (slice_set b.seats seat.index new_seat)) → OnErr answer (new ≡ b) → OnErr answer (new_seat ≡ seat)
+    → EnterStep b (seat ∷ []) 0 seat service (enter_reply answer) new (new_seat ∷ [])
+replied b new seat new_seat service (Ok t) none ticket entered step book unchanged seat_unchanged =
+    (none, ticket, changed_alone b new seat new_seat (seat_in seat t) book entered, step)
+replied b new seat new_seat service (Err e) refused ticket entered step book unchanged seat_unchanged =
+    (refused, (unchanged, ap (λ (v : Holding). v ∷ []) seat_unchanged))
 
 pub returns-clause-told : goal.returns-clause-told
-returns-clause-told g c = (
-  c.args.book.now,
-  c.headline.ensures,
-  c.enter-answer.ensures.met,
-  c.enter-answer.ensures.refusal,
-  c.enter-answer.ensures.ticket,
-  steps c.args.book.now c.enter-answer.new.self c.args.seat.now.index c.args.service _ _ c.headline-2.ensures c.enter-answer.ensures.step c.enter-answer.ensures.book,
-)
+returns-clause-told g c =
+    let answer = c.enter-answer.ensures in record {
+      headline = c.headline.ensures;
+      met = answer.met;
+      step =
+          replied c.args.book.now c.enter-answer.new.self c.args.seat.now c.enter-answer.new.seat c.args.service c.enter-answer.result
+          answer.refusal answer.ticket answer.seat answer.step answer.book answer.unchanged answer.seat_unchanged;
+      new_headline = c.headline-2.ensures;
+    }

@@ -1,5 +1,4 @@
-use mir.Val.{bool_byte}
-use Rattle.std.proofs.Common.{ℕ, subst, IfSome, true, false, ◌≡◌, if◌then◌else◌, refl, ◌∙◌}
+use Rattle.std.proofs.Common.{Bool, subst, IfSome, ◌≡◌, if◌then◌else◌}
 use Rattle.std.proofs.lemmas.Result.{IfOk-weaker}
 use Rattle.std.specs.Io.Buffered.{reader_remaining}
 use Rattle.bg_operator.specs.Parting.{IsPart}
@@ -30,12 +29,11 @@ returns g c =
     let part = c.in_ok-part.part in
     let strategy = c.in-Means.strategy in
     let first = g.W.Write.contents c.args.writer.now in
-    let last = g.W.Write.contents c.run.new.writer in
-    let faulted = c.in_ok-faulted.faulted in
+    let last = g.W.Write.contents c.run_script.new.writer in
     let fresh = nothing_held (λ r. g.R.Read.remaining r.now) c.in-Ok.input _ c.in-Ok.ensures.inner c.in-Ok.ensures.empty c.in-Ok.ensures.capacity in
     let after = reader_remaining (λ r. g.R.Read.remaining r.now) c.part_before_script.new.reader in
     let found : IsFoundIn part (Means strategy) = subst (λ f. IsFoundIn part f) c.in-Means.is c.in_ok-finding.ensures in
-    replays_script known _ first last part strategy c.args.seats faulted c.from-2.result
-    (of_reader (IsPart part) _ _ _ fresh c.in_ok-part.ensures) found
-    (subst (λ (n : ℕ). IfSome after (Ran (Closed strategy n) first last faulted)) c.from.ensures c.in_ok-faulted.ensures)
-    (c.from-2.ensures ∙ (elim faulted as (λ t. bool_byte t ≡ (if t then 1 else 0)) [ true ↦ refl | false ↦ refl ]))
+    IfOk-weaker c.run_script.result (λ status. (faulted : Bool) × IfSome after (Ran (Closed strategy c.args.seats) first last faulted) × (status ≡ (if faulted then 1 else 0)))
+    (λ status. IfSome known (Replays c.args.seats first last status))
+    (λ status r. replays_script known _ first last part strategy c.args.seats r.0 status (of_reader (IsPart part) _ _ _ fresh c.in_ok-part.ensures) found r.1 r.2)
+    c.run_script.ensures

@@ -4,7 +4,7 @@ use Rattle.bg_history.specs.Steps.{is_settled}
 use Rattle.bg_history_laws.specs.Reachable.{Reachable}
 use Rattle.bg_history.specs.declared.entry.Entry.{Entry}
 use Rattle.bg_rollout.specs.declared.accepted_event.AcceptedEvent.{AcceptedEvent}
-use Rattle.bg_rollout.specs.declared.control.Control.{Control}
+use Rattle.bg_history.specs.declared.control.Control.{Control}
 use Rattle.bg_rollout.specs.declared.control_fault.ControlFault.{ControlFault}
 use Rattle.bg_rollout.specs.declared.control_fault.ControlFault.TheVariants as control_fault
 use Rattle.bg_rollout.specs.declared.limits.Limits.{Limits}

@@ -1,27 +1,19 @@
-use Rattle.std.proofs.Common.{◌≡◌, ℕ, List}
-use Rattle.bg_history.specs.declared.entry.Entry.{Entry}
-use Rattle.bg_ledger.specs.declared.holding.Holding.{Holding}
-use Rattle.bg_rollout.specs.Changes.{Stepped, with_past}
-use Rattle.bg_rollout.specs.Routing.{Routing}
-use Rattle.bg_book.specs.Desks.{StepsTo}
-use Rattle.bg_book.specs.Headline.{Headline}
+use Rattle.bg_ledger.specs.Holdings.{after_leave}
+use Rattle.bg_book.proofs.Running.{changed_alone}
 use Rattle.bg_book.proofs.desk.Desk.leave.Goals as goal
-
--- the book after the call
-steps : (b new : Routing) (e : Entry) (seats : List Holding) (n : ℕ) → Headline new → Stepped b.strategy e b.past new.past n → new ≡ with_past b new.past seats
-    → StepsTo b e seats new n
-steps b new e seats n headline step book = record { headline = headline; step = step; book = book }
 
 pub returns-clause-told : goal.returns-clause-told
 returns-clause-told g c =
-    let step = c.leave-left.ensures.step in (
+    let left = c.leave-left.ensures in
+    let seat = c.args.seat.now in (
       c.deref_mut-book.result.now,
+      c.leave-left.new.self,
       c.headline.ensures,
-      c.leave-left.ensures.met,
+      c.headline-2.ensures,
+      left.met,
       (
-        step.0,
-        c.leave-left.new.self,
-        steps c.deref_mut-book.result.now c.leave-left.new.self _ _ step.0 c.headline-2.ensures step.1 c.leave-left.ensures.book,
-        step.2,
+        left.left,
+        changed_alone c.deref_mut-book.result.now c.leave-left.new.self seat c.leave-left.new.seat (after_leave seat) left.book left.seat,
+        left.step,
       ),
     )

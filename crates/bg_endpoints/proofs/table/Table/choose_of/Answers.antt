@@ -1,6 +1,6 @@
 use Rattle.std.proofs.Common.{Option, ℕ, ap, ◌∙◌}
 use Rattle.std.specs.Option.{option_or}
-use Rattle.bg_endpoints.specs.Choices.{first_from, passes}
+use Rattle.bg_endpoints.specs.Choices.{first_by}
 use Rattle.bg_endpoints.specs.declared.table.Choice.{Choice}
 use Rattle.bg_endpoints.specs.declared.table.Choice.TheVariants as choice
 use Rattle.bg_endpoints.specs.declared.table.Criteria.{Criteria}
@@ -8,8 +8,7 @@ use Rattle.bg_endpoints.proofs.table.Table.choose_of.Goals as goal
 
 pub returns : goal.returns
 returns c =
-    let first : Criteria → Option ℕ =
-    λ k. first_from c.args.ticket (λ port. passes c.args.self.now c.args.tried.now k port) c.args.ports.now in
+    let first : Criteria → Option ℕ = λ k. first_by c.args.self.now c.args.list.now c.args.tried.now k in
     let by : Choice → Option ℕ = λ x. first (record c.args.criteria { choice = x }) in
     let free = c.first.ensures ∙ ap first c.with.ensures in
     let unmarked = c.first-2.ensures ∙ ap first c.with-2.ensures in

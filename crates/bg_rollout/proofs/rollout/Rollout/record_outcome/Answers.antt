@@ -15,7 +15,7 @@ use Rattle.bg_promotion.specs.Core.{Core}
 use Rattle.bg_promotion.specs.Represents.{CoreRepresents, is_neutral}
 use Rattle.bg_history.specs.Promotion.{first_promotion}
 use Rattle.bg_promotion.specs.Answers.{is_step}
-use Rattle.bg_scaledown.specs.Tables.{Table}
+use Rattle.bg_history.specs.Tables.{Table}
 use Rattle.bg_history_laws.specs.Listed.{revision_of, revisions_of}
 use Rattle.bg_history_laws.specs.Reachable.{Reachable}
 use Rattle.bg_rollout.specs.RequestLists.{OpenAt, is_empty_at}

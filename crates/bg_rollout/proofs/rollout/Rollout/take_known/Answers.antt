@@ -14,7 +14,7 @@ use Rattle.bg_history.specs.Templates.{namesake}
 use Rattle.bg_history_laws.specs.Reachable.{Reachable}
 use Rattle.bg_promotion.specs.Core.{Core}
 use Rattle.bg_promotion.specs.Represents.{CoreRepresents}
-use Rattle.bg_scaledown.specs.Tables.{Table}
+use Rattle.bg_history.specs.Tables.{Table}
 use Rattle.bg_history_laws.specs.Listed.{revisions_of}
 use Rattle.bg_rollout.specs.declared.rollout.Rollout.TheInside.{Inside}
 use Rattle.bg_rollout.specs.PastState.{lists_of}

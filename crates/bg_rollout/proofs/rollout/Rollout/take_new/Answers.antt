@@ -8,7 +8,7 @@ use Rattle.bg_history.specs.Sizes.{last_number}
 use Rattle.bg_history.specs.Allowed.{is_allowed}
 use Rattle.bg_history_laws.specs.Reachable.{Reachable}
 use Rattle.bg_promotion.specs.Represents.{CoreRepresents}
-use Rattle.bg_scaledown.specs.Past.{table_of}
+use Rattle.bg_history.specs.Tables.{table_of}
 use Rattle.bg_rollout.specs.RequestLists.{OpenAt}
 use Rattle.bg_rollout.specs.PastState.{lists_of}
 use Rattle.bg_rollout.specs.Recording.{Recorded}

@@ -2,7 +2,7 @@ use Rattle.std.proofs.Common.{◌≡◌, refl, ◌∙◌}
 use Rattle.bg_history.specs.AttemptBounds.{moment}
 use Rattle.bg_history.specs.Selections.{selectors_of}
 use Rattle.bg_scaledown.specs.Due.{is_due_in}
-use Rattle.bg_scaledown.specs.Past.{table_of}
+use Rattle.bg_history.specs.Tables.{table_of}
 use Rattle.bg_scaledown.proofs.deadlines.Deadlines.is_due.Goals as goal
 
 pub returns-clause-past : goal.returns-clause-past

@@ -5,7 +5,7 @@ use Rattle.std.proofs.lemmas.Iterator.Consumers.{YieldsList-at, YieldsList-from_
 use Rattle.std.proofs.lemmas.Iterator.Search.{YieldsList-from_take_while}
 use Rattle.std.specs.Option.{unwrap_or}
 use Rattle.std.specs.Iterator.Adapters.{skip_count}
-use Rattle.bg_scaledown.specs.Tables.{Table}
+use Rattle.bg_history.specs.Tables.{Table}
 use Rattle.bg_scaledown.specs.Due.{exempts}
 use Rattle.bg_scaledown.specs.Sorted.{sorted, OncePerRevision}
 use Rattle.bg_scaledown.proofs.Found.{first-due}

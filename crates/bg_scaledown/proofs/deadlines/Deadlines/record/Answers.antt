@@ -4,7 +4,7 @@ use Rattle.bg_history.specs.declared.entry.Outcome.TheVariants.{Switched, Scaled
 use Rattle.bg_history.specs.AttemptBounds.{moment}
 use Rattle.bg_history.specs.Selections.{selectors_of}
 use Rattle.bg_scaledown.specs.Due.{marks_without}
-use Rattle.bg_scaledown.specs.Past.{stamps_of, marks_of}
+use Rattle.bg_history.specs.Tables.{stamps_of, marks_of}
 use Rattle.bg_scaledown.specs.Events.{deployed, halted, switched}
 use Rattle.bg_scaledown.proofs.Deploys.{marks-deploy}
 use Rattle.bg_scaledown.proofs.Halts.{marks-abort, marks-verdict}

@@ -1,5 +1,5 @@
 use Rattle.std.proofs.Common.{◌≡◌, ◌∷◌, [], true, sym, subst, arith}
-use Rattle.bg_scaledown.specs.Tables.{Table}
+use Rattle.bg_history.specs.Tables.{Table}
 use Rattle.bg_scaledown.specs.Due.{has_room_for}
 use Rattle.bg_scaledown.proofs.Room.{marks_without-room}
 use Rattle.bg_scaledown.proofs.deadlines.Deadlines.set_mark.Goals as goal

@@ -1,0 +1,38 @@
+-- The entry of a connection in the access log.
+use Rattle.std.specs.Prelude.{ℕ, Bool, true, ◌==◌, if◌then◌else◌, List, Option, Some, None, codes}
+use Rattle.bg_rollout.specs.declared.ticket.Ticket.{Ticket}
+use Rattle.bg_dial.specs.declared.dialled.Route.{Route}
+use Rattle.bg_forward.specs.Reasons.{reason_name}
+use Rattle.bg_forward.specs.declared.reason.Reason.{Reason}
+use Rattle.bg_forward.specs.declared.reason.Reason.TheVariants as reason
+use Rattle.bg_forward.specs.declared.serving.End.{End}
+use Rattle.bg_forward.specs.declared.serving.End.TheVariants as end
+
+-- the status code of the response or the refusal that was written
+abbrev pub end_status : End → Option ℕ
+end_status (end.Answered code) = Some code
+end_status (end.Refused status) = Some status
+end_status end.Closed = None
+end_status end.ReadFailed = None
+end_status end.WriteFailed = None
+
+-- how a connection ended
+abbrev pub end_name : End → List ℕ
+end_name (end.Answered code) = codes "answered"
+end_name (end.Refused status) = codes "refused"
+end_name end.Closed = codes "closed"
+end_name end.ReadFailed = codes "read_failed"
+end_name end.WriteFailed = codes "write_failed"
+
+-- a reason's name; if the head passes all rules, a malformed or large part is one of the body or of the trailers
+abbrev pub logged_reason : Bool → Reason → List ℕ
+logged_reason true reason.Malformed = codes "body"
+logged_reason true reason.HeadTooLarge = codes "body"
+logged_reason is_head_sound why = reason_name why
+
+-- the port of the ticket, if another port was dialled last
+abbrev pub slot_port : Option Ticket → Option Route → Option ℕ
+slot_port None route = None
+slot_port (Some ticket) None = None
+slot_port (Some ticket) (Some route) =
+    if route.port == ticket.port then None else Some ticket.port

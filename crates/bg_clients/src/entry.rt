@@ -1,0 +1,139 @@
+//! The entry of a connection in the access log.
+ghost use Rattle.std.specs.Prelude.{◌≡◌, None, codes, if◌then◌else◌};
+ghost use Rattle.std.specs.Option.{option_and_then, option_map};
+ghost use Rattle.bg_clients.specs.Entries.{end_name, end_status, logged_reason, slot_port};
+ghost use Rattle.bg_ports.specs.ServiceNames.{name_of_service};
+
+use bg_access_log::{LogEntry, TimeText};
+use bg_forward::{End, Reason, Served};
+use bg_ports::service_name;
+use bg_revisions::Service;
+use std::borrow::CowStr;
+
+/// What the log tells of a connection apart from its outcome.
+#[derive(Drop)]
+pub struct ConnectionFacts<'a> {
+    /// When the connection ended.
+    pub time: Option<TimeText>,
+    /// The service of the client's port.
+    pub service: Service,
+    /// The method and the target of the request, or of one that was refused after its head was parsed.
+    pub method: Option<CowStr<'a>>,
+    pub target: Option<CowStr<'a>>,
+    /// Whether the request was refused although its head passes all rules.
+    pub is_head_sound: bool,
+    /// Whether a request may be dialled at another port than its ticket's.
+    pub redispatches: bool,
+    /// The number of bytes that came of the request.
+    pub request_bytes: u64,
+    /// The number of bytes that the worker gave for the client.
+    pub response_bytes: u64,
+    /// The number of milliseconds from the accept to the end of the connection.
+    pub duration_ms: u64,
+    /// The number of milliseconds from when a worker got the connection to the first bytes of the response; `None` if
+    /// no response came.
+    pub response_ms: Option<u64>,
+}
+
+/// The entry of a connection in the access log, by its outcome and by what else is known of it.
+pub fn entry_of<'a>(served: &Served, facts: ConnectionFacts<'a>) -> LogEntry<'a>
+    ensures time { result.time ≡ facts.entry.time }
+    ensures service { result.service.now ≡ name_of_service facts.entry.service }
+    ensures revision { result.revision ≡ option_map (λ ticket. ticket.revision) served.now.entered }
+    ensures request { result.request ≡ option_map (λ ticket. ticket.number) served.now.entered }
+    ensures port { result.port ≡ option_map (λ route. route.port) served.now.route }
+    ensures slot_port { result.slot_port ≡ slot_port served.now.entered served.now.route }
+    ensures tries { result.tries
+        ≡ (if facts.entry.redispatches then option_map (λ route. route.tries) served.now.route else None) }
+    ensures method { result.method ≡ facts.entry.method }
+    ensures target { result.target ≡ facts.entry.target }
+    ensures status { result.status ≡ end_status served.now.end }
+    ensures end { result.end.now ≡ end_name served.now.end }
+    ensures reason { option_map (λ name. name.now) result.reason
+        ≡ option_map (logged_reason facts.entry.is_head_sound) served.now.reason }
+    ensures request_bytes { result.request_bytes ≡ facts.entry.request_bytes }
+    ensures response_bytes { result.response_bytes ≡ facts.entry.response_bytes }
+    ensures duration { result.duration_ms ≡ facts.entry.duration_ms }
+    ensures upstream { result.upstream_ms
+        ≡ option_and_then (λ ticket. facts.entry.response_ms) served.now.entered }
+{
+    let entered = served.entered;
+    LogEntry {
+        time: facts.time,
+        service: service_name(facts.service),
+        revision: entered.map(|ticket| ticket.revision),
+        request: entered.map(|ticket| ticket.number),
+        port: served.route.map(|route| route.port),
+        slot_port: slot_port(served),
+        tries: tries(served, facts.redispatches),
+        method: facts.method,
+        target: facts.target,
+        status: status_of(served.end),
+        end: name_of(served.end),
+        reason: reason_name(served.reason, facts.is_head_sound),
+        request_bytes: facts.request_bytes,
+        response_bytes: facts.response_bytes,
+        duration_ms: facts.duration_ms,
+        upstream_ms: match entered {
+            Some(_) => facts.response_ms,
+            None => None,
+        },
+    }
+}
+
+/// The port of the ticket, if another port was dialled last.
+fn slot_port(served: &Served) -> Option<u16>
+    ensures { result ≡ slot_port served.now.entered served.now.route }
+{
+    let ticket = served.entered?;
+    let route = served.route?;
+    if route.port == ticket.port {
+        return None;
+    }
+    Some(ticket.port)
+}
+
+/// The number of ports that were dialled, if a request may be dialled at another port than its ticket's.
+fn tries(served: &Served, redispatches: bool) -> Option<u32>
+    ensures { result
+        ≡ (if redispatches then option_map (λ route. route.tries) served.now.route else None) }
+{
+    let route = served.route?;
+    if redispatches {
+        Some(route.tries)
+    } else {
+        None
+    }
+}
+
+/// The name of a reason in the log. If a request is malformed or too large although its head has no fault,
+/// the fault is in its body or in its trailers, and the name is `body`.
+fn reason_name(reason: Option<Reason>, is_head_sound: bool) -> Option<&'static str>
+    ensures { option_map (λ name. name.now) result ≡ option_map (logged_reason is_head_sound) reason }
+{
+    match reason? {
+        Reason::Malformed | Reason::HeadTooLarge if is_head_sound => Some("body"),
+        reason => Some(reason.name()),
+    }
+}
+
+fn status_of(end: End) -> Option<u16>
+    ensures { result ≡ end_status end }
+{
+    match end {
+        End::Refused(status) | End::Answered(status) => Some(status),
+        End::Closed | End::ReadFailed | End::WriteFailed => None,
+    }
+}
+
+fn name_of(end: End) -> &'static str
+    ensures { result.now ≡ end_name end }
+{
+    match end {
+        End::Closed => "closed",
+        End::ReadFailed => "read_failed",
+        End::Refused(_) => "refused",
+        End::Answered(_) => "answered",
+        End::WriteFailed => "write_failed",
+    }
+}

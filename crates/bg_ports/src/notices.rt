@@ -1,0 +1,360 @@
+//! The notices that are written to standard error while the ports are open.
+
+use crate::ports::{Ports, service_name};
+use bg_access_log::{AccessLog, LogTrouble};
+use bg_client_port::ClientPort;
+use bg_command_line::ServeSettings;
+use bg_control_port::ControlEvents;
+use bg_revisions::Service;
+use libc::STDERR_FILENO;
+use libc::net::{POLLOUT, poll};
+use libc::types::pollfd;
+use std::alloc::Global;
+use std::io::Write;
+use std::sync::atomic::{AtomicBool, AtomicU64, Ordering};
+use std::{fmt, io};
+
+/// The number of seconds after `open` in which all threads are expected to begin.
+const SECONDS_TO_BEGIN: u64 = 3;
+
+/// A notice.
+#[derive(Drop)]
+enum Notice<'a> {
+    /// The number of workers of a port that have begun, and the number that it should have.
+    FewerWorkers {
+        port: &'static str,
+        begun: usize,
+        expected: usize,
+    },
+    NoEventLoop {
+        port: &'static str,
+    },
+    AcceptsFail {
+        port: &'static str,
+    },
+    ControlAcceptsFail {
+        reason: &'a io::Error,
+    },
+    UsedUp {
+        port: &'static str,
+    },
+    HistoryNearlyFull {
+        used: u64,
+        most: u64,
+    },
+    /// The numbers of lines and requests that were refused because the history is full, since the last such
+    /// notice.
+    HistoryFull {
+        lines: u64,
+        requests: u64,
+    },
+    /// A line of the user with this number, which was carried out.
+    Decision {
+        user: u32,
+        line: &'a str,
+    },
+    /// The number of connections of other users since the last such notice.
+    RefusedConnections {
+        connections: u64,
+    },
+    LogTakesNothing {
+        reason: &'a io::Error,
+    },
+    LogLinesLost {
+        lost: u64,
+    },
+}
+
+impl fmt::Display for Notice<'_> {
+    fn fmt<W: fmt::Write>(&self, f: &mut fmt::Formatter<W>) -> fmt::Result {
+        match self {
+            Notice::FewerWorkers {
+                port,
+                begun,
+                expected,
+            } => write!(f, "the {port} port has {begun} of {expected} workers"),
+            Notice::NoEventLoop { port } => write!(f, "the {port} port has no event loop"),
+            Notice::AcceptsFail { port } => {
+                write!(f, "accepts fail at the {port} port, and are tried again")
+            }
+            Notice::ControlAcceptsFail { reason } => write!(
+                f,
+                "accepts fail at the control port, and are tried again: {reason}"
+            ),
+            Notice::UsedUp { port } => {
+                write!(f, "the {port} port is closed: its connections are used up")
+            }
+            Notice::HistoryNearlyFull { used, most } => write!(
+                f,
+                "the history holds {used} of {most} entries; once it is full, requests and lines are refused"
+            ),
+            Notice::HistoryFull { lines, requests } => write!(
+                f,
+                "the history is full; lines refused: {lines}, requests refused: {requests}"
+            ),
+            Notice::Decision { user, line } => write!(f, "user {user}: {line}"),
+            Notice::RefusedConnections { connections } => write!(
+                f,
+                "connections at the control port that are not of the users of BG_SWITCH_OPERATORS: {connections}"
+            ),
+            Notice::LogTakesNothing { reason } => write!(
+                f,
+                "the access log takes nothing: {reason}; its lines wait, and then are lost"
+            ),
+            Notice::LogLinesLost { lost } => write!(f, "the access log: lines lost: {lost}"),
+        }
+    }
+}
+
+/// Which notices were written about a client port.
+#[derive(Drop)]
+struct PortNotices {
+    workers: AtomicBool,
+    event_loop: AtomicBool,
+    used_up: AtomicBool,
+}
+
+impl PortNotices {
+    /// No notices yet.
+    fn new() -> PortNotices {
+        PortNotices {
+            workers: AtomicBool::new(false),
+            event_loop: AtomicBool::new(false),
+            used_up: AtomicBool::new(false),
+        }
+    }
+}
+
+/// Writes notices to standard error while the ports are open: fewer threads than expected, failed
+/// accepts, a port that is closed because its workers have taken all their connections, a history that is
+/// nearly full, lines and requests that are refused because it is full, an access log that takes nothing
+/// or has lost lines, and, if only listed users are served, their decisions and the connections of others. Each is
+/// written once, or once for each client port, with these exceptions. Failed accepts at the control port, and a log
+/// that takes nothing, are written once for each series of failures. Refusals, and connections of others, are written
+/// each second in which something was refused. Each decision is written. A failed write changes nothing else.
+#[derive(Drop)]
+pub struct Notices<'p> {
+    alloc: Global,
+    ports: &'p Ports,
+    log: Option<&'p AccessLog>,
+    /// The number of workers of the active service, and of the preview service.
+    workers: usize,
+    preview_workers: usize,
+    of_active: PortNotices,
+    of_preview: PortNotices,
+    is_open: AtomicBool,
+    /// The maximum number of entries of the history.
+    most_entries: u64,
+    /// The number of seconds since the book was opened.
+    open_seconds: AtomicU64,
+    nearly_full: AtomicBool,
+    /// The number of lines that were refused because the history is full, since the last notice about that.
+    refused_lines: AtomicU64,
+    /// The number of such requests.
+    refused_requests: AtomicU64,
+    /// The number of connections that were refused at the control port, since the last notice about that.
+    refused_connections: AtomicU64,
+}
+
+impl<'p> Notices<'p> {
+    /// No notice was written yet, and no book is open. The history of a book holds at most `most_entries` entries.
+    pub fn new(
+        alloc: Global,
+        ports: &'p Ports,
+        settings: &ServeSettings,
+        log: Option<&'p AccessLog>,
+        most_entries: u64,
+    ) -> Notices<'p> {
+        Notices {
+            alloc,
+            ports,
+            log,
+            workers: usize::from(settings.workers),
+            preview_workers: usize::from(settings.preview_workers),
+            of_active: PortNotices::new(),
+            of_preview: PortNotices::new(),
+            is_open: AtomicBool::new(false),
+            most_entries,
+            open_seconds: AtomicU64::new(0),
+            nearly_full: AtomicBool::new(false),
+            refused_lines: AtomicU64::new(0),
+            refused_requests: AtomicU64::new(0),
+            refused_connections: AtomicU64::new(0),
+        }
+    }
+
+    /// Notes that a book was opened, so workers and event loops should begin.
+    pub fn note_open(&self) {
+        self.is_open.store(true, Ordering::SeqCst);
+    }
+
+    /// Notes that the history holds this many entries. Writes the notice if that is at least nine tenths of
+    /// its maximum.
+    pub fn note_entries(&self, used: u64) {
+        let most = self.most_entries;
+        if used >= most / 10 * 9 {
+            self.write_once(&self.nearly_full, &Notice::HistoryNearlyFull { used, most });
+        }
+    }
+
+    /// The counter of the lines that are refused because the history is full.
+    pub fn refused_lines(&self) -> &AtomicU64 {
+        &self.refused_lines
+    }
+
+    /// Counts a request that is refused because the history is full.
+    pub fn note_refused_request(&self) {
+        self.refused_requests.fetch_add(1, Ordering::SeqCst);
+    }
+
+    /// Writes how many lines and requests were refused because the history is full, if any were refused since the
+    /// last call.
+    pub fn write_refusals(&self) {
+        let lines = self.refused_lines.swap(0, Ordering::SeqCst);
+        let requests = self.refused_requests.swap(0, Ordering::SeqCst);
+        if lines > 0 || requests > 0 {
+            self.write(&Notice::HistoryFull { lines, requests });
+        }
+    }
+
+    /// Writes about the access log: that its file takes nothing, once for each series of failed writes, and how many lines
+    /// were lost.
+    pub fn write_log_trouble(&self) {
+        match self.log {
+            Some(log) => match log.take_trouble() {
+                Some(LogTrouble::TakesNothing(reason)) => self.write(&Notice::LogTakesNothing {
+                    reason: &reason,
+                }),
+                Some(LogTrouble::LinesLost(lost)) => self.write(&Notice::LogLinesLost { lost }),
+                None => {}
+            },
+            None => {}
+        }
+    }
+
+    /// Writes who has made a decision: the line of an operator, and the number of its user.
+    pub fn write_decision(&self, user: u32, line: &[u8]) {
+        if let Ok(line) = str::from_utf8(line) {
+            self.write(&Notice::Decision {
+                user,
+                line: line.trim_end(),
+            });
+        }
+    }
+
+    /// Writes how many connections were refused, if any were since the last call.
+    fn write_refused_connections(&self) {
+        let connections = self.refused_connections.swap(0, Ordering::SeqCst);
+        if connections > 0 {
+            self.write(&Notice::RefusedConnections { connections });
+        }
+    }
+
+    /// Checks a client port.
+    fn check_port(&self, service: Service, is_late: bool) {
+        let Some(port) = self.ports.of(service) else {
+            return;
+        };
+        let name = service_name(service);
+        if port.take_accept_failure() {
+            self.write(&Notice::AcceptsFail { port: name });
+        }
+        let written = self.written_of(service);
+        if port.is_closed() {
+            self.write_once(&written.used_up, &Notice::UsedUp { port: name });
+        } else if is_late {
+            self.check_threads(port, service);
+        }
+    }
+
+    /// Checks whether the threads of a port have begun.
+    fn check_threads(&self, client_port: &ClientPort, service: Service) {
+        let port = service_name(service);
+        let written = self.written_of(service);
+        let expected = match service {
+            Service::Active => self.workers,
+            Service::Preview => self.preview_workers,
+        };
+        let begun = client_port.workers_begun();
+        if begun < expected {
+            self.write_once(
+                &written.workers,
+                &Notice::FewerWorkers {
+                    port,
+                    begun,
+                    expected,
+                },
+            );
+        }
+        if !client_port.has_event_loop() {
+            self.write_once(&written.event_loop, &Notice::NoEventLoop { port });
+        }
+    }
+
+    fn written_of(&self, service: Service) -> &PortNotices {
+        match service {
+            Service::Active => &self.of_active,
+            Service::Preview => &self.of_preview,
+        }
+    }
+
+    /// Whether the writer of the access log writes the line, since both go to standard error.
+    fn hands_over(&self, line: &[u8]) -> bool {
+        match self.log {
+            Some(log) => log.hand_over(line),
+            None => false,
+        }
+    }
+
+    fn write_once(&self, is_written: &AtomicBool, notice: &Notice) {
+        if !is_written.swap(true, Ordering::SeqCst) {
+            self.write(notice);
+        }
+    }
+
+    /// Writes a line to standard error. If standard error takes nothing now, the line is lost: operators are
+    /// served by this thread, and do not wait for whoever reads it.
+    fn write(&self, notice: &Notice) {
+        let mut line = Vec::new(self.alloc);
+        if writeln!(line, "bg_switch: {notice}").is_err() || self.hands_over(&line) {
+            return;
+        }
+        if takes_a_line() {
+            let _ = libc::write(STDERR_FILENO, &line);
+        }
+    }
+}
+
+/// Whether standard error takes a line of up to 4,096 bytes without waiting (PIPE_BUF of pipe(7)).
+fn takes_a_line() -> bool {
+    let mut asked = [pollfd {
+        fd: STDERR_FILENO,
+        events: POLLOUT,
+        revents: 0,
+    }];
+    poll(&mut asked, 0) > 0
+}
+
+impl ControlEvents for Notices<'_> {
+    fn accept_failed(&self, reason: &io::Error) {
+        self.write(&Notice::ControlAcceptsFail { reason });
+    }
+
+    fn connections_refused(&self, connections: u64) {
+        self.refused_connections
+            .fetch_add(connections, Ordering::SeqCst);
+    }
+
+    fn second_passed(&self) {
+        self.write_refused_connections();
+        if !self.is_open.load(Ordering::SeqCst) {
+            return;
+        }
+        let passed = self.open_seconds.fetch_add(1, Ordering::SeqCst);
+        let is_late = passed >= SECONDS_TO_BEGIN;
+        self.check_port(Service::Active, is_late);
+        self.check_port(Service::Preview, is_late);
+        self.write_refusals();
+        self.write_log_trouble();
+    }
+}

@@ -1,0 +1,169 @@
+//! The ports at which `serve` listens.
+ghost use Rattle.std.specs.Prelude.{◌≡◌};
+ghost use Rattle.bg_ports.specs.ServiceNames.{name_of_service};
+
+use crate::addresses::{Address, Addresses, BindFault};
+use crate::descriptors::bounds_of;
+use bg_client_port::{Bounds, ClientPort, ClientPortSettings};
+use bg_command_line::{Connections, ServeSettings};
+use bg_control_port::ControlPort;
+use bg_endpoints::OwnPorts;
+use bg_peers::Users;
+use bg_revisions::Service;
+use std::alloc::Global;
+use std::net::{Net, TcpListener, TcpStream};
+use std::sync::Wait;
+use std::time::Clock;
+
+/// The ports on 127.0.0.1.
+#[derive(Drop)]
+pub struct Ports {
+    active: ClientPort,
+    preview: Option<ClientPort>,
+    /// The port at which operators connect.
+    pub control: ControlPort,
+    /// The numbers of the ports.
+    pub own: OwnPorts,
+}
+
+impl Ports {
+    /// Listens at the ports of the settings, which are bound in the order active, preview, control.
+    /// `request_seconds` is the timeout of a client's request. The control port serves the connections of
+    /// `operators`; `None` stands for all users. The error names the first port that cannot be
+    /// bound. If all are bound, it names the first one for which another system call or an allocation fails.
+    pub fn bind<R: Net<Listener = TcpListener, Stream = TcpStream> + Clock>(
+        rt: &R,
+        alloc: Global,
+        settings: &ServeSettings,
+        request_seconds: u64,
+        operators: Option<Users>,
+    ) -> Result<Ports, BindFault> {
+        let addresses = Addresses::of(settings);
+        let listeners = addresses.listen(rt)?;
+        let clients = ClientPorts {
+            alloc,
+            connections: settings.connections,
+            request_seconds,
+            grace_seconds: u64::from(settings.shutdown_grace),
+            aborts_on_close: settings.abort_on_close,
+            bounds: bounds_of(settings),
+        };
+        let active = clients.port(rt, &addresses.active, listeners.active, settings.workers)?;
+        let workers = settings.preview_workers;
+        let preview = clients.preview_port(rt, &addresses, listeners.preview, workers)?;
+        let control = control_port(rt, alloc, &addresses.control, listeners.control, operators)?;
+        Ok(Ports {
+            active,
+            preview,
+            control,
+            own: OwnPorts {
+                active: settings.active,
+                preview: settings.preview,
+                control: settings.control,
+            },
+        })
+    }
+
+    /// Begins a graceful shutdown of the client ports.
+    pub fn close_client_ports<R: Clock + Wait>(&self, rt: &R) {
+        self.active.close(rt);
+        if let Some(preview) = &self.preview {
+            preview.close(rt);
+        }
+    }
+
+    /// The port of a service, if it has one.
+    pub fn of(&self, service: Service) -> Option<&ClientPort> {
+        match service {
+            Service::Active => Some(&self.active),
+            Service::Preview => self.preview.as_ref(),
+        }
+    }
+}
+
+/// The name of a service, which is also the word of the command line that gives its port.
+pub fn service_name(service: Service) -> &'static str
+    ensures { result.now ≡ name_of_service service }
+{
+    match service {
+        Service::Active => "active",
+        Service::Preview => "preview",
+    }
+}
+
+/// The settings that the client ports have in common.
+#[derive(Drop)]
+struct ClientPorts {
+    alloc: Global,
+    connections: Connections,
+    request_seconds: u64,
+    grace_seconds: u64,
+    aborts_on_close: bool,
+    bounds: Bounds,
+}
+
+impl ClientPorts {
+    /// The settings of a port with this many workers.
+    fn settings(&self, workers: u16) -> ClientPortSettings {
+        ClientPortSettings {
+            workers: usize::from(workers),
+            connections: match self.connections {
+                Connections::Count(count) => {
+                    Some(u64::from(count).saturating_mul(u64::from(workers)))
+                }
+                Connections::Forever => None,
+            },
+            request_seconds: self.request_seconds,
+            grace_seconds: self.grace_seconds,
+            aborts_on_close: self.aborts_on_close,
+            bounds: self.bounds,
+        }
+    }
+
+    /// The client port at an address, with this many workers.
+    fn port<R: Clock>(
+        &self,
+        rt: &R,
+        address: &Address,
+        listener: TcpListener,
+        workers: u16,
+    ) -> Result<ClientPort, BindFault> {
+        let settings = self.settings(workers);
+        address.or_fault(ClientPort::new(rt, self.alloc, listener, settings))
+    }
+
+    /// The port of the preview service, if there is one.
+    fn preview_port<R: Clock>(
+        &self,
+        rt: &R,
+        addresses: &Addresses,
+        listener: Option<TcpListener>,
+        workers: u16,
+    ) -> Result<Option<ClientPort>, BindFault> {
+        match (&addresses.preview, listener) {
+            (Some(address), Some(listener)) => {
+                Ok(Some(self.port(rt, address, listener, workers)?))
+            }
+            _ => Ok(None),
+        }
+    }
+}
+
+/// The control port at an address.
+fn control_port<R: Net + Clock>(
+    rt: &R,
+    alloc: Global,
+    address: &Address,
+    listener: TcpListener,
+    operators: Option<Users>,
+) -> Result<ControlPort, BindFault> {
+    address.or_fault(ControlPort::new(rt, alloc, listener, operators))
+}
+
+/// The number of workers of the preview port; 0 if there is no such port.
+pub fn preview_workers(settings: &ServeSettings) -> u32 {
+    match settings.preview {
+        Some(_) => u32::from(settings.preview_workers),
+        None => 0,
+    }
+}

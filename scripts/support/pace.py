@@ -1,0 +1,53 @@
+"""The pace of the machine: limits that only say `not for ever` are wider where it is busy or slow.
+
+Where a limit is what is checked, a check compares with a control in the same run, or looks at the order of events.
+"""
+import os
+import statistics
+import subprocess
+import sys
+import threading
+import time
+from collections.abc import Callable
+
+# The work by which the pace is measured: the start of a process, and a little that it computes. It takes so many seconds on a
+# free machine.
+WORK = (sys.executable, "-I", "-S", "-c", "for _ in range(300_000): pass")
+FREE = 0.025
+RUNS = 5
+
+
+def slowness() -> float:
+    """How many times as long as on a free machine the work takes now, or took in the last minute, by the number of processes
+    that had to share a processor; 1 at least. It takes a tenth of a second."""
+    shared = os.getloadavg()[0] / len(os.sched_getaffinity(0))
+    return max(1.0, shared, statistics.median(seconds_of_work() for _ in range(RUNS)) / FREE)
+
+
+def seconds_of_work() -> float:
+    start = time.monotonic()
+    subprocess.run(WORK, stdin=subprocess.DEVNULL, check=True)
+    return time.monotonic() - start
+
+
+def widened(limit: float) -> float:
+    """A limit in seconds as the machine can keep it now."""
+    return limit * slowness()
+
+
+def is_within(seconds: float, limit: float) -> bool:
+    """Whether this took no longer than the limit. The pace is measured only where the limit itself is not kept."""
+    return seconds <= limit or seconds <= widened(limit)
+
+
+def at_the_limit(limit: float, end: Callable[[], object]) -> threading.Thread:
+    """Calls `end` in a thread once the limit is over, as the machine keeps it then. The thread ends with the program."""
+
+    def wait() -> None:
+        time.sleep(limit)
+        time.sleep(widened(limit) - limit)
+        end()
+
+    thread = threading.Thread(target=wait, daemon=True)
+    thread.start()
+    return thread
