@@ -3,11 +3,13 @@
 # its line.
 set -eu
 cd "$(dirname -- "$0")/.."
+program=bin/bg_switch
+[ -x "$program" ] || program=bg_switch # from the package
 work=$(mktemp -d)
 trap 'rm -rf "$work"' EXIT
 for example in examples/*.txt; do
     printf '\n%s\n\n' "$example"
-    bin/bg_switch replay < "$example" > "$work/replies"
+    "$program" replay < "$example" > "$work/replies"
     awk -v replies="$work/replies" '
         !in_script { in_script = ($0 == "---"); next }
         $1 == "quit" && NF == 1 { print "    " $0; exit }

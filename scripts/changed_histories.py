@@ -6,7 +6,6 @@ The verdicts come from the definitions below alone, which ask a list of entries,
 They are slow, keep no state, and share nothing with `audit`. What is written is the same at each run.
 """
 import json
-import json
 import pathlib
 import random
 import re

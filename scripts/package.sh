@@ -88,7 +88,7 @@ fill_root() {
 # systemd itself is large, and is not started there.
 build_root() {
     is_reachable || skip "$(mirror) cannot be reached"
-    fill_root apart timeout --signal=KILL 900 debootstrap --variant=minbase --include=systemd-standalone-sysusers "$release" "$root" "$(mirror)"
+    fill_root apart timeout --signal=KILL 900 debootstrap --variant=minbase --include=systemd-standalone-sysusers,curl "$release" "$root" "$(mirror)"
     fill_root in_root apt-get satisfy -qq --yes --no-install-recommends "$(dpkg-deb --field "$package" Depends), $recommended"
 }
 

@@ -1,15 +1,19 @@
 #!/usr/bin/env python3
-"""Makes the JSON schema of a controller's plan, which editors use, from the limits and defaults of its reader.
+"""Makes the JSON schema of a controller's plan, which editors use, from the limits and defaults of its reader; and the table of the keys
+in docs/PLAN.md from the schema.
 
 usage: scripts/plan_schema.py             prints the schema
-       scripts/plan_schema.py --write     writes it into share/plan.schema.json
+       scripts/plan_schema.py --write     writes it into share/plan.schema.json, and the table into the page
 
 The schema says what one value can be. That names and ports stand once, that revisions have equally many ports, and that the limits
 of an analysis fit together, only `bin/controller check` judges.
 """
 import json
 import pathlib
+import re
 import sys
+from collections.abc import Iterator
+from typing import Any
 
 TOP = pathlib.Path(__file__).resolve().parents[1]
 sys.path.insert(0, str(TOP / "lib"))
@@ -19,6 +23,8 @@ from bg_switch_tools.controller.plan_reader import LEAST_SECONDS, LONGEST, MOST_
 from bg_switch_tools.switch.json_values import GREATEST_PORT, MOST_PORTS, NAME, PATH  # noqa: E402
 
 FILE = TOP / "share" / "plan.schema.json"
+PAGE = TOP / "docs" / "PLAN.md"
+TABLE = re.compile(r"(<!-- keys -->\n)(.*?)(?=<!-- end of keys -->\n)", re.S)
 DRAFT = "http://json-schema.org/draft-07/schema#"  # which editors know best
 Schema = dict[str, object]
 WORD: Schema = {"type": "string", "pattern": "^[^\\u0000]*$"}
@@ -112,5 +118,44 @@ def text() -> str:
     return schema_text(schema())
 
 
+def values_told(schema: Any) -> str:
+    """The values that a schema takes, in words."""
+    if schema["type"] == "boolean":
+        return "`true`, `false`"
+    if "minimum" in schema:
+        whole = "whole number" if schema["type"] == "integer" else "number"
+        return f"{whole}, {schema['minimum']:g} to {schema['maximum']:,}" if schema["maximum"] != GREATEST_PORT else "port, 1 to 65,535"
+    if schema["type"] == "array":
+        items = schema["items"]
+        if isinstance(items, list):
+            return "list of words"
+        return f"list of 1 to {schema['maxItems']} {'ports' if items['type'] == 'integer' else 'objects'}"
+    return "object" if schema["type"] == "object" else "text"
+
+
+def rows(properties: Any, required: Any, place: str = "") -> Iterator[str]:
+    """A row for each key, those of an object after its own."""
+    for key, schema in properties.items():
+        below = schema["items"] if schema["type"] == "array" and isinstance(schema["items"], dict) else schema
+        default = "needed" if key in required else f"`{json.dumps(schema['default'])}`" if "default" in schema else "-"
+        yield f"| `{place}{key}` | {schema.get('description', '')} | {values_told(schema)} | {default} |"
+        if below["type"] == "object":
+            sign = "[]." if schema["type"] == "array" else "."
+            yield from rows(below["properties"], below.get("required", ()), f"{place}{key}{sign}")
+
+
+def table() -> str:
+    """The table of the keys."""
+    made: Any = schema()
+    return "\n".join(["| Key | Meaning | Values | Without it |", "|---|---|---|---|", *rows(made["properties"], made["required"])]) + "\n"
+
+
+def page_with(page: str, made: str) -> str:
+    """The text of a page with this table."""
+    return TABLE.sub(lambda found: found[1] + made, page)
+
+
 if __name__ == "__main__":
+    if sys.argv[1:] == ["--write"]:
+        PAGE.write_text(page_with(PAGE.read_text(encoding="utf-8"), table()), encoding="utf-8")
     sys.exit(print_or_write(__doc__, FILE, text()))

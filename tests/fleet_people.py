@@ -96,7 +96,7 @@ class WithFleet(unittest.TestCase):
         """Puts the reports of these hosts, or of all three, on the attempt that stands."""
         record = self.view.record
         told: dict[str, object] = {"attempt": record.id if record else 0, "phase": "paused", "active": "web-v1", "preview": "web-v2",
-                                   "stable": "web-v1", "newest": "web-v2", "available": 2, **values}
+                                   "stable": record.fleet_stable.name if record else "web-v1", "newest": "web-v2", "available": 2, **values}
         for host in hosts or HOSTS:
             self.put(MACHINES + host, MachineReport(f"id-{host}", state=state, **told).text())  # type: ignore[arg-type]
 

@@ -30,16 +30,19 @@ FIT = {"spec": {"replicas": 2, "strategy": {"blueGreen": {"autoPromotionEnabled"
 
 
 class Network:
-    """What the stores of a test share: `silence` is for how many seconds each call waits before it fails; None where none fails."""
+    """What the stores of a test share: `silence` is for how many seconds each call waits before it fails; None where none fails.
+    While a call waits, `is_asked` is set. All that wait fail once the test has ended."""
 
     def __init__(self) -> None:
         self.keys = Keys(time.monotonic)
         self.lock = threading.RLock()
         self.silence: float | None = None
+        self.is_asked, self.has_ended = threading.Event(), threading.Event()
 
     def reach(self) -> None:
         if self.silence is not None:
-            time.sleep(self.silence)
+            self.is_asked.set()
+            self.has_ended.wait(self.silence)
             raise StoreFault("it is away")
 
 
@@ -101,6 +104,7 @@ class FleetProcessCase(unittest.TestCase):
         self.switch = FakeSwitch("pause", "post")
         self.stack.callback(self.switch.kill)
         self.network = Network()
+        self.addCleanup(self.network.has_ended.set)
         self.person = SharedStore(self.network, "person", is_cuttable=False)
         self.out = io.StringIO()
         self.enterContext(mock.patch.object(agent_process, "lease_seconds", lambda _: LEASE))

@@ -78,7 +78,8 @@ class Member:
 
     def stop(self) -> None:
         """Stops it: the system still takes connections for it, and nobody reads them."""
-        self._signal(signal.SIGSTOP)
+        if self.process:
+            processes.pause(self.process.pid)
 
     def go_on(self) -> None:
         self._signal(signal.SIGCONT)

@@ -2,13 +2,13 @@
 import json
 import pathlib
 import tempfile
-import time
 import unittest
 from collections.abc import Callable
 from unittest import mock
 
 from bg_switch_tools.switch import access_log
 from bg_switch_tools.switch.access_log import Follower, LogEntry, LostLines, NoLogEntry, read_line, time_text, written
+from tests.costs import processor_seconds_of, steps_of
 from tests.synthetic_log import ANSWERED, BEGIN, REFUSALS, GrowingLog, Part, entries, refused
 
 LINE = (b'{"time":"2026-11-25T18:03:12.042Z","service":"active","revision":2,"request":17,"port":9201,"method":"GET",'
@@ -41,10 +41,13 @@ class Lines(unittest.TestCase):
         self.assertEqual((told, ANSWERED.is_without_endpoint), (["no_endpoint"], False))
 
     def test_it_keeps_up_with_20000_lines_a_second(self) -> None:
+        """To read a line costs no more than few times what its JSON costs, and a line costs no more beside others."""
         lines = [written(entry).rstrip(b"\n") for entry in entries([Part(1, LINES_A_SECOND // 2), Part(2, LINES_A_SECOND // 2, 0.01)])]
-        begun = time.process_time()
         self.assertEqual(len(access_log.read_lines(lines).entries), LINES_A_SECOND)
-        self.assertLess(time.process_time() - begun, 1)
+        of_json = processor_seconds_of(lambda: [json.loads(line) for line in lines])
+        self.assertLess(processor_seconds_of(lambda: access_log.read_lines(lines)), 4 * of_json)
+        few = steps_of(lambda: access_log.read_lines(lines[:1000]))
+        self.assertLess(steps_of(lambda: access_log.read_lines(lines[:2000])), 2.2 * few)
 
     def test_what_is_written_is_read(self) -> None:
         told = [ANSWERED, *(refused(reason) for reason, *_ in REFUSALS), ANSWERED._replace(target='"\\\n\u2028<'),

@@ -15,6 +15,7 @@ from bg_switch_tools.switch import access_log
 from bg_switch_tools.switch.access_log import LogEntry, written
 from bg_switch_tools.switch.arguments import count_of, port_of, share_of
 from bg_switch_tools.switch.durations import duration_of, milliseconds_of, positive_duration_of, value_of
+from support.pace import is_within
 from support.processes import Run
 from tests.fake_switch import FakeSwitch
 from tests.synthetic_log import ANSWERED, GrowingLog, Part, entries, refused
@@ -349,11 +350,11 @@ class Runs(unittest.TestCase):
         begun = time.monotonic()
         with mock.patch.object(access_log, "PIECE", 300), mock.patch.object(log_analysis, "CATCH_UP", 0.3):
             ended = self.analysis("--revision", "2", *FAST, "--errors-at-most", "1%")
-        longest = time.monotonic() - begun
+        seconds = time.monotonic() - begun
         is_over.set()
         thread.join()
         self.assertEqual((ended.status, "it grows faster than it is read" in ended.printed), (2, True), ended.printed)
-        self.assertLess(longest, 5)
+        self.assertTrue(is_within(seconds, 5), seconds)
 
     def test_a_rename_meanwhile(self) -> None:
         self.write_later(Part(2, 100))

@@ -12,14 +12,14 @@ from unittest import mock
 
 from bg_switch_tools import VERSION
 from bg_switch_tools.bgctl import exit_statuses
-from bg_switch_tools.bgctl.argument_parser import long_options, parser, place_of_command
+from bg_switch_tools.bgctl.argument_parser import in_order, long_options, parser, place_of_command
 from bg_switch_tools.bgctl.cli import main
 from bg_switch_tools.bgctl.commands import BGCTL_COMMANDS, FIRST_ONES, NAMES
 from bg_switch_tools.dashboard import cli as dashboard_cli
 from bg_switch_tools.operator import cli as operator_cli
 from support.processes import Run
 from tests.fake_port import free_port
-from tests.tool_runs import TOP, WithBook, run_in_process
+from tests.tool_runs import TOP, WithBook, plan_of, run_in_process
 
 
 def run(*words: str, lines: str = "", **variables: str) -> Run:
@@ -48,18 +48,46 @@ class Words(unittest.TestCase):
         self.assertEqual(run("--control", "1", "stauts").told, "bgctl: there is no command stauts; did you mean status?\n")
         self.assertEqual(run("xyzzy").told, "bgctl: there is no command xyzzy; bgctl --help lists them\n")
         self.assertEqual(run("verdict", "pre", "failed").told, "bgctl: verdict is a line of the switch: bgctl line verdict .. sends it\n")
+        self.assertEqual(run("rollback").told, "bgctl: there is no command rollback; did you mean undo?\n")
+        for words, commands in ((("abort", "--yes"), "line and shutdown have it"), (("status", "--read-only"), "dashboard has it"),
+                                (("--wait", "status"), "deploy and undo have it")):
+            told = run(*words, BG_CONTROL="1")
+            self.assertEqual((told.status, told.told.splitlines()[-1].endswith(f"; {commands}")), (2, True), told.told)
         wrong = run("deploy", "a", "1", "--watt")
         self.assertEqual((wrong.status, "--watt; did you mean --wait?" in wrong.told), (2, True))
         self.assertIn("the nearest is paused", run("wait", "phase=pausd", "--control", "1").told)
+        self.assertNotIn("nearest", run("wait", "phase=foo", "--control", "1").told)
         self.assertEqual(run("status", "--contr", "1").status, 2)
 
     def test_the_place_of_the_command(self) -> None:
         for line, place in (("status", 0), ("--control status watch", 2), ("--plan=status wait", 1), ("--version", None), ("", None)):
             self.assertEqual(place_of_command(line.split()), place, line)
 
+    def test_an_option_stands_before_or_after_its_command(self) -> None:
+        valued = parser().valued
+        for line, expected in (("--json status", "status --json"), ("--timeout 5 --control 7 wait settled", "--control 7 wait --timeout 5 settled"),
+                               ("--plan=p --last=3 history", "--plan=p history --last=3"), ("--yes shutdown", "shutdown --yes"),
+                               ("--to web-v1 undo --wait", "undo --to web-v1 --wait"), ("--version", "--version"),
+                               ("--log f --seconds 5 analysis", "analysis --log f --seconds 5"), ("--help", "--help")):
+            self.assertEqual(" ".join(in_order(line.split(), valued)[0]), expected)
+        for command in BGCTL_COMMANDS:  # each option of each example
+            words = command.example.split()[1:]
+            begin = next((place for place, word in enumerate(words) if word.startswith("--")), len(words))
+            turned, place = in_order([*words[begin:], *words[:begin]], valued)
+            self.assertEqual((turned[place or 0], vars(parser().parse_args(turned)) | {"before_control": None, "before_plan": None, "control": None,
+                                                                                     "plan": None}),
+                             (command.name, vars(parser().parse_args(words)) | {"before_control": None, "before_plan": None, "control": None,
+                                                                              "plan": None}))
+
+    def test_help_and_version_are_commands(self) -> None:
+        self.assertEqual(run("version"), run("--version"))
+        self.assertEqual(run("help"), run("--help"))
+        self.assertEqual(run("help", "deploy"), run("deploy", "--help"))
+        self.assertEqual(run("help", "deplo").status, 2)
+
     def test_the_statuses_stand_in_the_help_alone(self) -> None:
         self.assertIn(exit_statuses.listed(), run("--help").printed)
-        self.assertEqual([status for status, _ in exit_statuses.TABLE], [0, 1, 2, 3, 70, 130])
+        self.assertEqual([status for status, _ in exit_statuses.TABLE], [0, 1, 2, 3, 4, 5, 70, 130])
         for page in TOP.glob("docs/*.md"):
             self.assertNotIn("ended by ctrl-C", page.read_text(encoding="utf-8"), page.name)
 
@@ -109,6 +137,9 @@ class Ports(Operated):
     def test_nobody_answers(self) -> None:
         told = run("promote", "--control", str(free_port()), "--request-timeout", "0.2")
         self.assertEqual((told.status, told.printed, "can't be reached" in told.told), (2, "", True))
+        told = run("status", "--json", "--control", str(free_port()), "--request-timeout", "0.2")
+        shown = json.loads(told.printed)
+        self.assertEqual((told.status, shown["phase"], f"bgctl: {shown['reason']}\n"), (2, None, told.told))
 
 
 class Lines(Operated):
@@ -130,6 +161,18 @@ class Lines(Operated):
         self.assertEqual(self.bgctl("promote", "--full").status, 0)
         self.assertEqual(self.switch.sent_lines(), ["promote", "promote", "promote full"])
 
+    def test_a_promotion_by_name(self) -> None:
+        """Somebody else has deployed another revision meanwhile: that one is not promoted unseen."""
+        self.by_hand("deploy web-v2 3 4", "available 2 2", "deploy web-v3 5 6", "available 3 2")
+        text = "not sent: revision 3 web-v3 is the newest one, and not web-v2"
+        self.assertEqual(self.bgctl("promote", "web-v2"), ("", f"bgctl: {text}\n", 1))
+        told = json.loads(self.bgctl("promote", "web-v2", "--full", "--json").printed)
+        self.assertEqual((told["line"], told["carried_out"], told["meaning"]), ("promote full", False, text))
+        self.assertEqual(self.switch.sent_lines(), [])
+        self.assertEqual(self.bgctl("promote", "web-v3").status, 0)
+        self.assertEqual(self.switch.sent_lines(), ["promote"])
+        self.assertEqual(self.bgctl("promote", "web-v3")[::2], ("refused NotPaused\n", 1))
+
     def test_abort_and_retry(self) -> None:
         self.by_hand("deploy web-v2 3 4", "available 2 2")
         self.assertEqual((self.bgctl("abort").printed, self.bgctl("status").status), ("ok 0\n", 1))
@@ -141,6 +184,7 @@ class Lines(Operated):
         self.assertEqual(self.bgctl("line", "tick", "5"), ("ok 0\n", "", 0))
         self.assertEqual(self.bgctl("line", lines="tick 6\npromote\ntick 7\n")[::2], ("ok 0\nrefused NotPaused\n", 1))
         self.assertEqual(json.loads(self.bgctl("line", "--json", "jump").printed)["reply"], "fault UnknownWord")
+        self.assertEqual(self.bgctl("line")[1:], ("bgctl: there is no line to send: bgctl line WORD.., or lines on standard input\n", 2))
         self.assertEqual(self.bgctl("line", "tick", "999999")[::2], ("", 1))
         self.assertEqual(self.bgctl("line", "--yes", "tick", "999999").status, 0)
 
@@ -171,6 +215,8 @@ class OtherTools(Operated):
             self.assertEqual(run("check", BG_PLAN=path).status, 0)
             pathlib.Path(path).write_text('{"control": 0}', encoding="ascii")
             self.assertEqual(run("check", path), ("revisions: is missing\ncontrol: 0 is below 1\n", "", 1))
+            for words in (("check", path + "x"), ("controller", path + "x"), ("check", "--plan", path + "x")):
+                self.assertEqual(run(*words), ("", f"bgctl: the plan {path}x can't be read: No such file or directory\n", 2))
             for words in (("controller", path, "--json"), ("controller", "--json", "--plan", path)):
                 self.assertEqual(self.handed_on("controller.cli.run", *words), [path, True])
 
@@ -185,11 +231,18 @@ class OtherTools(Operated):
     def test_dashboard(self) -> None:
         self.assertEqual(self.handed_on("dashboard.cli.main", "dashboard", "--listen", "8090", "--read-only", BG_CONTROL="6"),
                          [["6", "--listen", "8090", "--log", "", "--read-only"]])
+        with tempfile.TemporaryDirectory() as folder:
+            plan = plan_of(folder, 7)
+            plan.write([("web-v1", [1])])
+            self.assertEqual(self.handed_on("dashboard.cli.main", "dashboard", "--listen", "8090", BG_PLAN=plan.path),
+                             [["7", "--listen", "8090", "--log", "", "--plan", plan.path]])
 
     def test_prompt(self) -> None:
         with mock.patch("builtins.input", side_effect=["tick 5", "exit"]):
             told = self.bgctl("prompt")
         self.assertEqual((told.status, self.switch.sent_lines(), "tick 5" in self.switch.lines), (0, [], True))
+        told = run("prompt", "--control", str(free_port()), "--request-timeout", "0.2")
+        self.assertEqual((told.status, told.printed, "can't be reached" in told.told), (2, "", True))
 
     def test_they_are_one_file_as_well(self) -> None:
         with tempfile.TemporaryDirectory() as folder:

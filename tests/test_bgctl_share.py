@@ -7,6 +7,8 @@ import tempfile
 import unittest
 
 from bg_switch_tools.bgctl.commands import BGCTL_COMMANDS, NAMES
+from bgctl_share import TOOLS
+from tests.fake_switch import FakeSwitch
 from tests.tool_runs import TOP
 
 PYTHON = "/usr/bin/python3"
@@ -41,13 +43,21 @@ class Share(unittest.TestCase):
         if shutil.which(tool) is None:
             self.skipTest(f"not installed: {tool}")
 
-    def completed(self, shell: str, line: str) -> str:
+    def completed(self, shell: str, line: str, **variables: str) -> str:
         """What a shell prints, which has the completions of this folder and bgctl on its path."""
-        return output([shell, "-c", line], PATH=f"{TOP / 'bin'}:{os.environ['PATH']}", SHARE=str(self.folder))
+        return output([shell, "-c", line], PATH=f"{TOP / 'bin'}:{os.environ['PATH']}", SHARE=str(self.folder), **variables)
+
+    def completed_by_bash(self, line: str, **variables: str) -> list[str]:
+        """The words that bash completes at the end of a line."""
+        words = line.split(" ")
+        told = self.completed("bash", f""". "$SHARE/bash-completion/completions/bgctl"
+            COMP_LINE='{line}'; COMP_POINT={len(line)}; COMP_TYPE=9; COMP_WORDS=({line}); COMP_CWORD={len(words) - 1}
+            IFS=$'\\013' _python_argcomplete bgctl; printf '%s\\n' "${{COMPREPLY[@]}}" """, **variables)
+        return [word.rstrip() for word in told.splitlines() if word]
 
     def test_each_command_has_a_page_with_its_example(self) -> None:
         pages = {path.stem: path.read_text(encoding="utf-8") for path in (self.folder / "man" / "man1").iterdir()}
-        self.assertEqual(set(pages), {"bgctl", *(f"bgctl-{name}" for name in NAMES)})
+        self.assertEqual(set(pages), {"bgctl", *(f"bgctl-{name}" for name in NAMES), *(f"bg-{tool}" for tool in TOOLS)})
         for command in BGCTL_COMMANDS:
             with self.subTest(command.name):
                 text = pages[f"bgctl-{command.name}"]
@@ -62,11 +72,30 @@ class Share(unittest.TestCase):
         self.assertEqual(told.stderr, "")
         self.assertIn("no endpoint of the active revision is available", " ".join(told.stdout.split()))
 
+    def test_each_tool_has_a_page_with_the_names_of_the_package(self) -> None:
+        for tool, meaning in TOOLS.items():
+            with self.subTest(tool):
+                text = (self.folder / "man" / "man1" / f"bg-{tool}.1").read_text(encoding="utf-8").replace("\\-", "-")
+                self.assertIn(f".SH NAME\nbg-{tool} \\- {meaning}\n".replace("\\-", "-"), text)
+                self.assertIn(".SH SYNOPSIS\n", text)
+                self.assertNotRegex(text, r"(?<!/)\bbin/|(?<!/)\bdocs/")
+
     def test_bash(self) -> None:
-        told = self.completed("bash", """. "$SHARE/bash-completion/completions/bgctl"
-            COMP_LINE='bgctl --plan p de'; COMP_POINT=17; COMP_TYPE=9; COMP_WORDS=(bgctl --plan p de); COMP_CWORD=3
-            IFS=$'\\013' _python_argcomplete bgctl; printf '%s\\n' "${COMPREPLY[@]}" """)
-        self.assertEqual(told.strip(), "deploy")
+        self.assertEqual(self.completed_by_bash("bgctl --plan p de"), ["deploy"])
+
+    def test_revisions_conditions_and_lines(self) -> None:
+        switch = FakeSwitch("pause")
+        self.addCleanup(switch.kill)
+        for line in ("open web-v1 1 2", "deploy web-v2 3 4"):
+            switch.book.answer(line)
+        port = str(switch.port)
+        phases = ["preAnalysis", "paused", "postAnalysis"]  # bash completes what stands behind the sign
+        for line, expected in (("bgctl undo --to w", ["web-v1", "web-v2"]), ("bgctl promote web-v2", ["web-v2"]), ("bgctl line dep", ["deploy"]),
+                               ("bgctl line deploy web-v1", ["web-v1"]), ("bgctl wait phase=p", phases),
+                               ("bgctl wait newest=web-v2", ["web-v2"])):
+            self.assertEqual(sorted(self.completed_by_bash(line, BG_CONTROL=port)), sorted(expected), line)
+        switch.kill()
+        self.assertEqual(self.completed_by_bash("bgctl promote web", BG_CONTROL=port), [], "no answer is no fault")
 
     def test_fish(self) -> None:
         self.needs("fish")

@@ -11,6 +11,7 @@ import tempfile
 import time
 import unittest
 
+from support.pace import is_within
 from tests.fake_switch import FakeSwitch
 from tests.tool_runs import TOOLS, TOP, WAIT, ControllerRun, Endpoint, comes, controlling, operator, plan_of, with_fast_clock
 
@@ -111,7 +112,7 @@ class Probing(Controlled):
         self.endpoints["web-v1"][1].trickle()
         self.assertTrue(comes(lambda: "available 1 1" in self.switch.lines, 30), self.switch.sent_lines())
         status, seconds = run.signal(signal.SIGTERM)
-        self.assertEqual((status, seconds < 2), (0, True))
+        self.assertEqual((status, is_within(seconds, 2) or seconds), (0, True))
 
 
 class Ends(Controlled):
@@ -129,7 +130,7 @@ class Ends(Controlled):
         with open(pid, encoding="ascii") as file:
             process = file.read().strip()
         status, seconds = run.signal(number)
-        self.assertEqual((status, seconds < 2), (0, True))
+        self.assertEqual((status, is_within(seconds, 2) or seconds), (0, True))
         self.assertTrue(comes(lambda: not os.path.exists(f"/proc/{process}")))
 
     def test_sigterm(self) -> None:

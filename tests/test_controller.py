@@ -15,9 +15,10 @@ from bg_switch_tools.controller import book, cli as controller_cli, controller, 
 from bg_switch_tools.controller.cli import Runner
 from bg_switch_tools.controller.log import Log
 from bg_switch_tools.controller.plan_file import PlanFile
-from bg_switch_tools.controller.state_file import StateFile
-from tests.fake_switch import FakeSwitch
-from tests.tool_runs import Endpoint, comes, plan_of
+from bg_switch_tools.controller.state_file import StateFile, StateLock
+from support.pace import is_within
+from tests.fake_switch import FakeBook, FakeSwitch
+from tests.tool_runs import WAIT, Endpoint, comes, plan_of
 
 NAMES = ("web-v1", "web-v2", "web-v3")
 
@@ -51,7 +52,7 @@ class ControllerCase(unittest.TestCase):
         file = PlanFile(self.plan.path)
         plan = file.read()
         assert plan is not None
-        runner = Runner(file, plan, Log(self.out, as_json))
+        runner = Runner(file, plan, Log(self.out, as_json), StateLock(self.plan.path))
         runner.thread.start()
         self.stack.callback(runner.stop)
         self.runner = runner
@@ -138,16 +139,17 @@ class Openings(ControllerCase):
         self.assertEqual(self.switch.sent_lines(), [f"open {self.words('web-v2')}", "available 1 2"])
 
     def test_the_plan_has_other_ports_by_then(self) -> None:
-        """A new book takes the ports that the plan has now."""
+        """A new book takes the ports that were live, and not those that the plan has now."""
         self.v3_is_paused()
         self.switch.kill()
+        live = self.words("web-v2")
         self.endpoints["web-v2"] = self.endpoints["web-v1"]
         self.write(*NAMES[1:])
-        self.await_log("the plan has changed: its control port is")
+        self.await_log("the plan has changed: its control port is", "web-v2 is held back")
         self.switch.lines.clear()
         self.switch.start()
         self.await_book("paused", 2)
-        self.assertEqual(self.switch.sent_lines(), [f"open {self.words('web-v2')}", "available 1 2", f"deploy {self.words('web-v3')}",
+        self.assertEqual(self.switch.sent_lines(), [f"open {live}", "available 1 2", f"deploy {self.words('web-v3')}",
                                                 "available 2 2"])
 
     def test_a_second_switch_is_opened_with_the_stable_revision(self) -> None:
@@ -235,6 +237,21 @@ class Openings(ControllerCase):
         self.assertTrue(comes(lambda: not runner.thread.is_alive()))
         self.assertIn("the switch can't be opened with web-v1: open web-v1 1 => refused BadPorts: a revision has one port for each",
                       runner.unfit)
+        self.assertIn("bgctl check PLAN --rollout FILE compares the plan with the Rollout of the switch, and says what to do", runner.unfit)
+
+    def test_a_switch_that_is_started_again_with_other_replicas(self) -> None:
+        """Clients hang: who operates it is told why, and what to do."""
+        self.write("web-v1")
+        self.start()
+        self.await_book("steady", 1)
+        with mock.patch.object(FakeBook, "_open", lambda *_: ["refused BadPorts"]), mock.patch("sys.stderr", io.StringIO()) as told:
+            self.switch.kill()
+            self.switch.start()
+            text = f"no book is open, and clients wait: the switch can't be opened with web-v1: open {self.words('web-v1')} => refused BadPorts: "
+            self.await_log(text)
+            self.some_rounds()
+        self.assertEqual((self.log().count(text), told.getvalue().count(f"controller: {text}")), (1, 1))
+        self.assertIn("bgctl check PLAN --rollout FILE compares", told.getvalue())
 
     def test_a_number_of_ports_that_does_not_fit_an_open_book(self) -> None:
         self.by_hand("open web-v1 1 2")
@@ -462,13 +479,19 @@ class Ends(ControllerCase):
         self.write("web-v1")
         runner = self.start()
         self.await_book("steady", 1)
-        holds = threading.Event()
+        asked, holds = threading.Event(), threading.Event()
         self.stack.callback(holds.set)
-        self.switch.control.answer = lambda _: ["ok 0"] if holds.wait(9) else ["ok 0"]
-        time.sleep(0.3)
+
+        def hang(_: str) -> list[str]:
+            asked.set()
+            holds.wait(WAIT)
+            return ["ok 0"]
+        self.switch.control.answer = hang
+        self.assertTrue(asked.wait(WAIT))
         begun = time.monotonic()
         runner.stop()
-        self.assertLess(time.monotonic() - begun, 1.5)
+        seconds = time.monotonic() - begun
+        self.assertTrue(is_within(seconds, 1.5), seconds)
         self.assertFalse(runner.thread.is_alive())
 
 

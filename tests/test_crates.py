@@ -2,8 +2,8 @@
 import re
 import unittest
 
+from crate_list import crates_in
 from crate_map import DRAWING, PAGE, drawing, layers_of, map_of, nearest
-from gate_cost import crates_in
 from tests.tool_runs import TOP
 
 CRATES = crates_in((TOP / "crates.txt").read_text(encoding="utf-8"))

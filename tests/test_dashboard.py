@@ -13,7 +13,10 @@ import zipapp
 from collections.abc import Sequence
 
 from bg_switch_tools import VERSION
+from bg_switch_tools.controller.plan import PlannedRevision
+from bg_switch_tools.controller.state_file import HeldBack, State, StateFile, StateLock
 from bg_switch_tools.switch.access_log import LogEntry
+from support.pace import is_within
 from tests.dashboard_runs import HAS_LIBRARIES, MISSING, PYTHON, Answer, WithDashboard
 from tests.fake_port import free_port
 from tests.fake_switch import FakeSwitch
@@ -136,7 +139,8 @@ class Pages(Dashboard):
             next(told)
             begun = time.monotonic()
             status, errors = self.end()
-            self.assertEqual((status, errors, time.monotonic() - begun < 5), (0, "", True))
+            seconds = time.monotonic() - begun
+            self.assertEqual((status, errors, is_within(seconds, 5) or seconds), (0, "", True))
 
     def test_malformed_requests_are_not_told(self) -> None:
         for text in (b"GET /\x01 HTTP/1.1\r\nHost: localhost\r\n\r\n", b"\x16\x03\x01\r\n\r\n", b"GET / HTTP/1.1\r\nA\x00: b\r\n\r\n"):
@@ -175,6 +179,75 @@ class Streams(unittest.TestCase):
                   "faults 3, said 2, traces 2: the dashboard could not look at the switch: KeyError: 'planted'; some requests may not "
                   "be counted\n")
         self.assertEqual((run.stdout, run.returncode), (expected, 0), run.stderr)
+
+
+class Controllers(Dashboard):
+    """A dashboard that is given the plan of the controller too, whose state a test writes."""
+
+    def start(self, program: Sequence[str]) -> None:
+        self.plan = str(self.folder / "plan.json")
+        self.state_file = StateFile(self.plan)
+        self.write_plan(3, 4)
+        self.lock = StateLock(self.plan)
+        self.addCleanup(self.lock.release)
+        self.options = ("--plan", self.plan)
+        super().start(program)
+
+    def write_plan(self, *ports: int) -> None:
+        told = {"control": self.switch.port, "revisions": [{"name": "web-v2", "ports": list(ports)}]}
+        pathlib.Path(self.plan).write_text(json.dumps(told), encoding="ascii")
+
+    def controller(self) -> dict[str, object]:
+        told = self.state()["controller"]
+        assert isinstance(told, dict)
+        return told
+
+    def held_by_metric(self) -> bool:
+        return "bg_controller_revisions_held_back 1.0" in self.get("/metrics").body
+
+    def test_a_controller_that_is_dead_or_hangs(self) -> None:
+        self.assertIn("bg_controller_up 1.0", self.get("/metrics").body)
+        self.assertEqual((self.controller()["life"], self.controller()["faults"]), ("up", []))
+        os.utime(self.lock.path, (time.time() - 100, time.time() - 100))
+        self.assertTrue(comes(lambda: "bg_controller_up 0.0" in self.get("/metrics").body))
+        self.assertEqual((self.controller()["life"], str(self.controller()["faults"]).count("hangs: its last round was 10")), ("hangs", 1))
+        self.lock.release()
+        text = f"No controller runs the plan {self.plan}."
+        self.assertTrue(comes(lambda: self.controller()["faults"] == [text]))
+        self.assertEqual((self.controller()["life"], "bg_controller_up 0.0" in self.get("/metrics").body), ("down", True))
+        self.lock = StateLock(self.plan)
+        self.addCleanup(self.lock.release)
+        self.assertTrue(comes(lambda: "bg_controller_up 1.0" in self.get("/metrics").body))
+        told = self.state()["happened"]
+        assert isinstance(told, list)
+        self.assertEqual([each["text"] for each in told if each["kind"] in ("controller", "answer")][-2:],
+                         [text, "the controller runs, and holds nothing back"])
+
+    def test_whether_a_controller_runs_is_not_known(self) -> None:
+        os.remove(self.lock.path)
+        os.symlink(self.lock.path, self.lock.path)
+        self.assertTrue(comes(lambda: self.controller()["life"] == "unknown"))
+        self.assertIn("Whether a controller runs is not known", str(self.controller()["faults"]))
+        self.assertNotIn("bg_controller_up", self.get("/metrics").body)
+
+    def test_a_revision_that_is_held_back(self) -> None:
+        self.assertEqual((self.controller()["plan"], self.controller()["held_back"]), (self.plan, []))
+        self.assertIn("bg_controller_revisions_held_back 0.0", self.get("/metrics").body)
+        self.write_plan(5, 6)
+        self.state_file.write(State(held=(HeldBack(PlannedRevision("web-v2", (5, 6)), "the switch refuses it"),)))
+        self.assertTrue(comes(self.held_by_metric))
+        told, text = self.state(), "The controller holds web-v2 back: the switch refuses it."
+        assert isinstance(told["happened"], list)
+        self.assertEqual(self.controller()["held_back"], [{"name": "web-v2", "ports": [5, 6], "reason": "the switch refuses it"}])
+        self.assertIn(text, str(self.controller()["faults"]))
+        self.assertEqual([each["text"] for each in told["happened"] if each["kind"] == "controller"].count(text), 1)
+        self.write_plan(3, 4)
+        self.assertTrue(comes(lambda: not self.held_by_metric()))
+        self.assertIn("the controller runs, and holds nothing back", self.get("/api/state").body)
+
+    def test_a_plan_is_that_of_a_switch(self) -> None:
+        told = subprocess.run([str(TOOLS / "dashboard"), "--fleet", "x", "--listen", "1", "--plan", "y"], capture_output=True, text=True)
+        self.assertEqual((told.returncode, "name its control port too" in told.stderr), (2, True))
 
 
 class Metrics(Dashboard):

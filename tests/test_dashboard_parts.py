@@ -1,4 +1,5 @@
 """What the dashboard knows, counts and refuses, without a server."""
+import json
 import time
 import unittest
 from collections.abc import Sequence
@@ -12,9 +13,10 @@ from bg_switch_tools.dashboard.page_commands import NewestHasChanged, PageComman
 from bg_switch_tools.dashboard.steps import NAMES, SeenPhases, possible_commands, steps
 from bg_switch_tools.dashboard.totals import DurationTally, Labels, Totals, reasons
 from bg_switch_tools.dashboard.traffic import Durations, Traffic
-from bg_switch_tools.switch.access_log import Batch
+from bg_switch_tools.switch.access_log import Batch, LogEntry, written
 from bg_switch_tools.switch.report_text import in_one_line
 from bg_switch_tools.switch.reports import PHASES, RUNNING, Report, read_report
+from tests.costs import processor_seconds_of, steps_of
 from tests.fake_switch import FakeBook, FakeSwitch
 from tests.synthetic_log import ANSWERED, BEGIN, Part, entries, refused
 
@@ -250,11 +252,16 @@ class Boards(unittest.TestCase):
         self.assertEqual(self.texts("log")[1:], ["the log /log can't be read: gone", "the log /log is read"])
 
     def test_it_keeps_up_with_20000_lines_a_second(self) -> None:
-        told = Batch(list(entries([Part(1, 10000), Part(2, 10000, 0.01)], time.time() - 1, 1.0)), 0, 0)
-        begun = time.process_time()
-        self.board.take_batch(told, "")
-        self.board.update()
-        self.assertLess(time.process_time() - begun, 1)
+        """To count lines costs no more than few times what their JSON costs, and a line costs no more beside others."""
+        told = list(entries([Part(1, 10000), Part(2, 10000, 0.01)], time.time() - 1, 1.0))
+
+        def count(lines: Sequence[LogEntry]) -> None:
+            self.board.take_batch(Batch(list(lines), 0, 0), "")
+            self.board.update()
+        texts = [written(entry) for entry in told]
+        of_json = processor_seconds_of(lambda: [json.loads(text) for text in texts])
+        self.assertLess(processor_seconds_of(lambda: count(told)), 3 * of_json)
+        self.assertLess(steps_of(lambda: count(told[5000:9000])), 2.2 * steps_of(lambda: count(told[:2000])))
 
     def test_what_stood_in_the_log_is_not_counted(self) -> None:
         self.board.take_batch(Batch([ANSWERED], 0, 0), "", is_counted=False)

@@ -16,7 +16,7 @@ from bg_switch_tools.fleet.person_members import MOST_MEMBERS
 from bg_switch_tools.fleet.record import ABORT, ATTEMPT, LEADER, MACHINES, ORDER, PLAN, PROMOTE, MachineReport, Record, View
 from bg_switch_tools.fleet.store import StoreFault
 from support.processes import Run, run_to_end
-from tests.fleet_people import HOSTS, V1, V2, V3, WithFleet, plan_text
+from tests.fleet_people import HOSTS, V1, V2, WithFleet, plan_text
 from tests.real_etcd import HOST, Cluster, WithCluster, asked, in_base64, port_that_refuses
 from tests.store_checks import FLEET, PREFIX, store_at
 from tests.test_fleet_status import RUNNING

@@ -5,7 +5,8 @@ import unittest
 import urllib.request
 from collections.abc import Callable
 
-from bg_switch_tools.fleet.store import Compare, Key, Store
+from bg_switch_tools.fleet.store import Compare, Key, Store, StoreFault
+from support.pace import is_within
 from tests.real_etcd import MISSING, PROGRAM, Cluster, WithCluster, asked, in_base64, port_that_refuses, put
 from tests.store_checks import PREFIX, TIMEOUT, fault_of, seconds_of, store_at
 from tests.tool_runs import comes
@@ -183,6 +184,11 @@ class Waits(OnOne):
         timer.start()
         self.addCleanup(timer.join)
 
+    def assert_woken(self, after: int) -> None:
+        """A wait is woken soon."""
+        seconds = seconds_of(lambda: self.store.wait(after, LONG))
+        self.assertTrue(is_within(seconds, SOON), seconds)
+
     def test_a_change_wakes(self) -> None:
         self.store.write([], {"a": ""})
         for name, change in (("put", lambda: put(self.endpoint, PREFIX + "b")), ("again", lambda: put(self.endpoint, PREFIX + "b")),
@@ -192,13 +198,13 @@ class Waits(OnOne):
                 self.after(0.4, change)
                 seconds = seconds_of(lambda after=after: self.store.wait(after, LONG))  # type: ignore[misc]
                 self.assertGreater(seconds, 0.3)
-                self.assertLess(seconds, 0.4 + SOON)
+                self.assertTrue(is_within(seconds, 0.4 + SOON), seconds)
 
     def test_a_change_between_the_read_and_the_wait_wakes(self) -> None:
         after = self.revision()
         put(self.endpoint, PREFIX + "a")
         put(self.endpoint, "/other")
-        self.assertLess(seconds_of(lambda: self.store.wait(after, LONG)), SOON)
+        self.assert_woken(after)
 
     def test_nothing_else_wakes(self) -> None:
         self.store.write([], {"a": ""})
@@ -207,17 +213,17 @@ class Waits(OnOne):
         self.after(0.3, lambda: put(self.endpoint, "/bg-switch/web0"))
         seconds = seconds_of(lambda: self.store.wait(after, 1.2))
         self.assertGreaterEqual(seconds, 1.2)
-        self.assertLess(seconds, 1.2 + SOON)
+        self.assertTrue(is_within(seconds, 1.2 + SOON), seconds)
 
     def test_what_can_have_been_missed_wakes(self) -> None:
         """Changes that etcd has compacted, and a revision that etcd has not reached: it was restored."""
         after = self.revision()
         put(self.endpoint, PREFIX + "a")
         newest = self.revision()
-        self.assertLess(seconds_of(lambda: self.store.wait(newest + 5, LONG)), SOON)
+        self.assert_woken(newest + 5)
         put(self.endpoint, PREFIX + "a")
         asked(self.endpoint, "/v3/kv/compaction", {"revision": str(newest + 1)})
-        self.assertLess(seconds_of(lambda: self.store.wait(after, LONG)), SOON)
+        self.assert_woken(after)
 
     def test_no_watch_is_left_behind(self) -> None:
         after = self.revision()
@@ -310,6 +316,16 @@ class Away(unittest.TestCase):
         self.assertTrue(comes(lambda: self.store.write([], {"a": "2"}) is not None))
 
 
+def write_in_time(store: Store, value: str) -> bool:
+    """Whether a write is carried out at a time that comes soon: members that have lost their leader elect another one first."""
+    def is_written() -> bool:
+        try:
+            return store.write([], {"a": value}) is not None
+        except StoreFault:
+            return False
+    return comes(is_written)
+
+
 class OnThree(WithCluster):
     """A store on three members. Each test leaves all of them running."""
     COUNT = 3
@@ -331,13 +347,14 @@ class OnThree(WithCluster):
         store = store_at(*self.cluster.endpoints, timeout=6.0)
         store.read()
         self.cluster.members[0].stop()
-        self.assertTrue(1.5 < seconds_of(store.read) < 6, "the silent one has a share of the time")
+        self.assertGreater(seconds_of(store.read), 1.5, "the silent one has a share of the time")
         self.assertTrue(comes(lambda: seconds_of(store.read) < 1.0))
         self.assertIsNotNone(store.write([], {"a": "2"}))
         after = store.read().revision
-        timer = threading.Timer(0.3, lambda: store_at(*self.cluster.endpoints[1:]).write([], {"a": "3"}))
+        timer = threading.Timer(0.3, lambda: write_in_time(store_at(*self.cluster.endpoints[1:]), "3"))
         timer.start()
-        self.assertLess(seconds_of(lambda: store.wait(after, LONG)), 0.3 + SOON)
+        seconds = seconds_of(lambda: store.wait(after, LONG))
+        self.assertTrue(is_within(seconds, 0.3 + SOON), seconds)
         timer.join()
 
     def test_a_write_to_a_silent_endpoint_is_not_sent_to_another(self) -> None:
@@ -348,7 +365,7 @@ class OnThree(WithCluster):
         self.assertEqual(told, f"etcd gives no answer: {self.cluster.endpoints[0]}: it gives no answer in time; "
                          "what was asked may have been done")
         self.assertEqual(store_at(*self.cluster.endpoints[1:]).read().revision, before)
-        self.assertTrue(comes(lambda: store.write([], {"a": "5"}) is not None))
+        self.assertTrue(write_in_time(store, "5"))
 
     def test_without_a_quorum(self) -> None:
         store = store_at(*self.cluster.endpoints, timeout=3.0)
@@ -356,10 +373,12 @@ class OnThree(WithCluster):
         for member in self.cluster.members[1:]:
             member.kill()
         for call in (store.read, lambda: store.write([], {"a": "6"})):
-            self.assertLess(seconds_of(lambda call=call: fault_of(call)), 3.0 + SOON)  # type: ignore[misc]
+            seconds = seconds_of(lambda call=call: fault_of(call))  # type: ignore[misc]
+            self.assertTrue(is_within(seconds, 3.0 + SOON), seconds)
         alone = store_at(self.cluster.endpoints[0], timeout=20.0)
         self.assertTrue(comes(lambda: "etcdserver: no leader" in fault_of(alone.read)))
-        self.assertLess(seconds_of(lambda: fault_of(alone.read)), 5.0, "it says so at once")
+        seconds = seconds_of(lambda: fault_of(alone.read))
+        self.assertTrue(is_within(seconds, 5.0), f"it says so at once, and not after {seconds} seconds")
         self.assertIn("no leader", fault_of(lambda: alone.wait(1, 0.2)))
         for number in (1, 2):
             self.cluster.start_member(number)
@@ -372,9 +391,10 @@ class OnThree(WithCluster):
         store = store_at(*self.cluster.endpoints)
         after = store.read().revision
         self.cluster.members[0].kill()
-        timer = threading.Timer(0.5, lambda: store_at(*self.cluster.endpoints[1:], timeout=20.0).write([], {"a": "8"}))
+        timer = threading.Timer(0.5, lambda: write_in_time(store_at(*self.cluster.endpoints[1:], timeout=20.0), "8"))
         timer.start()
-        self.assertLess(seconds_of(lambda: store.wait(after, LONG)), 20.0)
+        seconds = seconds_of(lambda: store.wait(after, LONG))
+        self.assertTrue(is_within(seconds, 20.0), seconds)
         timer.join()
         self.assertGreater(store.read().revision, after)
 
@@ -384,7 +404,8 @@ class OnThree(WithCluster):
         timer = threading.Timer(0.3, self.cluster.members[0].stop)
         timer.start()
         seconds = seconds_of(lambda: store.wait(after, 1.5))
-        self.assertTrue(1.5 <= seconds < 1.5 + SOON, seconds)
+        self.assertGreaterEqual(seconds, 1.5)
+        self.assertTrue(is_within(seconds, 1.5 + SOON), seconds)
         timer.join()
 
 

@@ -10,6 +10,7 @@ from bg_switch_tools.fleet.etcd import EtcdStore
 from bg_switch_tools.fleet.store import Compare
 from bg_switch_tools.fleet.store_endpoints import StoreEndpoint
 from bg_switch_tools.fleet.tls_files import TlsFiles
+from support.pace import is_within
 from tests.real_etcd import MISSING, NO_OPENSSL, OPENSSL, PROGRAM, Certificates, Cluster, WithCluster, asked, in_base64
 from tests.store_checks import PREFIX, fault_of, seconds_of, store_at
 from tests.tool_runs import comes
@@ -126,7 +127,8 @@ class WithTls(unittest.TestCase):
         lease = store.grant(60)
         revision = store.write([Compare("a", "created", 0)], {"a": "x" * 1_000_000}, (), lease) or 0
         self.assertEqual(store.read().keys["a"].changed, revision)
-        self.assertLess(seconds_of(lambda: store.wait(revision - 1, LONG)), SOON)
+        seconds = seconds_of(lambda: store.wait(revision - 1, LONG))
+        self.assertTrue(is_within(seconds, SOON), seconds)
         self.assertGreaterEqual(seconds_of(lambda: store.wait(revision, 0.5)), 0.5)
         self.assertGreater(store.refresh(lease), 0)
         store.revoke(lease)
@@ -201,7 +203,8 @@ class WithTlsAndUsers(unittest.TestCase):
         store = self.store("unnamed", "agent")
         revision = store.write([Compare("a", "created", 0)], {"a": "1"}) or 0
         self.assertEqual(store.read().keys["a"].changed, revision)
-        self.assertLess(seconds_of(lambda: store.wait(revision - 1, LONG)), SOON)
+        seconds = seconds_of(lambda: store.wait(revision - 1, LONG))
+        self.assertTrue(is_within(seconds, SOON), seconds)
         self.assertIn("etcd denies this to the user agent", fault_of(self.store("unnamed", "agent", "other").read))
 
     def test_a_certificate_is_no_user(self) -> None:

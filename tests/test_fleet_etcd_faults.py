@@ -16,6 +16,7 @@ from bg_switch_tools.fleet.timed_post import LARGEST
 from support.clients import received, reset, send_in_pieces
 from support.endpoints import full_backlog
 from support.messages import response
+from support.pace import is_within
 from tests.fake_etcd import (CHUNKED, CREATED, RANGE, TRANSACTION, WATCH, Answer, FakeEtcd, chunk, header, key, keys, of_json, refused,
                              sending)
 from tests.real_etcd import port_that_refuses
@@ -23,8 +24,8 @@ from tests.store_checks import fault_of, seconds_of, store_at
 from tests.tool_runs import comes
 
 LIMIT = 1.2  # seconds of a call
-ENDLESS = 10.0  # seconds for which a server sends what has no end
-LATER = 1.5  # seconds by which a call may end later on a busy machine
+ENDLESS = 60.0  # seconds for which a server sends what has no end
+LATER = 1.5  # seconds by which a call may end later
 GOOD = keys(key("/bg-switch/web/a", "1"))
 
 
@@ -78,7 +79,7 @@ NUMBERS = "its answer has no number "
 # By its name: an answer to a read that is none, and what is said of it.
 WRONG: dict[str, tuple[Answer, str]] = {
     "no answer": (sending(), "it closes the connection without an answer"),
-    "a reset": (reset, "Connection reset by peer"),
+    "a reset": (reset, "it closes the connection without an answer"),
     "bytes that are not HTTP": (sending(bytes(3000)), "its answer is not HTTP"),
     "a body that is cut": (sending(half(GOOD)), "its answer is cut"),
     "a body that is cut, where the JSON is whole": (sending(GOOD.replace(b"Length: ", b"Length: 1")), "its answer is cut"),
@@ -136,7 +137,8 @@ class WithServers(unittest.TestCase):
 
     def in_time(self, call: Callable[[], object], limit: float = LIMIT) -> None:
         """The call ends within its time limit."""
-        self.assertLess(seconds_of(call), limit + LATER)
+        seconds = seconds_of(call)
+        self.assertTrue(is_within(seconds, limit + LATER), seconds)
 
 
 class Good(WithServers):
@@ -299,13 +301,18 @@ class Wrong(WithServers):
 
 
 class Waits(WithServers):
+    def assert_after(self, taken: float, seconds: float) -> None:
+        """A wait ends after its seconds, and soon then."""
+        self.assertGreaterEqual(taken, seconds)
+        self.assertTrue(is_within(taken, seconds + LATER), taken)
+
     def wait(self, store: EtcdStore, seconds: float) -> float:
         return seconds_of(lambda: store.wait(7, seconds))
 
     def fault_after(self, store: EtcdStore, seconds: float, told: str) -> None:
         """A wait pauses for its seconds before it raises its fault, so that nobody spins."""
         taken = seconds_of(lambda: self.assertIn(told, fault_of(lambda: store.wait(7, seconds))))
-        self.assertTrue(seconds <= taken < seconds + LATER, taken)
+        self.assert_after(taken, seconds)
 
     def test_a_watch_that_ends_at_once(self) -> None:
         for name, answer in (("without a result", sending(CHUNKED + chunk(b""))), ("after its creation", sending(CHUNKED + chunk(CREATED))),
@@ -330,11 +337,11 @@ class Waits(WithServers):
 
     def test_silence_after_the_creation_is_no_fault(self) -> None:
         server = self.server(wait=then(CHUNKED + chunk(CREATED), silent))
-        self.assertTrue(1.2 <= self.wait(store_at(server.endpoint, timeout=0.4), 1.2) < 1.2 + LATER)
+        self.assert_after(self.wait(store_at(server.endpoint, timeout=0.4), 1.2), 1.2)
 
     def test_lines_without_events_do_not_wake(self) -> None:
         server = self.server(wait=endless(CHUNKED, chunk(CREATED)))
-        self.assertTrue(0.8 <= self.wait(store_at(server.endpoint), 0.8) < 0.8 + LATER)
+        self.assert_after(self.wait(store_at(server.endpoint), 0.8), 0.8)
 
     def test_a_line_that_is_too_long(self) -> None:
         server = self.server(wait=endless(CHUNKED, chunk(b" " * 65536)))
@@ -347,7 +354,7 @@ class Waits(WithServers):
                 one, other = self.server(wait=answer), self.server()
                 store = store_at(one.endpoint, other.endpoint, timeout=LIMIT)
                 store.read()
-                self.assertLess(self.wait(store, 30), LIMIT + LATER)
+                self.in_time(lambda store=store: store.wait(7, 30))  # type: ignore[misc]
 
 
 class Places(WithServers):
@@ -386,7 +393,8 @@ class Places(WithServers):
                 begun = time.monotonic()
                 with self.assertRaises(TimeoutError):
                     lookups.addresses(StoreEndpoint("slow.invalid", 1), TimeLimit(0.1))
-                self.assertLess(time.monotonic() - begun, 0.1 + LATER)
+                seconds = time.monotonic() - begun
+                self.assertTrue(is_within(seconds, 0.1 + LATER), seconds)
             self.assertEqual(threading.active_count(), before + 1)
             ends.set()
             self.assertTrue(comes(lambda: threading.active_count() == before))

@@ -4,6 +4,7 @@ import contextlib
 import os
 import pathlib
 import signal
+import statistics
 import subprocess
 import sys
 import tempfile
@@ -17,6 +18,7 @@ from support.fleet.lab import FLEET, Lab, missing_programs
 from support.fleet.programs import PATHS
 from support.fleet.recording import Event
 from support.fleet.rules import rule_5, Run
+from support.pace import is_within
 from tests.tool_runs import TOP, WAIT, comes
 
 HOSTS = ("a", "b", "c")
@@ -99,7 +101,7 @@ class Base(unittest.TestCase):
         self.assertEqual(list(rule_5(Run(run._replace(events=[])))), [])
         self.assertTrue([look for look in run.looks["b"] if not look.is_up])
         pauses = [later.begun - look.begun for look, later in zip(run.looks["a"], run.looks["a"][1:])]
-        self.assertLess(sorted(pauses)[len(pauses) // 2], 0.3)
+        self.assertTrue(is_within(statistics.median(pauses), 0.3), pauses)
 
     def cut_outages(self) -> list[tuple[str, str]]:
         return [("link", "a")]

@@ -13,6 +13,8 @@ from bg_switch_tools.fleet.machine import FRESH
 from tests.fleet_processes import LEASE, FleetProcessCase
 from tests.tool_runs import WAIT
 
+SILENCE = 20 * WAIT  # seconds; nothing else is awaited for as long
+
 
 class Rollouts(FleetProcessCase):
     def test_a_good_revision_goes_live(self) -> None:
@@ -60,6 +62,14 @@ class Rollouts(FleetProcessCase):
 
 
 class StoreAway(FleetProcessCase):
+    def fall_silent(self) -> None:
+        """From now on a call of the store has no answer before this test has ended. One waits, and the rounds at the switch go on."""
+        self.network.is_asked.clear()
+        self.network.silence = SILENCE
+        self.assertTrue(self.network.is_asked.wait(WAIT))
+        self.switch.lines.clear()
+        self.await_that(lambda: self.switch.lines.count("report") > 2, "it asks the switch")
+
     def test_nothing_is_promoted_until_it_is_back(self) -> None:
         self.begun()
         self.put(self.v1, self.v2, fleet={"by_hand": True})
@@ -78,12 +88,11 @@ class StoreAway(FleetProcessCase):
 
     def test_a_silent_store_holds_up_no_round(self) -> None:
         self.begun()
-        self.network.silence = 3.0
+        self.network.silence = 0.0
         self.await_log("the store gives no answer")
-        begun = time.monotonic()
+        self.fall_silent()
         self.endpoints["web-v1"][1].stop()
         self.await_that(lambda: "available 1 1" in self.switch.lines, "the switch learns of an endpoint that is down")
-        self.assertLess(time.monotonic() - begun, 2.0)
 
     def test_what_fails_goes_back_at_once_without_it(self) -> None:
         self.begun()
@@ -91,13 +100,11 @@ class StoreAway(FleetProcessCase):
         self.judged.unlink()
         self.put(self.v1, self.v2)
         self.await_that(lambda: self.switch.book.phase == "postAnalysis", "it has switched")
-        self.network.silence = 3.0
+        self.fall_silent()
         time.sleep(1)
         self.assertEqual((self.switch.book.phase, self.switch.book.active), ("postAnalysis", 2))
-        begun = time.monotonic()
         self.judged.touch()
         self.await_that(lambda: self.switch.book.phase == "aborted", "it goes back")
-        self.assertLess(time.monotonic() - begun, 2.0)
         self.assertEqual(self.switch.book.active, 1)
 
     def test_a_round_that_took_long_promotes_nothing_by_its_read(self) -> None:

@@ -16,6 +16,8 @@ from bg_switch_tools.fleet.etcd import EtcdStore
 from bg_switch_tools.fleet.etcd_gateway import EtcdSettings
 from bg_switch_tools.fleet.record import MachineReport, PersonOrder, View, read_machine_report
 from bg_switch_tools.fleet.store import StoreFault
+from support import processes
+from support.pace import is_within
 from tests.fake_switch import FakeSwitch
 from tests.fleet_processes import FIT
 from tests.real_etcd import WithCluster
@@ -121,7 +123,7 @@ class Signals(AgentCase):
                 self.await_that(lambda: "leader" in self.store.read().keys, "it leads")
                 status, seconds = run.signal(number)
                 self.assertEqual((status, [name for name in self.store.read().keys if name in ("leader", "machines/a")]), (0, []))
-                self.assertLess(seconds, 3)
+                self.assertTrue(is_within(seconds, 3), seconds)
                 ended = run.wait()
                 self.assertIn("ends; the switch continues", ended.printed)
                 self.assertEqual(ended.told, "")
@@ -159,7 +161,7 @@ class Signals(AgentCase):
         with mock.patch.object(self.switch.control, "answer", hang):
             self.order("promote")
             self.assertTrue(asked.wait(WAIT))
-            run.process.send_signal(signal.SIGSTOP)
+            processes.pause(run.process.pid)
             self.order("abort")
             record = View(self.store.read()).record
             assert record is not None

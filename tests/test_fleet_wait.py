@@ -96,6 +96,12 @@ class Outlooks(WithFleet):
             self.begin(stage, "follows")
             self.assertEqual(self.outlook("settled"), MAY_COME)
 
+    def test_settled_with_the_report_of_a_machine_that_has_gone(self) -> None:
+        """The report of an agent that was killed stands until its lease ends."""
+        self.begin("successful", "follows")
+        self.report("follows", "web-2", stable="web-v1")
+        self.assertEqual(self.outlook("settled"), MAY_COME)
+
     def test_settled_with_a_plan_that_waits(self) -> None:
         self.begin("successful", "follows")
         self.put_plan(V2, V3)

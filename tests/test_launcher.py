@@ -8,8 +8,10 @@ from unittest import mock
 
 from bg_switch_tools.controller import launcher, notifier
 from bg_switch_tools.controller.launcher import words_for
+from bg_switch_tools.controller.pause import PauseFile
 from bg_switch_tools.controller.plan import PlannedRevision
 from bg_switch_tools.controller.state_file import StateFile
+from support.pace import is_within
 from tests.fake_switch import FakeSwitch
 from tests.test_controller import NAMES, ControllerCase
 from tests.tool_runs import comes
@@ -209,6 +211,19 @@ class Stops(Launched):
         self.some_rounds()
         self.assertEqual(len([call for call in self.calls() if call.startswith("start web-v2")]), 2)
 
+    def test_an_aborted_revision_of_a_book_that_is_open_is_not_started(self) -> None:
+        """Nothing is known of it, and the switch is not asked for its ports before the pause ends."""
+        for line in (f"open {self.words('web-v1')}", f"deploy {self.words('web-v2')}", "abort"):
+            self.by_hand(line)
+        self.switch.book.revisions[2].desired = 0
+        self.write(*NAMES[:2], **self.members)
+        PauseFile(self.plan.path).pause()
+        probes = self.start().controller.probes
+        self.assertTrue(comes(lambda: all(probes.is_down(endpoint.port) for endpoint in self.endpoints["web-v2"])))
+        self.await_calls(*self.both("start", "web-v1"))
+        self.some_rounds()
+        self.assertEqual([call for call in self.calls() if call.startswith("start web-v2")], [])
+
     def test_a_revision_that_never_was_deployed_is_stopped(self) -> None:
         self.bring_v1_up()
         self.file("fail-start").touch()
@@ -249,7 +264,8 @@ class Notified(ControllerCase):
             self.start()
             begun = time.monotonic()
             self.await_book("paused", 2)
-            self.assertLess(time.monotonic() - begun, 8)
+            seconds = time.monotonic() - begun
+            self.assertTrue(is_within(seconds, 8), seconds)
             path = pathlib.Path(self.folder, "pids")
             self.assertTrue(comes(lambda: path.exists() and len(path.read_text(encoding="ascii").split()) > notifier.MOST_AT_ONCE))
             pids = path.read_text(encoding="ascii").split()

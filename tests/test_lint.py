@@ -1,4 +1,4 @@
-"""scripts/lint.sh finds what is wrong, and says what it did not check."""
+"""scripts/lint.sh finds what is wrong, and needs each of its programs."""
 import os
 import pathlib
 import shutil
@@ -11,22 +11,20 @@ from tests.tool_runs import TOP, WAIT
 
 LINT = TOP / "scripts" / "lint.sh"
 NEEDED = ("sh", "dirname", "git", "sed", "xargs")
-OTHERS = {"shellcheck": "the shell scripts", "node": "the scripts of the page"}
-
-
-def not_checked(program: str, what: str) -> str:
-    return f"lint: not checked, since {program} is not installed: {what}\n"
+CHECKERS = ("mypy", "flake8", "shellcheck", "node")
 
 
 class Lint(unittest.TestCase):
-    """A repository of its own, and a folder with the programs that the script finds: those that it needs, and a mypy."""
+    """A repository of its own, and a folder with the programs that the script finds: those that it needs, and checkers that find
+    nothing."""
 
     def setUp(self) -> None:
         self.top = pathlib.Path(self.enterContext(tempfile.TemporaryDirectory()))
         self.programs = pathlib.Path(self.enterContext(tempfile.TemporaryDirectory()))
         for name in NEEDED:
             self.install(name)
-        self.write_program("mypy", "exit 0")
+        for name in CHECKERS:
+            self.write_program(name, "exit 0")
         (self.top / "scripts").mkdir()
         shutil.copy(LINT, self.top / "scripts" / "lint.sh")
         (self.top / "page.js").write_text('import {name} from "./other.js";\nexport const other = name;\n', encoding="ascii")
@@ -53,30 +51,40 @@ class Lint(unittest.TestCase):
         self.run_words("git", "add", "--all")
         return self.run_words("/bin/sh", "scripts/lint.sh")
 
-    def test_what_is_not_installed_is_named(self) -> None:
-        self.assertEqual(self.lint(), Run("".join(not_checked(*one) for one in OTHERS.items()), "", 0))
-        (self.top / "pyproject.toml").touch()
-        self.assertEqual(self.lint().printed, "".join(not_checked(*one) for one in {"ruff": "the style of the Python files", **OTHERS}.items()))
+    def test_nothing_is_wrong(self) -> None:
+        self.assertEqual(self.lint(), Run("", "", 0))
 
-    def test_without_mypy(self) -> None:
-        (self.programs / "mypy").unlink()
-        done = self.lint()
-        self.assertEqual(done.status, 1)
-        self.assertIn("lint needs mypy", done.told)
+    def test_each_program_that_is_missing_is_named(self) -> None:
+        for name in CHECKERS:
+            with self.subTest(name):
+                (self.programs / name).unlink()
+                done = self.lint()
+                self.assertEqual((done.printed, done.status), ("", 1))
+                self.assertEqual(done.told.count("lint needs"), 1)
+                self.assertIn(f"lint needs {name}: ", done.told)
+                self.write_program(name, "exit 0")
 
     def test_each_program_can_fail_and_the_others_run(self) -> None:
-        (self.top / "pyproject.toml").touch()
-        for name in ("mypy", "ruff", "shellcheck", "node"):
+        for name in CHECKERS:
             self.write_program(name, f"echo {name} was run")
-        told = "".join(f"{name} was run\n" for name in ("mypy", "ruff", "shellcheck", "node"))
-        self.assertEqual(self.lint(), Run(told, "", 0))
-        for name in ("mypy", "ruff", "shellcheck", "node"):
+        self.assertEqual(self.lint(), Run("".join(f"{name} was run\n" for name in CHECKERS), "", 0))
+        for name in CHECKERS:
             with self.subTest(name):
                 self.write_program(name, f"echo {name} was run; exit 1")
                 done = self.lint()
                 self.assertEqual(done.status, 1)
-                self.assertEqual(done.printed.count("was run"), 4)
+                self.assertEqual(done.printed.count("was run"), len(CHECKERS))
                 self.write_program(name, f"echo {name} was run")
+
+    @unittest.skipUnless(shutil.which("flake8"), "flake8 is not installed")
+    def test_a_fault_of_a_python_file_is_found(self) -> None:
+        self.install("flake8")
+        shutil.copy(TOP / ".flake8", self.top / ".flake8")
+        self.assertEqual(self.lint().status, 0)
+        (self.top / "tool.py").write_text("import json\n", encoding="ascii")
+        done = self.lint()
+        self.assertEqual(done.status, 1)
+        self.assertIn("F401", done.printed)
 
     @unittest.skipUnless(shutil.which("shellcheck"), "shellcheck is not installed")
     def test_a_fault_of_a_shell_script_is_found(self) -> None:

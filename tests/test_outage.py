@@ -3,6 +3,7 @@ import pathlib
 import time
 import unittest
 
+from support.pace import is_within
 from tests.test_controller import ControllerCase
 from tests.tool_runs import comes, operator
 
@@ -102,7 +103,8 @@ class Outages(ControllerCase):
         self.stop("web-v2")
         self.await_log("no endpoint is up of revision 2 web-v2, which is active: clients are answered 503",
                        "revision 2 web-v2 has had no endpoint that is up for 5 seconds, so its attempt ends", "verdict post error => ok 0")
-        self.assertLess(time.monotonic() - begun, 10)
+        seconds = time.monotonic() - begun
+        self.assertTrue(is_within(seconds, 10), seconds)
         self.assertEqual((self.switch.book.phase, self.switch.book.active), ("aborted", 1))
         self.await_log("endpoints are up again behind live traffic, after")
 

@@ -1,7 +1,10 @@
 """The package: its version, the files that it has, and what its units, users and rotation of the log say of one another."""
+import contextlib
 import os
 import pathlib
 import re
+import shutil
+import socket
 import subprocess
 import tempfile
 import unittest
@@ -10,16 +13,21 @@ from support.processes import Run
 from tests.tool_runs import TOP, WAIT
 
 BUILD = TOP / "packaging" / "build.sh"
+EXECUTABLE = "usr/libexec/bg-switch/bg_switch"  # the program, which the command bg_switch starts
 EXAMPLES = {"bg-fleet": "fleet"}  # by unit: the folder of examples that has it; production for the others
 EXAMPLE = TOP / "examples" / "production"
 UNITS = ("bg-switch", "bg-controller", "bg-fleet", "bg-dashboard")
 SOURCE = TOP / "crates" / "bg_command_line" / "src" / "command_line.rt"
-# The commands, with what each calls itself in its usage.
-PACKAGED_COMMANDS = {"bgctl": "bgctl", "bg-operator": "bin/operator", "bg-controller": "bin/controller", "bg-analysis": "bin/analysis",
-            "bg-dashboard": "bin/dashboard", "bg-fleet": "fleet"}
+# The commands of the tools.
+PACKAGED_COMMANDS = ("bgctl", "bg-operator", "bg-controller", "bg-analysis", "bg-dashboard", "bg-fleet")
+LINK = re.compile(r"\[[^\]]*\]\(([^)#\s]*)(?:#[^)\s]*)?\)")
+ARCHIVE = "/usr/share/bg-switch/bg_switch_tools.pyz"
 KINDS_OF_CHANGE = ("Added", "Changed", "Deprecated", "Removed", "Fixed", "Security")
 # Descriptors for each worker, connections at each client port, operators at the control port, and what the switch has beside.
 FOR_A_WORKER, FOR_A_PORT, FOR_OPERATORS, OWN = 3, 1024, 1024, 64
+# Memory in MiB: the largest request and response of a worker; requests and responses that a client port buffers, where requests may
+# count twice their bound, and the system's buffers of its sockets where no client reads; and what the switch has beside.
+OF_A_WORKER, OF_A_PORT, BESIDE = 1 + 4, 2 * 128 + 512 + 4 * FOR_A_PORT, 512
 
 
 def version() -> str:
@@ -51,10 +59,37 @@ def values(unit: str, key: str) -> list[str]:
     return [line.partition("=")[2] for line in unit_text(unit).splitlines() if line.startswith(f"{key}=")]
 
 
+def workers_of_the_switch() -> int:
+    """How many workers both client ports of the unit have."""
+    start, = values("bg-switch", "ExecStart")
+    active = int(word_after(start, "--concurrency"))
+    return active + max(active // 8, 1)
+
+
 def word_after(command: str, word: str) -> str:
     """The word of a command that follows another one."""
     words = command.split()
     return words[words.index(word) + 1]
+
+
+# Some program that has the words of the switch.
+STAND_IN = """#!/bin/sh
+case $1 in
+    serve) exec python3 -m tests.stand_in_switch "$@" ;;
+    replay) sed '1,/^---$/d; s/.*/ok 0/' ;;
+    *) cat > /dev/null ;;
+esac
+"""
+
+
+# The first digits of a port of the rollout of examples/controller.
+PORT_OF_EXAMPLE = re.compile(r"\b1[89](?=08[012]\b|\$\{revision\}0[12]|[12]0[12]\b)")
+
+
+def is_free(port: int) -> bool:
+    with contextlib.suppress(OSError), socket.create_server(("127.0.0.1", port)):
+        return True
+    return False
 
 
 class Version(unittest.TestCase):
@@ -98,7 +133,7 @@ class Changelog(unittest.TestCase):
                 self.assertEqual(kinds, [kind for kind in KINDS_OF_CHANGE if kind in kinds])
 
 
-class Files(unittest.TestCase):
+class Staged(unittest.TestCase):
     """The files of the package, with a script in the place of the program."""
 
     root: pathlib.Path
@@ -110,6 +145,21 @@ class Files(unittest.TestCase):
         done = run([str(BUILD), "stage", str(cls.root)], program_of(folder, f"bg_switch {version()}"))
         assert (done.printed, done.told, done.status) == ("", "", 0), done
 
+    def commands(self) -> pathlib.Path:
+        """A folder with the commands of the package, which run its tools where they lie here, and a stand-in for the switch."""
+        folder = self.root.with_name("commands")
+        folder.mkdir(exist_ok=True)
+        for name in PACKAGED_COMMANDS:
+            text = (self.root / "usr" / "bin" / name).read_text(encoding="ascii")
+            self.assertIn(ARCHIVE, text)
+            (folder / name).write_text(text.replace(ARCHIVE, f"{self.root}{ARCHIVE}"), encoding="ascii")
+            (folder / name).chmod(0o755)
+        (folder / "bg_switch").write_text(STAND_IN, encoding="ascii")
+        (folder / "bg_switch").chmod(0o755)
+        return folder
+
+
+class Files(Staged):
     def test_each_command_of_the_units_is_there(self) -> None:
         for unit in UNITS:
             for command in [*values(unit, "ExecStart"), *values(unit, "ExecStop")]:
@@ -130,26 +180,83 @@ class Files(unittest.TestCase):
     def test_everybody_may_read_all_files_and_run_the_commands(self) -> None:
         for path in self.root.rglob("*"):
             with self.subTest(path.relative_to(self.root)):
-                expected = 0o755 if path.is_dir() or path.parent.name == "bin" else 0o644
+                expected = 0o755 if path.is_dir() or path.parent.name == "bin" or path == self.root / EXECUTABLE else 0o644
                 self.assertIn(path.stat().st_mode & 0o777, (expected, 0o755) if "examples" in path.parts else (expected,))
 
-    def test_a_command_runs_the_one_file_of_the_tools(self) -> None:
-        for name, called in PACKAGED_COMMANDS.items():
-            with self.subTest(name):
-                text = (self.root / "usr" / "bin" / name).read_text(encoding="ascii")
-                archive = "/usr/share/bg-switch/bg_switch_tools.pyz"
-                self.assertIn(archive, text)
-                moved = self.root.with_name("moved")
-                moved.write_text(text.replace(archive, f"{self.root}{archive}"), encoding="ascii")
-                done = run(["sh", str(moved), "--help"])
+    def test_a_command_runs_the_one_file_of_the_tools_and_names_what_is_installed(self) -> None:
+        folder = self.commands()
+        for line in (*PACKAGED_COMMANDS, "bgctl deploy", "bgctl controller"):
+            with self.subTest(line):
+                name, *words = line.split()
+                done = run([str(folder / name), *words, "--help"])
                 self.assertEqual(done.status, 0, done.told)
-                self.assertIn(f"usage: {called} ", done.printed)
+                self.assertIn(f"usage: {line} ", done.printed)
+                self.assertNotRegex(done.printed, r"(?<!/)\bbin/|(?<!/)\bdocs/|(?<!/)\bshare/")
 
     def test_the_pages_have_the_files_that_they_link_to(self) -> None:
         documents = self.root / "usr" / "share" / "doc" / "bg-switch"
         for page in (TOP / "docs").iterdir():
             self.assertTrue((documents / "docs" / page.name).exists(), page)
-        self.assertTrue((documents / "examples" / "README.md").exists())
+        for page in documents.rglob("*.md"):
+            for target in LINK.findall(page.read_text(encoding="utf-8")):
+                if target and "://" not in target:
+                    with self.subTest(page=page.relative_to(documents), target=target):
+                        place = self.root / target[1:] if target.startswith("/") else page.parent / target
+                        self.assertTrue(place.exists())
+
+    def test_the_page_of_the_switch_names_each_of_its_options(self) -> None:
+        page = (self.root / "usr" / "share" / "man" / "man1" / "bg_switch.1").read_text(encoding="ascii").replace("\\-", "-")
+        options = re.findall(r'name: "([a-z-]+)"', SOURCE.with_name("serve_options.rt").read_text(encoding="utf-8"))
+        self.assertIn("redispatch", options)
+        described = re.findall(r"^\.TP\n\.BI? --([a-z-]+)", page, re.M)
+        self.assertEqual(sorted(described), sorted(options))
+
+
+class Examples(Staged):
+    """The examples of the package run from where it puts them: they find its commands, and write nothing beside themselves."""
+
+    def setUp(self) -> None:
+        self.examples = self.root / "usr" / "share" / "doc" / "bg-switch" / "examples"
+        library = os.pathsep.join(map(str, (TOP, TOP / "lib", TOP / "scripts")))
+        self.environment = {**os.environ, "PATH": f"{self.commands()}:{os.environ['PATH']}", "PYTHONPATH": library}
+
+    def at_free_ports(self) -> tuple[pathlib.Path, dict[str, str]]:
+        """A copy of the examples whose ports are free here, and by the first digits of each port those that stand in their place."""
+        folder = self.enterContext(tempfile.TemporaryDirectory())
+        digits = {"18": "", "19": ""}
+        for first, others in (("18", ("080", "081", "082")), ("19", ("101", "102", "201", "202"))):
+            digits[first] = next(str(own) for own in range(20, 60) if str(own) not in digits.values()
+                                 and all(is_free(int(f"{own}{other}")) for other in others))
+        copied = pathlib.Path(shutil.copytree(self.examples, pathlib.Path(folder, "examples")))
+        for path in copied.glob("controller/*"):
+            text = path.read_text(encoding="utf-8")
+            path.write_text(PORT_OF_EXAMPLE.sub(lambda port: digits[port[0]], text), encoding="utf-8")
+        return copied, digits
+
+    def test_what_needs_the_repository_is_not_there(self) -> None:
+        self.assertEqual([path for path in self.examples.rglob("*.py")], [])
+
+    def test_the_scripts_of_lines(self) -> None:
+        done = subprocess.run([str(self.examples / "demo.sh")], capture_output=True, text=True, timeout=WAIT, check=False, env=self.environment)
+        self.assertEqual((done.returncode, done.stderr, done.stdout.count("examples/")), (0, "", len(list(self.examples.glob("*.txt")))))
+
+    def test_a_rollout_and_a_release(self) -> None:
+        """The stand-in pauses, whatever the Rollout says, so the job of a release goes on with it."""
+        examples, digits = self.at_free_ports()
+        before = sorted(examples.rglob("*"))
+        with subprocess.Popen([str(examples / "controller" / "run.sh")], stdout=subprocess.PIPE, stderr=subprocess.PIPE, text=True,
+                              env=self.environment) as running:
+            try:
+                assert running.stdout is not None and running.stderr is not None
+                plan = next(line for line in running.stdout if line.startswith("the plan is ")).split()[-1]
+                words = [f"{digits['18']}082", plan, "media-v2", f"{digits['19']}201", f"{digits['19']}202"]
+                told = subprocess.run([str(examples / "ci" / "release.sh"), *words], capture_output=True, text=True, timeout=WAIT, check=False,
+                                      env=self.environment)
+                self.assertEqual((told.returncode, told.stdout.splitlines()[-1].startswith("steady: active media-v2")), (0, True), told)
+            finally:
+                running.terminate()
+                running.communicate(timeout=WAIT)
+        self.assertEqual(sorted(examples.rglob("*")), before)
 
 
 class Units(unittest.TestCase):
@@ -180,17 +287,26 @@ class Units(unittest.TestCase):
         self.assertLessEqual(users | groups, set(re.findall(r"[\w-]+", purge)))
 
     def test_the_switch_has_descriptors_and_threads_for_all_workers(self) -> None:
-        start, = values("bg-switch", "ExecStart")
-        workers = int(word_after(start, "--concurrency"))
-        workers += max(workers // 8, 1)
+        workers = workers_of_the_switch()
         needed = FOR_A_WORKER * workers + 2 * FOR_A_PORT + FOR_OPERATORS + OWN
         self.assertGreaterEqual(int(values("bg-switch", "LimitNOFILE")[0]), needed)
         self.assertGreaterEqual(int(values("bg-switch", "TasksMax")[0]), workers + OWN)
+
+    def test_the_switch_has_memory_for_the_largest_messages_of_all_workers(self) -> None:
+        most, = values("bg-switch", "MemoryMax")
+        self.assertEqual(most[-1], "G")
+        self.assertGreaterEqual(int(most[:-1]) * 1024, OF_A_WORKER * workers_of_the_switch() + 2 * OF_A_PORT + BESIDE)
 
     def test_all_have_one_control_port(self) -> None:
         control = word_after(values("bg-switch", "ExecStart")[0], "--control")
         self.assertEqual(word_after(values("bg-switch", "ExecStop")[0], "/usr/bin/bg-operator"), control)
         self.assertEqual(word_after(values("bg-dashboard", "ExecStart")[0], "/usr/bin/bg-dashboard"), control)
+
+    def test_the_page_tells_of_the_controller(self) -> None:
+        """The files of the controller can be read by all, since its unit has no umask of its own."""
+        plan = word_after(values("bg-controller", "ExecStart")[0], "/usr/bin/bg-controller")
+        self.assertEqual(word_after(values("bg-dashboard", "ExecStart")[0], "--plan"), plan)
+        self.assertEqual(values("bg-controller", "UMask") + values("bg-controller", "StateDirectoryMode"), [])
 
     def test_all_have_one_access_log(self) -> None:
         log = values("bg-switch", "Environment")[0].removeprefix("BG_SWITCH_ACCESS_LOG=")

@@ -87,6 +87,8 @@ class Names(unittest.TestCase):
         screen = "\n".join((TOP / "README.md").read_text(encoding="utf-8").splitlines()[:LINES_OF_A_SCREEN])
         self.assertRegex(screen, r"\*\*Requests at a time:\*\* .*\b1,023\b")
         self.assertRegex(screen, r"\*\*The first command\*\* .*\bminutes\b")
+        self.assertRegex(screen, r"\bapt-get install .*\bin a minute\b")
+        self.assertRegex(screen, r"`make test` takes .*\bmemory\b")
 
 
 class Definitions(unittest.TestCase):

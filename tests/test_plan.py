@@ -14,6 +14,7 @@ from bg_switch_tools.controller import cli as controller_cli, plan_text
 from bg_switch_tools.controller.plan import Commands, Health, PlannedRevision, Progress
 from bg_switch_tools.controller.plan_edit import deploy_by_plan
 from bg_switch_tools.controller.plan_file import PlanFile
+from bg_switch_tools.controller.plan_check import problems_of
 from bg_switch_tools.controller.plan_limits import missing_commands
 from bg_switch_tools.controller.plan_reader import WrongPlan, read_plan
 
@@ -192,6 +193,39 @@ class Contradictions(unittest.TestCase):
                          ["analyses.post: --every 10 is above --seconds 9: nothing is measured before the end"])
         self.assertEqual(problems(with_post(*tool, "--seconds", "59", "--every", "59")), [])
         self.assertEqual(problems(with_post("./smoke.sh", "--seconds", "600")), [], "another program")
+
+    def test_each_analysis_that_the_pages_and_the_package_use(self) -> None:
+        for tool in (("/usr/bin/bg-analysis",), ("bg-analysis",), ("bgctl", "analysis"), ("/x/bin/analysis",),
+                     ("/usr/bin/python3", "-B", "/usr/share/bg-switch/bg_switch_tools.pyz", "analysis"), ("nice", "-n", "5", "bg-analysis")):
+            for seconds in ("10m", "60s", "1m", "61"):
+                self.assertEqual(len(problems(with_post(*tool, "--log", "x", "--seconds", seconds, "--errors-at-most", "1%"))), 1, tool)
+        tool = ("/usr/bin/bg-analysis", "--prometheus", "http://127.0.0.1:9090", "--query", "up", "--at-most", "1%")
+        self.assertEqual(problems(with_post(*tool, "--interval", "10s", "--count", "5", "--initial-delay", "20s")), [
+            "analyses.post: --count 5 with --interval 10 and --initial-delay 20 takes 60 seconds, which is not below analyses.seconds, 60: the "
+            "analysis would be stopped before its end"])
+        self.assertEqual(problems(with_post(*tool, "--seconds", "50", "--initial-delay", "10")), [
+            "analyses.post: --seconds 50 after --initial-delay 10 is not below analyses.seconds, 60: the analysis would be stopped before "
+            "its end"])
+        for good in (("--interval=10s", "--count", "5", "--initial-delay", "19"), ("--count", "12"), ("--seconds", "59s")):
+            self.assertEqual(problems(with_post(*tool, *good)), [])
+        self.assertEqual(problems(with_post("bin/analysis", "--seconds", "9", "--interval", "10")),
+                         ["analyses.post: --every 10 is above --seconds 9: nothing is measured before the end"])
+        self.assertEqual(problems(with_post("./smoke.sh", "analysis.log", "--seconds", "600")), [], "another program")
+
+    def test_words_by_which_an_analysis_would_end_at_once(self) -> None:
+        """Its status would be 2: the verdict is `error`, and a good revision goes back."""
+        words = ("bin/analysis", "--log", "x", "--seconds", "9")
+        for wrong, fault in ((words, "a limit is needed: --errors-at-most, --p99-at-most or both"), (words[:1], "one of the arguments --log "
+                             "--prometheus is required"), ((*words, "--errors-at-most", "x"), "argument --errors-at-most: "),
+                             ((*words, "--errors-at-most", "1%", "--sconds", "1"), "unrecognized arguments: --sconds 1"),
+                             (("bgctl", "analysis", *words[1:], "--errors-at-most", "1%", "--query", "up"), "--query belongs to --prometheus")):
+            self.assertEqual([problem.startswith(f"analyses.post: {fault}") for problem in self.checked(*wrong)], [True], self.checked(*wrong))
+        self.assertEqual(self.checked(*words, "--errors-at-most", "1%"), [])
+
+    def checked(self, *words: str) -> list[str]:
+        """What `check` finds beside commands that are not there."""
+        plan = read_plan(json.dumps(with_post(*words)).encode())
+        return [problem for problem in problems_of("/none/plan.json", plan, None) if "there is no program" not in problem]
 
     def test_commands_that_are_not_there(self) -> None:
         with tempfile.TemporaryDirectory() as folder:

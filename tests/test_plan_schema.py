@@ -123,5 +123,24 @@ class Schema(unittest.TestCase):
                 self.assertTrue(is_taken(json.loads(text)))
 
 
+
+class Page(unittest.TestCase):
+    def test_it_has_the_table_of_the_keys(self) -> None:
+        page = plan_schema.PAGE.read_text(encoding="utf-8")
+        self.assertEqual(len(plan_schema.TABLE.findall(page)), 1)
+        self.assertEqual(page, plan_schema.page_with(page, plan_schema.table()), MEND)
+
+    def test_the_table_has_each_key_with_its_default(self) -> None:
+        rows = [row.split(" | ") for row in plan_schema.table().splitlines()[2:]]
+        told = {row[0].strip("| `"): row[-1].strip("| `") for row in rows}
+        self.assertLessEqual(set(KEYS), set(told))
+        self.assertEqual((told["control"], told["revisions[].ports"], told["health.failures"], told["progress.abort"], told["start"]),
+                         ("needed", "needed", "2", "false", "-"))
+
+    def test_its_example_is_a_plan(self) -> None:
+        found = re.findall(r"^```json\n(.*?)^```$", plan_schema.PAGE.read_text(encoding="utf-8"), re.M | re.S)
+        self.assertEqual([is_taken(json.loads(text)) for text in found], [True])
+
+
 if __name__ == "__main__":
     unittest.main()

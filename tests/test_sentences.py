@@ -9,7 +9,7 @@ from collections.abc import Iterator, Mapping
 from bg_switch_tools.switch.lines import FAULTS, HINTS, REFUSALS
 from tests.tool_runs import TOP
 
-CRATES = ("bg_strategy", "bg_revisions", "bg_promotion", "bg_rollout", "bg_book", "bg_operator", "bg_script")
+CRATES = ("bg_strategy_text", "bg_revisions", "bg_promotion", "bg_rollout", "bg_book", "bg_operator", "bg_script")
 OF_LINES, OF_STRATEGIES = "LineFault", "StrategyFault"
 # Their variants are written as refusals, or become one that is.
 REFUSING = ("AbortFault", "RetryFault", "PromoteFault", "PromoteFullFault", "VerdictFault", "RevisionFault", "ControlFault",

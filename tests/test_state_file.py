@@ -11,17 +11,19 @@ from bg_switch_tools.controller.log import Log
 from bg_switch_tools.controller.memory import Memory
 from bg_switch_tools.controller.plan import Analyses, Health, Plan, PlannedRevision, Progress
 from bg_switch_tools.controller.process_groups import ProcessId
-from bg_switch_tools.controller.state_file import IsLocked, NoState, State, StateFile, StateLock, read_state, written
+from bg_switch_tools.controller.state_file import HeldBack, IsLocked, NoState, State, StateFile, StateLock, read_state, written
 
 V1, V2, V3 = (PlannedRevision(f"web-v{number}", (9000 + number, 9100 + number)) for number in (1, 2, 3))
 PLAN = Plan(8082, Health(), Analyses({}), Progress(), (V1, V2, V3))
 BEGUN = int(time.time()) - 5000  # when the moment was 0
-STATE = State(5000, V2, V3, V3, BEGUN, ProcessId(700, 12345), (V2, V3), (ProcessId(701, 7),), (8082, 8182))
+DAY = 86400
+STATE = State(5000, V2, V3, V3, BEGUN, ProcessId(700, 12345), (V2, V3), (ProcessId(701, 7),), (8082, 8182), (V2, V3),
+              (HeldBack(PlannedRevision("web-v1", (1, 2)), "it has other ports"),))
 
 
 class Texts(unittest.TestCase):
     def test_what_is_written_is_read(self) -> None:
-        for state in (STATE, State(), State(1, V1, None, None)):
+        for state in (STATE, State(), State(1, V1, None, None), State(1, unknown="web-v1")):
             self.assertEqual(read_state(written(state)), state)
 
     def test_every_cut_is_noticed(self) -> None:
@@ -98,7 +100,25 @@ class Files(unittest.TestCase):
         self.file.write(STATE)
         other = dataclasses.replace(PLAN, revisions=(PlannedRevision("media-v1", (1, 2)), PlannedRevision("media-v2", (3, 4))))
         self.assertEqual(self.without_since(self.memory(other)), State())
-        self.assertIn("since it is of another plan", self.out.getvalue())
+        self.assertIn(f"no switch is opened by this plan: by the state file {self.file.path}, web-v2 was stable and web-v3 was deployed "
+                      "last, and the plan does not name them. Name web-v2 with its ports 9002 9102 first in the plan; or, to begin anew "
+                      "with media-v1, which no preview and no analysis has judged, ", self.out.getvalue())
+
+    def test_a_file_of_another_plan_stays_until_a_book_is_open(self) -> None:
+        self.file.write(STATE)
+        other = dataclasses.replace(PLAN, revisions=(PlannedRevision("media-v1", (1, 2)),))
+        memory = self.memory(other)
+        memory.set_held((HeldBack(PlannedRevision("media-v1", (1, 2)), "x"),))
+        self.assertEqual(self.file.read()[0], STATE)
+        memory.take_book()
+        memory.set_deployed(None)
+        self.assertEqual(self.file.read()[0].names, [])
+
+    def test_a_file_before_the_first_opening(self) -> None:
+        """It names no revision, so it is of each plan: what was started by then is stopped one day."""
+        self.file.write(State(0, started=(V1,)))
+        memory = self.memory()
+        self.assertEqual((memory.state.started, memory.is_fresh, memory.why_not_opened(PLAN)), ((V1,), True, ""))
 
     def test_a_plan_that_names_the_stable_revision_no_longer(self) -> None:
         self.file.write(STATE)
@@ -149,10 +169,11 @@ class Files(unittest.TestCase):
 
     def test_a_moment_that_the_clock_does_not_let_be_true(self) -> None:
         """A damaged file would end the ticks of a healthy switch for ever: no moment comes after the greatest one."""
-        for moment in (1 << 53, 5000 + 90000):
+        for moment in (1 << 53, int(time.time()) - BEGUN + DAY + 3600):
             self.file.write(dataclasses.replace(STATE, moment=moment))
+            begun = int(time.time())
             memory = self.memory()
-            self.assertLessEqual(abs(memory.state.moment - (5000 + 86400)), 5)
+            self.assertTrue(begun <= memory.state.moment + BEGUN - DAY <= time.time(), memory.state.moment)
             self.assertIn(f"the moment {moment} of the state file lies more than a day ahead of the clock", self.out.getvalue())
         self.file.write(dataclasses.replace(STATE, moment=1 << 53, since=0))
         self.assertLess(self.memory().state.moment, 1 << 33)

@@ -76,11 +76,11 @@ class ControllerRun:
         return sum(all(word in line for word in words) for line in list(self.log))
 
     def signal(self, number: int) -> tuple[int | None, float]:
-        """Sends a signal. Gives the status, None where it doesn't end in ten seconds, and after how many seconds it came."""
+        """Sends a signal. Gives the status, None where it doesn't end, and after how many seconds it came."""
         begun = time.monotonic()
         self.process.send_signal(number)
         try:
-            status: int | None = self.process.wait(10)
+            status: int | None = self.process.wait(WAIT)
         except subprocess.TimeoutExpired:
             status = None
         return status, time.monotonic() - begun

@@ -3,11 +3,11 @@
 # is stable: release.sh CONTROL_PORT PLAN NAME PORT..
 # The status is not 0, and standard error says why, where it was aborted, another one took its place, or time has passed.
 set -eu
-top="$(dirname -- "$0")/../.."
-operator="$top/bin/operator $1"
-plan=$2
+bgctl="$(dirname -- "$0")/../../bin/bgctl"
+[ -x "$bgctl" ] || bgctl=bgctl # from the package
+export BG_CONTROL="$1" BG_PLAN="$2"
 shift 2
-"$top/bin/controller" deploy "$plan" "$@"
+"$bgctl" deploy "$@"
 # without a pause, or in a second run, there is nothing to promote
-$operator wait phase=paused newest="$1" --plan "$plan" --timeout 600 && $operator promote
-$operator wait stable="$1" --plan "$plan" --timeout 600
+"$bgctl" wait phase=paused newest="$1" --timeout 600 && "$bgctl" promote "$1"
+"$bgctl" wait stable="$1" --timeout 600

@@ -1,11 +1,20 @@
 #!/bin/sh
 # Runs the plan beside this script: two endpoints for each revision, the switch, and the controller, until ctrl-C.
-# Watch it from another terminal with `bin/operator 18082 watch`.
+# Watch it from another terminal with `bin/bgctl watch --control 18082`. From the package, it runs a copy of the plan.
 set -eu
 cd "$(dirname -- "$0")"
-# What a run before this one remembers.
-rm -f plan.json.state*
 pages=$(mktemp -d)
+tools=$(cd ../.. && pwd)/bin
+if [ -d "$tools" ]; then
+    program=$tools/bg_switch bgctl=$tools/bgctl
+    # What a run before this one remembers.
+    rm -f plan.json.state*
+else
+    program=bg_switch bgctl=bgctl
+    cp plan.json rollout.json smoke_test.sh "$pages"
+    cd "$pages"
+    echo "the plan is $pages/plan.json"
+fi
 started=
 end() {
     # shellcheck disable=SC2086  # the numbers of the processes
@@ -24,9 +33,10 @@ for revision in 1 2; do
     done
 done
 # Builds the program where it is stale.
-../../bin/bg_switch check < rollout.json > /dev/null
-../../bin/bg_switch serve --active 18080 --preview 18081 --control 18082 --workers 4 --forever < rollout.json &
+"$program" check < rollout.json > /dev/null
+"$bgctl" check plan.json --rollout rollout.json
+"$program" serve --active 18080 --preview 18081 --control 18082 --workers 4 --forever < rollout.json &
 started="$started $!"
-../../bin/controller plan.json &
+"$bgctl" controller plan.json &
 started="$started $!"
 wait $!

@@ -2,6 +2,7 @@
 import argparse
 import contextlib
 from collections.abc import Sequence
+from typing import NoReturn
 
 from bg_switch_tools.analysis.judged_revision import subject_of
 from bg_switch_tools.analysis.log_analysis import LogAnalysis
@@ -10,6 +11,7 @@ from bg_switch_tools.analysis.verdicts import NOT_JUDGED, NotJudged, tell
 from bg_switch_tools.switch.access_log import Follower
 from bg_switch_tools.switch.arguments import count_of, port_of, share_of
 from bg_switch_tools.switch.durations import duration_of, milliseconds_of, positive_duration_of, value_of
+from bg_switch_tools.switch.installed_names import named
 
 USAGE = """bin/analysis --log FILE [--revision NAME] --seconds N [options]
        bin/analysis --prometheus URL --query QUERY (--at-most X | --at-least X) --count N [options]"""
@@ -38,9 +40,19 @@ OF_LOG = ("errors_at_most", "p99_at_most", "requests_at_least", "by_endpoint", "
 OF_PROMETHEUS = ("query", "at_most", "at_least", "count", "inconclusive", "query_errors", "initial_delay")
 
 
-def parser() -> argparse.ArgumentParser:
-    made = argparse.ArgumentParser(prog="analysis", usage=USAGE, description=ABOUT, epilog=END,
-                                   formatter_class=argparse.RawDescriptionHelpFormatter)
+class WrongWords(Exception):
+    """Words that are no analysis. The text says why."""
+
+
+class Judging(argparse.ArgumentParser):
+    """A parser that ends no run where the words are wrong."""
+
+    def error(self, message: str) -> NoReturn:
+        raise WrongWords(message)
+
+
+def parser(kind: type[argparse.ArgumentParser] = argparse.ArgumentParser) -> argparse.ArgumentParser:
+    made = kind(prog="analysis", usage=named(USAGE), description=ABOUT, epilog=END, formatter_class=argparse.RawDescriptionHelpFormatter)
     source = made.add_mutually_exclusive_group(required=True)
     source.add_argument("--log", metavar="FILE", help="the access log of the switch, BG_SWITCH_ACCESS_LOG")
     source.add_argument("--prometheus", metavar="URL", help="a Prometheus server, such as http://127.0.0.1:9090")
@@ -100,6 +112,14 @@ def fault_of(given: argparse.Namespace) -> str:
         return "" if has_limit else "a limit is needed: --errors-at-most, --p99-at-most or both"
     from bg_switch_tools.analysis import prometheus_options  # here, since HTTP would make each start of the other tools slower
     return prometheus_options.fault_of(given)
+
+
+def fault_of_words(words: Sequence[str]) -> str:
+    """Why these words are no analysis; empty where they are one."""
+    try:
+        return fault_of(parser(Judging).parse_args(words))
+    except WrongWords as wrong:
+        return str(wrong)
 
 
 def judge(given: argparse.Namespace) -> int:

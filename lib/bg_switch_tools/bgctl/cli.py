@@ -1,24 +1,27 @@
 """bin/bgctl: one command for an operator of the switch and of its controller."""
 import argparse
 import importlib
+import itertools
 import os
 import sys
 from collections.abc import Callable, Sequence
 
+from bg_switch_tools import VERSION
 from bg_switch_tools.analysis import cli as analysis_cli
-from bg_switch_tools.bgctl.argument_parser import parser, place_of_command, wrong_command
+from bg_switch_tools.bgctl.argument_parser import in_order, parser, wrong_command
 from bg_switch_tools.bgctl.commands import NAMES, NEWCOMER
-from bg_switch_tools.bgctl.deploy import deploy, tell_pause, undo
+from bg_switch_tools.bgctl.deploy import deploy, tell_absence, tell_pause, undo
 from bg_switch_tools.bgctl.exit_statuses import DONE, NO_ANSWER, REFUSED
 from bg_switch_tools.bgctl.history_table import show
 from bg_switch_tools.bgctl.session import Session, tell
-from bg_switch_tools.bgctl.target import Target, Unusable
+from bg_switch_tools.bgctl.target import Target, Unusable, readable
 from bg_switch_tools.controller.pause import PauseFile
 from bg_switch_tools.controller.plan import PlannedRevision
 from bg_switch_tools.dashboard import cli as dashboard_cli
 from bg_switch_tools.operator.cli import INTERRUPTED
 from bg_switch_tools.operator.conditions import Conditions, WrongCondition
 from bg_switch_tools.switch.connection import Unreachable
+from bg_switch_tools.switch.installed_names import named
 from bg_switch_tools.switch.reports import NoReport
 
 PAUSED_BY_PLAN = "only a controller is paused"
@@ -54,7 +57,8 @@ class CommandRun:
         return undo(self.session(), self.target, self.given.to, self.given.ports, self.given.wait)
 
     def promote(self) -> int:
-        return self.session().line("promote full" if self.given.full else "promote")
+        line = "promote full" if self.given.full else "promote"
+        return self.session().line_for(self.given.name, line) if self.given.name else self.session().line(line)
 
     def abort(self) -> int:
         return self.session().line("abort")
@@ -63,12 +67,20 @@ class CommandRun:
         return self.session().line("retry")
 
     def line(self) -> int:
+        session = self.session()
         if self.given.words:
-            return self.session().line(" ".join(self.given.words))
-        return self.session().send_lines(line.removesuffix(b"\n") for line in sys.stdin.buffer)
+            return session.line(" ".join(self.given.words))
+        lines = (line.removesuffix(b"\n") for line in sys.stdin.buffer)
+        first = next(lines, None)
+        if first is None:
+            tell("there is no line to send: bgctl line WORD.., or lines on standard input")
+            return NO_ANSWER
+        return session.send_lines(itertools.chain([first], lines))
 
     def prompt(self) -> int:
-        return self.session().prompt()
+        session = self.session()
+        session.report()  # a switch that gives no answer is told at once
+        return session.prompt()
 
     def shutdown(self) -> int:
         return self.session().shut_down()
@@ -77,8 +89,10 @@ class CommandRun:
         return show(self.target.needed_path("the controller of a plan keeps the history"), self.given.last, self.given.json)
 
     def pause(self) -> int:
-        paused = PauseFile(self.target.needed_path(PAUSED_BY_PLAN)).pause()
-        print(f"the controller is {paused.text()}")
+        path = self.target.needed_path(PAUSED_BY_PLAN)
+        paused = PauseFile(path).pause()
+        print(f"the controller is {paused.text()}", flush=True)
+        tell_absence(path)
         return DONE
 
     def resume(self) -> int:
@@ -88,15 +102,15 @@ class CommandRun:
 
     def check(self) -> int:
         from bg_switch_tools.controller import cli as controller_cli  # here, since few commands need it and its HTTP
-        return controller_cli.check(self.plan_path("a plan is judged"))
+        return controller_cli.check(self.plan_path("a plan is judged"), self.given.rollout)
 
     def controller(self) -> int:
         from bg_switch_tools.controller import cli as controller_cli
         return controller_cli.run(self.plan_path("a controller runs a plan"), self.given.json)
 
     def plan_path(self, why: str) -> str:
-        """The plan that stands after the command, or else that of the target."""
-        return self.given.path or self.target.needed_path(why)
+        """The plan that stands after the command, or else that of the target. `Unusable` where its file can't be read."""
+        return readable(self.given.path) if self.given.path else self.target.needed_path(why)
 
     def analysis(self) -> int:
         port = None if self.given.control else self.target.known_port()
@@ -106,7 +120,16 @@ class CommandRun:
         words = [str(self.target.port()), "--listen", str(self.given.listen), "--log", self.given.log]
         fleet = ["--fleet", self.given.fleet] if self.given.fleet else []
         fleet += ["--agent-state", self.given.agent_state] if self.given.agent_state else []
-        return dashboard_cli.main([*words, *fleet, *(["--read-only"] if self.given.read_only else [])])
+        plan = ["--plan", self.target.path] if self.target.path else []
+        return dashboard_cli.main([*words, *fleet, *plan, *(["--read-only"] if self.given.read_only else [])])
+
+    def help(self) -> int:
+        parser().parse_args([*([self.given.name] if self.given.name else []), "--help"])
+        return DONE
+
+    def version(self) -> int:
+        print(f"bgctl {VERSION}")
+        return DONE
 
     def run(self) -> int:
         """Carries the command out. Gives the exit status."""
@@ -155,10 +178,10 @@ def main(words: Sequence[str]) -> int:
     if ASKED in os.environ:
         return complete()
     if not words:
-        print(NEWCOMER)
+        print(named(NEWCOMER))
         return DONE
     made = parser()
-    place = place_of_command(words)
+    words, place = in_order(words, made.valued)
     if place is not None and words[place] not in NAMES:
         tell(wrong_command(words[place]))
         return NO_ANSWER

@@ -14,12 +14,15 @@ class Command(NamedTuple):
 
 
 BGCTL_COMMANDS = (
-    Command("status", "shows the state in one line", "bgctl status --control 8082"),
+    Command("status", "shows the state in one line", "bgctl status --control 8082",
+            "With a plan, it also tells whether a controller runs the plan, and which revisions of the plan the controller holds back."),
     Command("watch", "draws the state once a second, and each change, until ctrl-C", "bgctl watch"),
     Command("deploy", "deploys a revision", "bgctl deploy web-v2 9201 9202 --plan plan.json --wait",
             "With a plan, the revision becomes the last one of the plan, in one step, and its controller deploys it. Without a plan, "
-            "the line `deploy` is sent to the switch. The revision has one port for each replica."),
-    Command("promote", "ends the pause of the attempt, so that live traffic moves to the new revision", "bgctl promote"),
+            "the line `deploy` is sent to the switch. The revision has one port for each replica. A name keeps its ports: other ports need a "
+            "new name."),
+    Command("promote", "ends the pause of the attempt, so that live traffic moves to the new revision", "bgctl promote web-v2",
+            "With NAME, nothing is sent if another revision is the newest: somebody else may have deployed one meanwhile."),
     Command("undo", "deploys the revision again that was stable before the newest one", "bgctl undo --to web-v1",
             "With a plan, that revision becomes the last one of the plan. Without a plan, the line `deploy` is sent, and --ports "
             "names the ports, which the switch does not report."),
@@ -39,7 +42,9 @@ BGCTL_COMMANDS = (
             "docs/LINES.md has each line and its replies."),
     Command("prompt", "opens a prompt for lines and commands", "bgctl prompt --control 8082"),
     Command("shutdown", "asks, and then shuts the switch down gracefully", "bgctl shutdown --yes"),
-    Command("check", "judges a plan: prints its problems, and carries nothing out", "bgctl check plan.json"),
+    Command("check", "judges a plan: prints its problems, and carries nothing out", "bgctl check plan.json --rollout rollout.json",
+            "With --rollout, it also tells in what the plan and the Rollout do not fit one another: the number of replicas, and the "
+            "analyses."),
     Command("controller", "runs a rollout by a plan, until SIGTERM or ctrl-C", "bgctl controller plan.json",
             "bin/controller -h explains the plan."),
     Command("analysis", "judges a revision by its requests in the access log",
@@ -47,16 +52,21 @@ BGCTL_COMMANDS = (
             "bin/analysis -h explains the measurements."),
     Command("dashboard", "shows the switch as a web page, and gives its metrics", "bgctl dashboard --listen 8090 --log access.log",
             "docs/DASHBOARD.md explains the page and the metrics."),
+    Command("help", "explains a command, or lists all of them", "bgctl help deploy"),
+    Command("version", "prints the version", "bgctl version"),
 )
 NAMES = tuple(command.name for command in BGCTL_COMMANDS)
 FIRST_ONES = ("status", "watch", "deploy", "promote", "undo")
+# What other tools call a command of bgctl.
+OTHER_WORDS = {"rollback": "undo", "rollout": "deploy", "revert": "undo", "release": "deploy", "start": "controller", "stop": "shutdown",
+               "validate": "check", "lint": "check", "log": "history", "logs": "history", "list": "history"}
 LINE_WORDS = tuple(dict.fromkeys(line.syntax.split()[0] for line in LINES))
 
 NEWCOMER = "\n".join((
     "bgctl operates a blue-green switch and its controller. The five commands to begin with:", "",
     *(f"  {command.name:8} {command.meaning}" for name in FIRST_ONES for command in BGCTL_COMMANDS if command.name == name), "",
     "A release, with the control port of the plan:", "",
-    "  export BG_PLAN=/etc/bg_switch/plan.json",
+    "  export BG_PLAN=/var/lib/bg/plan.json",
     "  bgctl deploy web-v2 9201 9202",
     "  bgctl wait phase=paused newest=web-v2",
     "  bgctl promote",

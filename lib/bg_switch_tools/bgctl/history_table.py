@@ -3,7 +3,7 @@ import json
 
 from bg_switch_tools.bgctl.exit_statuses import DONE, REFUSED
 from bg_switch_tools.bgctl.session import tell
-from bg_switch_tools.controller.attempts import BEGINNINGS, DEPLOYED, Attempt
+from bg_switch_tools.controller.attempts import BEGINNINGS, DEPLOYED, UNDEPLOYED, Attempt
 from bg_switch_tools.controller.history_file import HistoryFile
 from bg_switch_tools.controller.log import local_time
 
@@ -22,7 +22,7 @@ def duration(seconds: float) -> str:
 
 def _by(attempt: Attempt) -> str:
     """By whom, and how it began where that was no deploy."""
-    return attempt.by if attempt.began == DEPLOYED else f"{attempt.by} ({attempt.began})"
+    return attempt.by if attempt.began in (DEPLOYED, UNDEPLOYED) else f"{attempt.by} ({attempt.began})"
 
 
 def _live_for(attempt: Attempt, now: str) -> str:
@@ -35,13 +35,15 @@ def _live_for(attempt: Attempt, now: str) -> str:
 
 def _cells(attempt: Attempt, now: str) -> tuple[str, ...]:
     how = attempt.how or ("runs" if attempt.begun else "")
+    if attempt.began == UNDEPLOYED:
+        return (attempt.begun, f"- {attempt.name}", _by(attempt), f"not deployed: {how}", "-")
     return (attempt.begun or "before", f"{attempt.number} {attempt.name}", _by(attempt), how, _live_for(attempt, now))
 
 
 def as_json(attempt: Attempt, now: str) -> dict[str, object]:
     """An attempt as an object of JSON; what is not known, or has not come yet, is null."""
-    return {"begun": attempt.begun or None, "began": attempt.began if attempt.began in BEGINNINGS else None, "name": attempt.name,
-            "number": attempt.number, "ports": list(attempt.ports), "by": attempt.by or None, "how": attempt.how or None,
+    return {"begun": attempt.begun or None, "began": attempt.began if attempt.began in (*BEGINNINGS, UNDEPLOYED) else None,
+            "name": attempt.name, "number": attempt.number or None, "ports": list(attempt.ports), "by": attempt.by or None, "how": attempt.how or None,
             "ended": attempt.ended or None, "live_seconds": attempt.live_seconds(now), "is_live": bool(attempt.live_since)}
 
 

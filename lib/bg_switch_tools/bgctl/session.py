@@ -5,6 +5,7 @@ import sys
 from bg_switch_tools.bgctl.target import Target
 from bg_switch_tools.operator import cli as operator_cli
 from bg_switch_tools.operator.cli import Operator
+from bg_switch_tools.operator.line_sender import send_line_for
 from bg_switch_tools.switch.connection import ask
 from bg_switch_tools.switch.reports import Report, read_report
 
@@ -32,6 +33,12 @@ class Session(Operator):
     def report(self) -> Report | None:
         """The report; None where no book is open."""
         return read_report(ask(self.port, b"report", self.wait))
+
+    def line_for(self, name: str, text: str) -> int:
+        """Carries a line out, if the newest revision has this name. Gives the exit status."""
+        reply = send_line_for(self.port, name, text.encode("ascii"), self.wait)
+        self.show(reply)
+        return 0 if reply.carried_out else 1
 
     def line(self, text: str) -> int:
         """Carries one line out. Gives the exit status."""

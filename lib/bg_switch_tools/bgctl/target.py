@@ -23,6 +23,15 @@ def _option(given: argparse.Namespace, name: str) -> Any:
     return getattr(given, BEFORE + name, None) if told is None else told
 
 
+def readable(path: str) -> str:
+    """The path of a plan, whose file can be read. `Unusable` where it can't."""
+    try:
+        with open(path, "rb"):
+            return path
+    except OSError as error:
+        raise Unusable(f"the plan {path} can't be read: {error.strerror}") from None
+
+
 class Target:
     """The plan and the control port: each by its option, or else by its variable. A port that neither names is the plan's."""
 
@@ -34,11 +43,7 @@ class Target:
         """The path of the plan, whose file can be read. `Unusable` where none is named (then `why` says what it is for)."""
         if self.path is None:
             raise Unusable(f"{why}: --plan FILE or the variable {PLAN} names the plan")
-        try:
-            with open(self.path, "rb"):
-                return self.path
-        except OSError as error:
-            raise Unusable(f"the plan {self.path} can't be read: {error.strerror}") from None
+        return readable(self.path)
 
     def plan(self) -> Plan | None:
         """The plan; None where none is named. `Unusable` where it is wrong, or can't be read."""

@@ -4,17 +4,19 @@ from collections.abc import Sequence
 from bg_switch_tools.bgctl.suggestion import did_you_mean
 from bg_switch_tools.bgctl.target import Unusable
 from bg_switch_tools.controller.attempts import STABLE, Attempt
+from bg_switch_tools.controller.kept_ports import Kept
 from bg_switch_tools.controller.plan import Plan, PlannedRevision
 from bg_switch_tools.switch.reports import Report
 
 
 class KnownRevisions:
-    """What is known of revisions: the report, the history (none without a plan), and the plan."""
+    """What is known of revisions: the report, the history (none without a plan), the plan, and the ports that names keep."""
 
-    def __init__(self, report: Report, attempts: Sequence[Attempt], plan: Plan | None) -> None:
+    def __init__(self, report: Report, attempts: Sequence[Attempt], plan: Plan | None, kept: Kept) -> None:
         self.report = report
         self.attempts = attempts
         self.plan = plan
+        self.kept = kept
 
     def before(self) -> str:
         """The name of the revision that was stable before the newest one. Without a history that is the only other revision.
@@ -48,11 +50,10 @@ class KnownRevisions:
         return list(dict.fromkeys([*existing, *planned, *(attempt.name for attempt in self.attempts)]))
 
     def ports(self, name: str) -> tuple[int, ...]:
-        """The ports of a revision: those of the plan, or else those of its latest attempt; none where they are not known."""
-        planned = self.plan.named(name) if self.plan else None
-        if planned:
-            return planned.ports
-        return next((attempt.ports for attempt in reversed(self.attempts) if attempt.name == name and attempt.ports), ())
+        """The ports of a revision: those that it was opened or deployed with, or else those of the plan; none where they are not
+        known."""
+        known = self.kept.get(name) or (self.plan.named(name) if self.plan else None)
+        return known.ports if known else ()
 
 
 def revision_to_undo_to(known: KnownRevisions, to: str | None, ports: Sequence[int]) -> PlannedRevision:

@@ -7,8 +7,9 @@ from bg_switch_tools.switch.json_values import NAME, decoded
 
 OPENED, DEPLOYED, RETRIED = "opened", "deployed", "retried"  # by which an attempt begins
 ENDED, LIVE, LOST = "ended", "live", "lost"
+UNDEPLOYED = "undeployed"  # the plan named a revision last, and it was not deployed
 BEGINNINGS = (OPENED, DEPLOYED, RETRIED)
-KINDS = (*BEGINNINGS, ENDED, LIVE, LOST)
+KINDS = (*BEGINNINGS, ENDED, LIVE, LOST, UNDEPLOYED)
 STABLE, ABORTED, UNDONE, REPLACED = "stable", "aborted", "undone", "replaced"  # how one ends, and `lost`
 MOST_ATTEMPTS = 10_000  # that are kept, the latest ones
 
@@ -17,7 +18,7 @@ MOST_ATTEMPTS = 10_000  # that are kept, the latest ones
 class Event:
     """An event of the revision of this name and number. `opened`, `deployed` and `retried` begin an attempt, `by` whom; `ended`
     tells `how` it ended; from `live` on the active service selects the revision; `lost` says that the switch was started again,
-    and is of no revision."""
+    and is of no revision; `undeployed` tells `how` a revision, which has no number then, was not deployed."""
     time: str  # ISO 8601
     event: str
     name: str = ""
@@ -71,7 +72,7 @@ class Attempt:
     name: str
     number: int
     begun: str = ""
-    began: str = DEPLOYED  # one of `BEGINNINGS`
+    began: str = DEPLOYED  # one of `BEGINNINGS`, or `UNDEPLOYED` for one that has not begun
     by: str = ""
     ports: tuple[int, ...] = ()
     how: str = ""
@@ -97,7 +98,8 @@ class Attempts:
 
     @property
     def newest(self) -> Attempt | None:
-        return self.all[-1] if self.all else None
+        """The latest one that has begun."""
+        return next((attempt for attempt in reversed(self.all) if attempt.began != UNDEPLOYED), None)
 
     def take(self, event: Event) -> None:
         """Takes in the event that comes next."""
@@ -107,8 +109,9 @@ class Attempts:
             return
         if event.event in BEGINNINGS:
             self.is_lost = False
-            self.all.append(Attempt(event.name, event.number, event.time, event.event, event.by, event.ports))
-            del self.all[:-MOST_ATTEMPTS]
+            self._add(Attempt(event.name, event.number, event.time, event.event, event.by, event.ports))
+        elif event.event == UNDEPLOYED:
+            self._add(Attempt(event.name, event.number, event.time, event.event, event.by, how=event.how, ended=event.time))
         elif event.event == ENDED:
             attempt = self._latest(event)
             attempt.how, attempt.ended = event.how, event.time
@@ -116,6 +119,10 @@ class Attempts:
             self._leave(event.time)
             self.live = self._latest(event)
             self.live.live_since = event.time
+
+    def _add(self, attempt: Attempt) -> None:
+        self.all.append(attempt)
+        del self.all[:-MOST_ATTEMPTS]
 
     def _leave(self, time: str) -> None:
         """Nothing is live any more."""

@@ -4,7 +4,7 @@ from collections.abc import Iterable
 
 from bg_switch_tools.controller.book import Book
 from bg_switch_tools.controller.log import Log, OncePerRevision
-from bg_switch_tools.controller.memory import Revisions
+from bg_switch_tools.controller.memory import Known, Revisions
 from bg_switch_tools.controller.plan import Plan, PlannedRevision
 from bg_switch_tools.controller.probes import Probes
 from bg_switch_tools.switch.connection import Connection
@@ -84,16 +84,20 @@ class Availability:
         ports = dict.fromkeys(port for revision in revisions for port in revision.ports if self.probes.is_down(port))
         return tuple(ports)[:MOST_DOWN]
 
-    def report(self, book: Book, connection: Connection, plan: Plan, report: Report, known: Revisions) -> None:
+    def report(self, book: Book, connection: Connection, plan: Plan, report: Report, known: Known) -> None:
         """Tells the switch which ports are down, and of each revision how many endpoints are available."""
+        revisions = known.revisions
         sized = [revision for revision in report.revisions.values() if revision.desired]
         first = [report.service("active"), report.newest, *sized]
         if plan.redispatch:
-            self.down.tell(connection, self.down_ports(known[each.name] for each in first if each.name in known))
+            self.down.tell(connection, self.down_ports(revisions[each.name] for each in first if each.name in revisions))
         for number, revision in report.revisions.items():
-            planned = known.get(revision.name)
+            if revision.name == known.asked:
+                continue
+            planned = revisions.get(revision.name)
             if planned is None:
-                self.once.say("unknown", revision, "is not in the plan: its endpoints are not probed")
+                what = "has other ports than the plan names" if plan.named(revision.name) else "is not in the plan"
+                self.once.say("unknown", revision, f"{what}: its endpoints are not probed")
                 continue
             up = self.count(plan, planned.ports)
             if up is not None and min(up, revision.desired) != revision.available:

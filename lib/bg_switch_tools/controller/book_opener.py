@@ -15,6 +15,7 @@ from bg_switch_tools.switch.lines import was_carried_out, with_meaning
 from bg_switch_tools.switch.reports import Report
 
 FIRST_PROBE = 1  # seconds for which an opening waits for the first probes
+COMPARED = "bgctl check PLAN --rollout FILE compares the plan with the Rollout of the switch, and says what to do"
 
 
 class CannotOpen(Exception):
@@ -45,6 +46,7 @@ class BookOpener:
 
     def settle(self, plan: Plan, report: Report) -> None:
         """Takes in by a report whether the opening whose reply was lost was carried out."""
+        self.memory.take_book()
         if self.sent and report.stable.name == self.sent.name:
             self._take_opened(plan, self.sent)
         self.sent = self.book.lost = None
@@ -52,17 +54,36 @@ class BookOpener:
     def open(self, connection: Connection, plan: Plan) -> bool:
         """Opens the book. False where that has to wait, or is refused."""
         now, (revision, why) = time.monotonic(), self.source.to_open(plan)
-        if now < self.next or self._waits_for_endpoints(plan, revision):
+        if now < self.next or self._is_refused(plan) or self._waits_for_endpoints(plan, revision):
             return False
         self.log.say("switch", f"no book is open: it is opened with {revision.name}, {why}")
         reply = self._send(connection, plan, revision)
         if was_carried_out(reply):
             self._take_opened(plan, revision)
             return True
-        self.next = now + AGAIN
-        if not self.has_had_book:
-            raise CannotOpen(f"the switch can't be opened with {revision.name}: open {revision.words} => {with_meaning(reply)}")
+        hint = f". {COMPARED}" if reply == "refused BadPorts" else ""
+        self._refuse(f"the switch can't be opened with {revision.name}: open {revision.words} => {with_meaning(reply)}{hint}")
         return False
+
+    def _refuse(self, why: str) -> None:
+        """Tells each minute why clients wait. `CannotOpen` where no book was open yet."""
+        if not self.has_had_book:
+            raise CannotOpen(why)
+        self.next = time.monotonic() + AGAIN
+        self._tell("switch", f"no book is open, and clients wait: {why}")
+
+    def _is_refused(self, plan: Plan) -> bool:
+        """Whether no switch is opened by this plan."""
+        why = self.memory.why_not_opened(plan)
+        if why:
+            self._refuse(why)
+        return bool(why)
+
+    def _tell(self, event: str, text: str) -> None:
+        """Tells something in the log and on standard error."""
+        self.log.say(event, text)
+        with contextlib.suppress(OSError):  # as in the log
+            print(f"controller: {text}", file=sys.stderr, flush=True)
 
     def _waits_for_endpoints(self, plan: Plan, revision: PlannedRevision) -> bool:
         """Whether the first probes, or the endpoints that the plan starts, are waited for: clients wait as well, while an open
@@ -106,8 +127,6 @@ class BookOpener:
         """Tells, when the controller starts, that the plan's revisions have not one port for each replica."""
         ports, replicas = len(plan.first.ports), report.stable.desired
         if not self.has_had_book and ports != replicas:
-            text = f"the number of ports of each revision of the plan is {ports}, and the switch needs one for each of {replicas} replicas"
-            self.log.say("plan", text)
-            with contextlib.suppress(OSError):  # as in the log
-                print(f"controller: {text}", file=sys.stderr, flush=True)
+            self._tell("plan", f"the number of ports of each revision of the plan is {ports}, and the switch needs one for each of "
+                       f"{replicas} replicas. {COMPARED}")
         self.has_had_book = True

@@ -1,6 +1,5 @@
 """bin/controller: runs a rollout by a plan, or judges a plan."""
 import argparse
-import os
 import signal
 import sys
 import threading
@@ -12,25 +11,28 @@ from bg_switch_tools.controller.book_opener import CannotOpen
 from bg_switch_tools.controller.controller import Controller, files_beside
 from bg_switch_tools.controller.log import Log
 from bg_switch_tools.controller.plan import Plan
-from bg_switch_tools.controller.plan_edit import deploy_by_plan
+from bg_switch_tools.controller.plan_check import problems_of
+from bg_switch_tools.controller.plan_edit import OtherPorts, deploy_by_plan
 from bg_switch_tools.controller.plan_file import PlanFile, read_whole_plan
-from bg_switch_tools.controller.plan_limits import missing_commands
 from bg_switch_tools.controller.plan_reader import WrongPlan
 from bg_switch_tools.controller.probes import Probes
 from bg_switch_tools.controller.state_file import IsLocked, StateLock
 from bg_switch_tools.controller.switch_silence import SwitchSilence
 from bg_switch_tools.switch.connection import Connection, Unreachable
+from bg_switch_tools.switch.installed_names import named
 from bg_switch_tools.switch.reports import NoReport
 
 USAGE = """bin/controller [--json] PLAN              runs the plan, until SIGTERM or ctrl-C
-       bin/controller check PLAN                judges it: prints its problems, and carries nothing out
+       bin/controller check PLAN [--rollout FILE]   judges it: prints its problems, and carries nothing out
        bin/controller deploy PLAN NAME PORT..   makes a revision the last one of the plan, which a running controller then deploys"""
 ABOUT = """
 The controller looks at the switch five times a second. It ticks each second (the moment is the number of seconds since the book
 was opened first), tells the switch which ports are down and how many endpoints of each revision are up, runs the analysis that
 the phase needs and sends its verdict, starts and stops endpoints if the plan has commands for it, and deploys the
 plan's last revision once the plan names it. If no book is open, it opens one with the revision that was stable, by the state file
-beside the plan, or else with the plan's first revision. The plan is read again when its file changes: a deploy is an edit of it.
+beside the plan and with the ports that were live, or else with the plan's first revision; a plan that names no revision that was
+live opens none. The plan is read again when its file changes: a deploy is an edit of it. A name keeps its ports: a revision with
+other ones is held back, and needs a new name.
 The controller does not change what an operator does (bin/operator): promote, abort, retry, an undo.
 
 A plan:
@@ -76,9 +78,11 @@ LONGEST_END = 1.2  # seconds for the round to end after a signal
 class Runner:
     """Runs one round after the other, in a thread of its own, until it is stopped."""
 
-    def __init__(self, file: PlanFile, plan: Plan, log: Log) -> None:
+    def __init__(self, file: PlanFile, plan: Plan, log: Log, lock: StateLock | None = None) -> None:
+        """`lock` is that of the plan, which `stop` lets go; None where the folder takes none."""
         self.file = file
         self.log = log
+        self.lock = lock
         self.controller = Controller(files_beside(file.path), plan, log, Probes())
         self.silence = SwitchSilence(log, MINUTE)
         self.stopping = threading.Event()
@@ -90,6 +94,8 @@ class Runner:
     def _run(self) -> None:
         pause = 0.0
         while not self.unfit and not self.stopping.wait(pause):
+            if self.lock:
+                self.lock.touch()
             self._read_again()
             pause = self._round()
         self.controller.end()
@@ -136,6 +142,8 @@ class Runner:
             self.controller.launcher.begin_end()
             self.controller.analyses.end_at_last()
         self.controller.probes.stop()
+        if self.lock:
+            self.lock.release()
 
 
 def tell(text: str) -> None:
@@ -162,14 +170,11 @@ def run(path: str, as_json: bool) -> int:
         return 1
     except OSError as error:
         tell(f"the lock file beside {path} cannot be made, so a second controller is not noticed: {error.strerror}")
-        return run_locked(file, plan, as_json)
-    try:
-        return run_locked(file, plan, as_json)
-    finally:
-        lock.release()
+        return run_locked(file, plan, as_json, None)
+    return run_locked(file, plan, as_json, lock)
 
 
-def run_locked(file: PlanFile, plan: Plan, as_json: bool) -> int:
+def run_locked(file: PlanFile, plan: Plan, as_json: bool, lock: StateLock | None) -> int:
     """Runs a plan until a signal comes. Gives the exit status."""
     signals: list[int] = []
 
@@ -177,7 +182,7 @@ def run_locked(file: PlanFile, plan: Plan, as_json: bool) -> int:
         signals.append(number)
     for number in (signal.SIGTERM, signal.SIGINT):
         signal.signal(number, note)
-    runner = Runner(file, plan, Log(sys.stdout, as_json))
+    runner = Runner(file, plan, Log(sys.stdout, as_json), lock)
     runner.thread.start()
     while runner.thread.is_alive() and not signals:
         time.sleep(LOOK)
@@ -188,10 +193,16 @@ def run_locked(file: PlanFile, plan: Plan, as_json: bool) -> int:
     return 70 if runner.has_fault and not runner.thread.is_alive() else 0
 
 
-def check(path: str) -> int:
-    """Prints what is wrong with a plan, and which of its commands are not there. Gives the exit status."""
+def check(path: str, rollout: str | None = None) -> int:
+    """Prints what is wrong with a plan, with its commands, and with its revisions by the files beside it; and in what the Rollout of
+    this file does not fit the plan. Gives the exit status."""
     try:
-        problems = missing_commands(read_whole_plan(path), os.path.dirname(os.path.abspath(path)))
+        with open(path, "rb"):
+            pass
+        problems = problems_of(path, read_whole_plan(path), rollout)
+    except OSError as error:
+        tell(f"{path} can't be read: {error.strerror}")
+        return 1
     except WrongPlan as wrong:
         problems = wrong.problems
     print("\n".join(problems) if problems else f"{path} is a plan")
@@ -202,6 +213,9 @@ def deploy(path: str, name: str, ports: Sequence[str]) -> int:
     """Makes a revision the last one of a plan, which a controller then deploys. Gives the exit status."""
     try:
         print(deploy_by_plan(path, name, [port_or_none(port) for port in ports]))
+    except OtherPorts as wrong:
+        tell_problems(f"{path} stays as it is", wrong)
+        return 1
     except WrongPlan as wrong:
         tell_problems(f"{path} stays as it is, since with {name} it would not be a plan", wrong)
         return 1
@@ -217,16 +231,17 @@ def port_or_none(text: str) -> int:
 
 
 def main(words: Sequence[str]) -> int:
-    parser = argparse.ArgumentParser(prog="controller", usage=USAGE, description="Runs a rollout by a plan.", epilog=ABOUT,
+    parser = argparse.ArgumentParser(prog="controller", usage=named(USAGE), description="Runs a rollout by a plan.", epilog=named(ABOUT),
                                      formatter_class=argparse.RawDescriptionHelpFormatter)
     parser.add_argument("--json", action="store_true", help="writes each line of the log as an object of JSON")
     parser.add_argument("words", nargs="+", metavar="[check | deploy] PLAN", help="the file of the plan; `check` judges it without a run, "
                         "`deploy` makes a revision its last one")
+    parser.add_argument("--rollout", metavar="FILE", help="`check` compares the plan with this Rollout, with which the switch is started")
     given = parser.parse_args(words)
-    if len(given.words) == 1 and given.words[0] not in ("check", "deploy"):
+    if len(given.words) == 1 and given.words[0] not in ("check", "deploy") and given.rollout is None:
         return run(given.words[0], given.json)
     if len(given.words) == 2 and given.words[0] == "check" and not given.json:
-        return check(given.words[1])
-    if len(given.words) >= 4 and given.words[0] == "deploy" and not given.json:
+        return check(given.words[1], given.rollout)
+    if len(given.words) >= 4 and given.words[0] == "deploy" and not given.json and given.rollout is None:
         return deploy(given.words[1], given.words[2], given.words[3:])
     parser.error("give the file of one plan: PLAN runs it, check PLAN checks it, and deploy PLAN NAME PORT.. deploys a revision by it")

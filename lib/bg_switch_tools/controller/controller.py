@@ -9,6 +9,7 @@ from bg_switch_tools.controller.analysis_runner import AnalysisRunner
 from bg_switch_tools.controller.availability import Availability
 from bg_switch_tools.controller.book import AGAIN, Book
 from bg_switch_tools.controller.book_opener import BookOpener
+from bg_switch_tools.controller.held_back import HeldRevisions
 from bg_switch_tools.controller.history_recorder import HistoryRecorder
 from bg_switch_tools.controller.launcher import Launcher
 from bg_switch_tools.controller.line_source import LineSource, MakeSource, SourceParts
@@ -66,10 +67,12 @@ class Controller:
         self.availability = Availability(log, self.once, probes)
         self.analyses = AnalysisRunner(folder, log, self.once, self.memory, probes)
         self.launcher = Launcher(folder, log, self.memory, probes)
-        self.source: LineSource = makers.source(SourceParts(log, self.memory, self.history, self.pause, self.launcher))
+        self.held = HeldRevisions(log, self.memory)
+        self.source: LineSource = makers.source(SourceParts(log, self.memory, self.history, self.pause, self.launcher, self.held))
         self.opening = BookOpener(log, self.memory, self.book, self.availability, self.source)
         self.progress = ProgressClock()
         self.next_line = 0.0  # the time from which on the source is asked for a line
+        self.held.look(plan)
         self._watch_endpoints()
 
     def _watch_endpoints(self) -> None:
@@ -89,19 +92,22 @@ class Controller:
             self.opening.sent = None
             self.launcher.former.add(self.plan.control)
         self.plan, self.next_line = plan, 0.0
+        self.memory.take_plan(plan)
         self.opening.forget_book()
         self.analyses.take_plan(plan)
         self.notifier.commands = plan.commands
+        self.held.look(plan)
         self._watch_endpoints()
 
     def do_round(self, connection: Connection) -> float:
         """One round. Gives the seconds until the next one. `Unreachable` where the switch stops answering in the middle."""
         self.pause.look()
+        self.held.look(self.plan)
         report = self._open_book(connection)
         if report is None:
             return SOON if self.opening.is_early() else ROUND
         self.opening.check_sizes(self.plan, report)
-        self.history.take_in(report, self.memory.revisions(self.plan))
+        self.history.take_in(report, self.memory.noted(self.plan))
         report = self._tick(connection, report)
         self.source.take_report(self.plan, report)
         for step in (self._report_availability, self._judge, self._limit_progress, self._launch, self._send_lines):
@@ -127,7 +133,8 @@ class Controller:
         if report is not None:
             self.opening.settle(self.plan, report)
             return report
-        self.launcher.start_and_stop(self.plan, None, self.memory.revisions(self.plan), self.source.to_open(self.plan)[0])
+        coming = None if self.memory.why_not_opened(self.plan) else self.source.to_open(self.plan)[0]
+        self.launcher.start_and_stop(self.plan, None, self.memory.revisions(self.plan), coming)
         if not self.opening.open(connection, self.plan):
             return None
         self.clock.begin_at(self.memory.state.moment)
@@ -152,9 +159,9 @@ class Controller:
         return self.book.open_report(connection)
 
     def _report_availability(self, connection: Connection, report: Report) -> None:
-        known = self.memory.revisions(self.plan)
+        known = self.memory.known_ports(self.plan)
         self.availability.report(self.book, connection, self.plan, report, known)
-        self.availability.watch_live(self.book, connection, self.plan, report, known)
+        self.availability.watch_live(self.book, connection, self.plan, report, known.revisions)
 
     def _judge(self, connection: Connection, report: Report) -> None:
         why = self.source.why_not_judged(self.plan, report)

@@ -1,14 +1,14 @@
 """Writes the history of a plan's rollout, from the reports that its controller reads."""
 from bg_switch_tools.controller.attempts import (ABORTED, DEPLOYED, ENDED, LIVE, LOST, OPENED, REPLACED, RETRIED, STABLE,
-                                            UNDONE, Attempt, Attempts, Event)
+                                            UNDEPLOYED, UNDONE, Attempt, Attempts, Event)
 from bg_switch_tools.controller.history_file import HistoryFile
 from bg_switch_tools.controller.log import Log, local_time
 from bg_switch_tools.controller.memory import Revisions
 from bg_switch_tools.controller.plan import PlannedRevision
-from bg_switch_tools.controller.plan_author import Author
+from bg_switch_tools.controller.plan_author import PLAN, Author
 from bg_switch_tools.switch.reports import Report, Revision
 
-PLAN, LINE = "plan", "line"  # by whom: an edit of the plan by other means than bgctl; a line that somebody sent to the switch
+LINE = "line"  # by whom: a line that somebody sent to the switch
 
 
 class HistoryRecorder:
@@ -28,17 +28,42 @@ class HistoryRecorder:
         newest = self.attempts.newest
         is_noted = deployed is None or newest is not None and newest.name == deployed.name
         self.announced = deployed.name if deployed and not is_noted else ""  # what the controller deploys by its plan
+        self.planned: PlannedRevision | None = None  # the last revision of the plan
+        self.planned_by = PLAN  # who has made it the last one
+        self.failed: PlannedRevision | None = None  # the revision whose start was noted to have failed
 
     def announce(self, revision: PlannedRevision) -> None:
         """The controller is about to deploy this revision by its plan."""
         self.announced = revision.name
+
+    def take_plan(self, last: PlannedRevision, deployed: PlannedRevision | None) -> None:
+        """The plan names this revision last; `deployed` is what was deployed by the plan. Notes what was overtaken before its deploy."""
+        before, before_by = self.planned, self.planned_by
+        if last == before:
+            return
+        self.planned, self.planned_by = last, self.author.name() or PLAN
+        overtaken = self.author.overtaken()
+        for each in overtaken:
+            self._note_undeployed(each.name, each.who, f"overtaken by {each.by}", each.when)
+        if before and before != deployed and before.name not in (last.name, *(each.name for each in overtaken)):
+            self._note_undeployed(before.name, before_by, f"overtaken by {last.name}", local_time())
+
+    def take_failure(self, revision: PlannedRevision) -> None:
+        """The command that starts an endpoint of this revision, which is to be deployed, has failed. That is noted once."""
+        if revision != self.failed:
+            self.failed = revision
+            self._note_undeployed(revision.name, self.planned_by, "start fails", local_time())
+
+    def _note_undeployed(self, name: str, who: str, how: str, when: str) -> None:
+        if not any((each.began, each.name, each.how, each.begun) == (UNDEPLOYED, name, how, when) for each in self.attempts.all):
+            self._note(Event(when, UNDEPLOYED, name, by=who, how=how))
 
     def lose_book(self) -> None:
         """The book is gone: nothing of it is live, and its attempt does not go on."""
         running = self._running()
         if running:
             self._note(Event(local_time(), ENDED, running.name, running.number, how=LOST))
-        if self.attempts.all and not self.attempts.is_lost:
+        if self.attempts.newest and not self.attempts.is_lost:
             self._note(Event(local_time(), LOST))
 
     def take_in(self, report: Report, known: Revisions) -> None:

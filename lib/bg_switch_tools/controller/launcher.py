@@ -11,6 +11,7 @@ from bg_switch_tools.controller.memory import Memory, Revisions
 from bg_switch_tools.controller.plan import Plan, PlannedRevision
 from bg_switch_tools.controller.probes import Probes
 from bg_switch_tools.controller.process_groups import Group, begin_end, is_running
+from bg_switch_tools.controller.state_file import HeldBack
 from bg_switch_tools.switch.reports import Report
 
 FIRST_PAUSE, LONGEST_PAUSE = 1.0, 60.0  # seconds until a command is run again; each time they double
@@ -32,18 +33,20 @@ def words_for(command: Sequence[str], revision: PlannedRevision, port: int) -> l
 
 @dataclasses.dataclass
 class Endpoint:
-    """What is known of the commands of one endpoint. `done` is the kind of the latest one that has succeeded."""
+    """What is known of the commands of one endpoint. `done` is the kind of the latest one that has succeeded; `failed` says how the
+    latest one has failed, and is empty where none has since."""
     kind: str = ""
     group: Group | None = None
     begun: float = 0.0
     done: str = ""
+    failed: str = ""
     pause: float = FIRST_PAUSE
     next: float = 0.0
 
     def require(self, kind: str) -> None:
         """From now on a command of this kind is needed."""
         if self.kind != kind:
-            self.kind, self.done, self.pause, self.next = kind, "", FIRST_PAUSE, 0.0
+            self.kind, self.done, self.failed, self.pause, self.next = kind, "", "", FIRST_PAUSE, 0.0
 
     def is_stopped(self) -> bool:
         return self.group is None and (self.kind, self.done) == ("stop", "stop")
@@ -76,6 +79,13 @@ class Launcher:
             self._stop(plan, report, needed)
         if plan.commands.start:
             self._start(plan, needed)
+        self._tell_failures(needed)
+
+    def _tell_failures(self, needed: Collection[PlannedRevision]) -> None:
+        """Keeps in the state which revisions wait for a start that has failed: who waits for them reads it there."""
+        failed = [(revision, next((endpoint.failed for port in revision.ports if (endpoint := self.endpoints.get((revision, port)))
+                                   and endpoint.kind == "start" and endpoint.failed), "")) for revision in needed]
+        self.memory.set_failing(tuple(HeldBack(revision, reason) for revision, reason in failed if reason))
 
     @staticmethod
     def _needed(report: Report | None, known: Revisions, coming: PlannedRevision | None) -> list[PlannedRevision]:
@@ -113,7 +123,7 @@ class Launcher:
             endpoint.require("start")
             is_down = self.probes.is_down(key[1])
             if is_down is False:
-                endpoint.pause, endpoint.next = FIRST_PAUSE, 0.0
+                endpoint.failed, endpoint.pause, endpoint.next = "", FIRST_PAUSE, 0.0
             elif is_down and time.monotonic() >= endpoint.next and not self._is_held(key):
                 self._run(plan, key, endpoint)
 
@@ -207,11 +217,12 @@ class Launcher:
             return
         self._doubt(key, endpoint)
         self.log.say("command", f"{self._title(key, endpoint)} has succeeded")
-        endpoint.group, endpoint.done = None, endpoint.kind
+        endpoint.group, endpoint.done, endpoint.failed = None, endpoint.kind, ""
         self._wait_longer(endpoint)
 
     def _fail(self, key: Key, endpoint: Endpoint, why: str) -> None:
         self._doubt(key, endpoint)
+        endpoint.failed = f"{self._title(key, endpoint)} has failed, and is run again: {why}"
         self.log.say("command", f"{self._title(key, endpoint)} has failed, and is run again in {endpoint.pause:g} seconds: {why}")
         endpoint.group = None
         self._wait_longer(endpoint)

@@ -2,6 +2,7 @@
 from collections.abc import Callable
 from typing import NamedTuple, Protocol
 
+from bg_switch_tools.controller.held_back import HeldRevisions
 from bg_switch_tools.controller.history_recorder import HistoryRecorder
 from bg_switch_tools.controller.launcher import Launcher
 from bg_switch_tools.controller.log import Log
@@ -55,6 +56,7 @@ class SourceParts(NamedTuple):
     history: HistoryRecorder
     pause: Pause
     launcher: Launcher
+    held: HeldRevisions
 
 
 MakeSource = Callable[[SourceParts], LineSource]

@@ -1,4 +1,4 @@
-"""A plan: what a controller is told to do. `plan_reading` reads one from its file, and judges it."""
+"""A plan: what a controller is told to do. `plan_reader` reads one from its file, and judges it."""
 import dataclasses
 from collections.abc import Mapping
 

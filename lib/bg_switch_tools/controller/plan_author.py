@@ -1,17 +1,22 @@
-"""Who has edited a plan with bgctl."""
+"""Who has edited a plan with bgctl, and which deploys such an edit has overtaken."""
+import dataclasses
 import hashlib
 import json
 import os
 import pwd
+from collections.abc import Mapping
 
 from bg_switch_tools.controller.log import local_time
-from bg_switch_tools.controller.plan_reader import LARGEST
-from bg_switch_tools.controller.state_file import SUFFIX, write_whole
-from bg_switch_tools.switch.json_values import decoded
+from bg_switch_tools.controller.plan import Plan
+from bg_switch_tools.controller.plan_reader import LARGEST, WrongPlan, read_plan
+from bg_switch_tools.controller.state_file import SUFFIX, NoState, StateFile, write_whole
+from bg_switch_tools.switch.json_values import NAME, decoded
 
 AUTHOR = ".author"
-MOST_BYTES = 4096  # of the file
+MOST_BYTES = 16384  # of the file
 LONGEST_NAME = 64  # characters of a name that are kept
+MOST_OVERTAKEN = 32  # that are kept, the latest ones
+PLAN = "plan"  # by whom: an edit of the plan by other means than bgctl
 
 
 def login_name() -> str:
@@ -25,7 +30,27 @@ def login_name() -> str:
         return f"uid {user}"
 
 
-def write_for_all(path: str, told: dict[str, str]) -> None:
+@dataclasses.dataclass(frozen=True)
+class Overtaken:
+    """A revision that the plan named last, by `who`, and that was not deployed when `by` took its place at the time `when` (ISO 8601)."""
+    name: str
+    who: str
+    by: str
+    when: str
+
+    def text(self) -> str:
+        return f"{self.name} was overtaken before its deploy: the plan names {self.by} last"
+
+
+def _read_overtaken(told: object) -> Overtaken | None:
+    values = [told.get(field.name) for field in dataclasses.fields(Overtaken)] if isinstance(told, dict) else []
+    texts = [value for value in values if isinstance(value, str) and value.isprintable()]
+    if len(texts) != len(dataclasses.fields(Overtaken)) or not NAME.fullmatch(texts[0]):
+        return None
+    return Overtaken(*texts)
+
+
+def write_for_all(path: str, told: Mapping[str, object]) -> None:
     """Writes an object of JSON that a controller of another user can read, whatever the umask is."""
     write_whole(path, (json.dumps(told) + "\n").encode("ascii"))
     os.chmod(path, 0o644)
@@ -44,18 +69,42 @@ class Author:
         self.path = plan_path + SUFFIX + AUTHOR
 
     def sign(self, text: bytes) -> None:
-        """Notes the caller as the author of the text that the plan is about to have. `OSError` where the file can't be written."""
-        told = {"who": login_name(), "when": local_time(), "digest": _digest(text)}
+        """Notes the caller as the author of the text that the plan is about to have, and what that text overtakes. `OSError` where the
+        file can't be written."""
+        when = local_time()
+        told = {"who": login_name(), "when": when, "digest": _digest(text),
+                "overtaken": [dataclasses.asdict(each) for each in self._overtaken_by(read_plan(text), when)]}
         write_for_all(self.path, told)
 
-    def name(self) -> str | None:
-        """The author of the plan's file as it is now; None where nobody has edited it with bgctl since."""
+    def _overtaken_by(self, plan: Plan, when: str) -> list[Overtaken]:
+        """What was overtaken, once this plan takes the place of the one in the file; what went before the latest deploy is past."""
+        try:
+            with open(self.plan_path, "rb") as file:
+                last = read_plan(file.read(LARGEST + 1)).last
+            deployed = StateFile(self.plan_path).read()[0].deployed
+        except (OSError, WrongPlan, NoState):
+            return []
+        if last == deployed:
+            return []
+        more = [] if last.name == plan.last.name else [Overtaken(last.name, self.name() or PLAN, plan.last.name, when)]
+        return [*self.overtaken(), *more][-MOST_OVERTAKEN:]
+
+    def _told(self) -> Mapping[str, object]:
+        """What the file says of the plan's file as it is now; nothing where nobody has edited it with bgctl since."""
         try:
             with open(self.path, "rb") as file, open(self.plan_path, "rb") as plan:
                 told, digest = decoded(file.read(MOST_BYTES)), _digest(plan.read(LARGEST + 1))
         except (OSError, ValueError):
-            return None
-        if not isinstance(told, dict) or told.get("digest") != digest:
-            return None
-        who = told.get("who")
+            return {}
+        return told if isinstance(told, dict) and told.get("digest") == digest else {}
+
+    def name(self) -> str | None:
+        """The author of the plan's file as it is now; None where nobody has edited it with bgctl since."""
+        who = self._told().get("who")
         return who[:LONGEST_NAME] if isinstance(who, str) and who else None
+
+    def overtaken(self) -> list[Overtaken]:
+        """The revisions that the edits with bgctl have overtaken, up to the plan's file as it is now, the oldest first."""
+        told = self._told().get("overtaken")
+        found = [_read_overtaken(one) for one in told] if isinstance(told, list) else []
+        return [one for one in found if one is not None]

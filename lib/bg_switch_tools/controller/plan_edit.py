@@ -5,11 +5,25 @@ import os
 import stat
 from collections.abc import Callable, Sequence
 
+from bg_switch_tools.controller.kept_ports import by_name, kept_revisions, why_refused
+from bg_switch_tools.controller.plan import Plan, PlannedRevision
 from bg_switch_tools.controller.plan_edit_lock import EditLock
 from bg_switch_tools.controller.plan_file import PlanFile
 from bg_switch_tools.controller.plan_reader import MOST_REVISIONS, WrongPlan, read_plan
 from bg_switch_tools.controller.state_file import write_whole
 from bg_switch_tools.switch.json_values import decoded
+
+
+class OtherPorts(WrongPlan):
+    """An edit that gives a name other ports than it has."""
+
+
+def judge_ports(path: str, plan: Plan, revision: PlannedRevision) -> None:
+    """`OtherPorts` where the name of the revision has other ports: by the history and the state, which an edit of the plan can't
+    change, or else by the plan."""
+    problem = why_refused(revision, {**by_name(plan.revisions), **kept_revisions(path)})
+    if problem:
+        raise OtherPorts([problem])
 
 
 def with_last(told: object, name: str, ports: Sequence[int]) -> object:
@@ -51,11 +65,12 @@ def _put_in_place(path: str, text: bytes) -> None:
 
 def deploy_by_plan(path: str, name: str, ports: Sequence[int], sign: Callable[[bytes], None] = _unsigned) -> str:
     """Makes a revision the last one of a plan's file, in one step, and says so. A file that names it last with these ports stays
-    as it is. `sign` is given the new text before it is in place. `WrongPlan` where the result is not a plan, and `OSError` where the
-    file can't be written, or another edit does not end: then nothing is changed."""
+    as it is. `sign` is given the new text before it is in place. `WrongPlan` where the result is not a plan, or the name has other
+    ports (`OtherPorts`), and `OSError` where the file can't be written, or another edit does not end: then nothing is changed."""
     with EditLock(path):
         file = PlanFile(path)
         plan = file.first()
+        judge_ports(path, plan, PlannedRevision(name, tuple(ports)))
         if (plan.last.name, plan.last.ports) == (name, tuple(ports)):
             return f"{name} is the last revision of {path} already"
         try:

@@ -1,8 +1,10 @@
 """What a controller remembers beside its plan, so that it outlives a crash of the switch, of itself, and of both."""
+import contextlib
 import dataclasses
 import fcntl
 import json
 import os
+import time
 
 from bg_switch_tools.controller.plan import Plan, PlannedRevision
 from bg_switch_tools.controller.process_groups import ProcessId
@@ -14,9 +16,26 @@ LOCK = ".lock"
 GREATEST_MOMENT = 1 << 53
 GREATEST_TIME = 1 << 40  # seconds of Unix time, and above each number and start of a process
 MOST_STARTED = 1000  # revisions, and commands that run at a time
+TOUCH = 1.0  # seconds between two touches of the lock's file
+LONGEST_LOOK, LOCK_PAUSE = 0.5, 0.02  # seconds for which the lock is tried for, and between two tries
+LONGEST_REASON = 1000  # characters
 MISSING = "is not there"  # what is the matter with a file that does not exist
 NEEDED = ("moment", "stable", "deployed", "attempt")
-LATER = ("since", "analysis", "started", "commands", "former")  # the keys that a file of an earlier controller has not
+# the keys that a file of an earlier controller has not
+LATER = ("since", "analysis", "started", "commands", "former", "ports", "held", "unknown", "failing")
+
+
+@dataclasses.dataclass(frozen=True)
+class HeldBack:
+    """A revision of the plan that is not deployed, or whose ports in the plan are not used, and why."""
+    revision: PlannedRevision
+    reason: str
+
+    def text(self) -> str:
+        return f"{self.revision.name} is held back: {self.reason}"
+
+    def as_json(self) -> dict[str, object]:
+        return {"name": self.revision.name, "ports": list(self.revision.ports), "reason": self.reason}
 
 
 @dataclasses.dataclass(frozen=True)
@@ -25,7 +44,10 @@ class State:
     that was deployed because the plan names it. `attempt` is the newest revision while its attempt runs. `since` is the time at
     which the moment was 0, in seconds of the system's clock (0 where that is not known). `analysis` is the process of the
     analysis that runs. `started` are the revisions that were started and not stopped yet, `commands` the processes of the
-    commands that start and stop them and run. `former` are the control ports that the plan named before."""
+    commands that start and stop them and run. `former` are the control ports that the plan named before. `ports` are the
+    revisions of the book whose ports are known for sure, `held` those of the plan that are held back. `unknown` is the name of the
+    stable revision where its ports are not known, and those of none before are; else it is empty. `failing` are the revisions whose
+    command `start` has failed and has not succeeded since."""
     moment: int = 0
     stable: PlannedRevision | None = None
     deployed: PlannedRevision | None = None
@@ -35,10 +57,20 @@ class State:
     started: tuple[PlannedRevision, ...] = ()
     commands: tuple[ProcessId, ...] = ()
     former: tuple[int, ...] = ()
+    ports: tuple[PlannedRevision, ...] = ()
+    held: tuple[HeldBack, ...] = ()
+    unknown: str = ""
+    failing: tuple[HeldBack, ...] = ()
+
+    @property
+    def names(self) -> list[str]:
+        """The names of the revisions that were stable and deployed last, each once: none before a book was open."""
+        known = [revision.name for revision in (self.stable, self.deployed) if revision]
+        return list(dict.fromkeys([*([self.unknown] if self.unknown else []), *known]))
 
     def belongs_to(self, plan: Plan) -> bool:
-        """Whether this was written for this plan: it has the name of the stable or of the deployed revision."""
-        return any(revision and plan.named(revision.name) for revision in (self.stable, self.deployed))
+        """Whether this was written for this plan: the plan has one of the names, or there is none yet."""
+        return not self.names or any(plan.named(name) for name in self.names)
 
     def keeps(self, other: "State") -> bool:
         """Whether the other one differs in the moment alone."""
@@ -53,13 +85,19 @@ def _told(revision: PlannedRevision | None) -> object:
     return revision and {"name": revision.name, "ports": list(revision.ports)}
 
 
+def _told_held(held: tuple[HeldBack, ...]) -> object:
+    return [{"revision": _told(each.revision), "reason": each.reason} for each in held]
+
+
 def written(state: State) -> bytes:
     """The bytes of a state file."""
     return (json.dumps({
         "moment": state.moment, "stable": _told(state.stable), "deployed": _told(state.deployed), "attempt": _told(state.attempt),
         "since": state.since, "analysis": state.analysis and dataclasses.asdict(state.analysis),
         "started": [_told(revision) for revision in state.started],
-        "commands": [dataclasses.asdict(command) for command in state.commands], "former": list(state.former)}, indent=1) + "\n").encode("ascii")
+        "commands": [dataclasses.asdict(command) for command in state.commands], "former": list(state.former),
+        "ports": [_told(revision) for revision in state.ports],
+        "held": _told_held(state.held), "unknown": state.unknown, "failing": _told_held(state.failing)}, indent=1) + "\n").encode("ascii")
 
 
 def _read_revision(judge: Judge, told: object, place: str) -> PlannedRevision:
@@ -75,6 +113,12 @@ def _read_process(judge: Judge, told: object, place: str) -> ProcessId:
     return ProcessId(pid, start)
 
 
+def _read_held(judge: Judge, told: object, place: str) -> HeldBack:
+    members = judge.members(told, place, ("revision", "reason"), ("revision", "reason"))
+    reason = judge.member(members, "reason", place, judge.text, "")
+    return HeldBack(_read_revision(judge, members.get("revision"), f"{place}.revision"), reason[:LONGEST_REASON])
+
+
 def _read_list(judge: Judge, told: object, place: str) -> list[object]:
     if isinstance(told, list) and len(told) <= MOST_STARTED:
         return told
@@ -86,6 +130,11 @@ def _read_values(judge: Judge, members: JsonObject) -> State:
     stable, deployed, attempt = (None if members[key] is None else _read_revision(judge, members[key], key) for key in NEEDED[1:])
     started = _read_list(judge, members.get("started", []), "started")
     commands = _read_list(judge, members.get("commands", []), "commands")
+    ports = _read_list(judge, members.get("ports", []), "ports")
+    held, failing = ([_read_held(judge, one, f"{key}[{number}]") for number, one in enumerate(_read_list(judge, members.get(key, []), key))]
+                     for key in ("held", "failing"))
+    # an earlier controller has opened and deployed these, and kept no other ports
+    earlier = () if "ports" in members else tuple(dict.fromkeys(filter(None, (deployed, attempt, stable))))
     analysis = members.get("analysis")
     return State(
         judge.whole_number(members["moment"], "moment", 0, GREATEST_MOMENT), stable, deployed, attempt,
@@ -93,7 +142,9 @@ def _read_values(judge: Judge, members: JsonObject) -> State:
         None if analysis is None else _read_process(judge, analysis, "analysis"),
         tuple(_read_revision(judge, one, f"started[{number}]") for number, one in enumerate(started)),
         tuple(_read_process(judge, one, f"commands[{number}]") for number, one in enumerate(commands)),
-        judge.ports(members["former"], "former") if members.get("former") else ())
+        judge.ports(members["former"], "former") if members.get("former") else (),
+        earlier + tuple(_read_revision(judge, one, f"ports[{number}]") for number, one in enumerate(ports)),
+        tuple(held), judge.name(members["unknown"], "unknown") if members.get("unknown") else "", tuple(failing))
 
 
 def read_state(text: bytes) -> State:
@@ -178,21 +229,43 @@ class IsLocked(Exception):
 
 
 class StateLock:
-    """The lock of a plan's state (flock(2)): one controller has it. The system lets it go when the process ends, however."""
+    """The lock of a plan's state (flock(2)): one controller has it. The system lets it go when the process ends, however. The time
+    of the file's last change shows that its holder goes on."""
 
     def __init__(self, plan_path: str, other: str = "another controller runs this plan") -> None:
         """Takes the lock. `IsLocked` where another process has it, which is told as `other`; `OSError` where the folder takes no
         file."""
         self.path = plan_path + SUFFIX + LOCK
         self.descriptor = os.open(self.path, os.O_RDWR | os.O_CREAT, 0o644)
-        try:
-            fcntl.flock(self.descriptor, fcntl.LOCK_EX | fcntl.LOCK_NB)
-        except BlockingIOError:
+        self.next = 0.0  # from when on the file is touched again
+        if not self._is_taken():
             holder = os.read(self.descriptor, 20).decode("ascii", "replace").strip()
-            os.close(self.descriptor)
-            raise IsLocked(f"{other}: process {holder or 'not known'} has the lock {self.path}") from None
+            self.release()
+            raise IsLocked(f"{other}: process {holder or 'not known'} has the lock {self.path}")
         os.ftruncate(self.descriptor, 0)
         os.write(self.descriptor, f"{os.getpid()}\n".encode("ascii"))
 
+    def _is_taken(self) -> bool:
+        """Tries for a moment: who looks at whether a controller runs has the lock for less than that."""
+        deadline = time.monotonic() + LONGEST_LOOK
+        while True:
+            try:
+                fcntl.flock(self.descriptor, fcntl.LOCK_EX | fcntl.LOCK_NB)
+                return True
+            except BlockingIOError:
+                if time.monotonic() >= deadline:
+                    return False
+            time.sleep(LOCK_PAUSE)
+
+    def touch(self) -> None:
+        """Shows that the holder goes on, at most once a second."""
+        if self.descriptor >= 0 and time.monotonic() >= self.next:
+            self.next = time.monotonic() + TOUCH
+            with contextlib.suppress(OSError):
+                os.utime(self.descriptor)
+
     def release(self) -> None:
-        os.close(self.descriptor)
+        """Lets the lock go, where that was not done before."""
+        descriptor, self.descriptor = self.descriptor, -1
+        if descriptor >= 0:
+            os.close(descriptor)

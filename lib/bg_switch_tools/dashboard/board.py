@@ -5,6 +5,7 @@ from collections.abc import Mapping, Sequence
 from typing import TypedDict
 
 from bg_switch_tools.dashboard.alarms import alarms
+from bg_switch_tools.dashboard.local_controller import ControllerView
 from bg_switch_tools.dashboard.steps import SeenPhases, possible_commands, steps
 from bg_switch_tools.dashboard.totals import Totals
 from bg_switch_tools.dashboard.traffic import KEPT, SLOT, Traffic
@@ -19,8 +20,8 @@ MOST_OF_A_BATCH = 20  # failed requests that one look adds
 
 
 class Happening(TypedDict):
-    """Something that happened. `kind` is `switch`, `abort`, `change`, `order`, `alarm`, `silence`, `answer`, `log` or `fault`;
-    `mark` is the text of its mark in the charts, where it has one."""
+    """Something that happened. `kind` is `switch`, `abort`, `change`, `order`, `alarm`, `silence`, `answer`, `controller`, `log` or
+    `fault`; `mark` is the text of its mark in the charts, where it has one."""
     id: int
     time: float
     moment: int | None
@@ -32,10 +33,13 @@ class Happening(TypedDict):
 class Board:
     """Takes in what is read, and tells all of it, or what has changed since the time before."""
 
-    def __init__(self, control: int, log_path: str, is_read_only: bool) -> None:
+    def __init__(self, control: int, log_path: str, is_read_only: bool, plan: str = "") -> None:
+        """`plan` is the path of the plan of the switch's controller; empty where that is not looked at."""
         self.control = control
         self.log_path = log_path
         self.is_read_only = is_read_only
+        self.plan = plan
+        self.controller: ControllerView | None = None  # from the first look on, where there is a plan
         self.session = secrets.token_hex(8)  # by which a page notices that another dashboard has taken the place
         self.report: Report | None = None
         self.earlier: Report | None = None  # of the same book, before the last one
@@ -92,6 +96,16 @@ class Board:
         if was and not is_now and now is not None:
             active = now.service("active")
             self.say("answer", f"an endpoint of {active.name} is up again: {active.available} of {active.desired}")
+
+    def take_controller(self, view: ControllerView) -> None:
+        """Takes in what the controller tells of its plan."""
+        before, faults = self.controller.faults() if self.controller else [], view.faults()
+        for fault in faults:
+            if fault not in before:
+                self.say("controller", fault)
+        if before and not faults:
+            self.say("answer", "the controller runs, and holds nothing back")
+        self.controller = view
 
     def take_fault(self, fault: str) -> bool:
         """Takes in what has ended a look, or with an empty text that none has. Gives whether that is new."""
@@ -164,6 +178,7 @@ class Board:
             "time": now, "session": self.session, "control": self.control, "read_only": self.is_read_only,
             "switch": {"answers": not self.fault, "fault": self.fault, "since": self.since},
             "alarms": alarms(report) if not self.fault else [], "fault": self.own_fault,
+            "controller": self._told_controller(),
             "log": {"path": self.log_path, "fault": self.log_fault, "lost": self.totals.lost,
                     "unreadable": self.totals.unreadable},
             "report": as_json(report) if report else None,
@@ -171,6 +186,12 @@ class Board:
             "waits_for": WAITS_FOR[report.phase] if report else NO_BOOK,
             "orders": {command: can and not self.fault and not self.is_read_only for command, can in possible_commands(report).items()},
             "recent": self.traffic.recent(now)}
+
+    def _told_controller(self) -> dict[str, object] | None:
+        if self.controller is None:
+            return None
+        return {"plan": self.plan, "life": self.controller.life.life.value,
+                "held_back": [each.as_json() for each in self.controller.held], "faults": self.controller.faults()}
 
     def state(self) -> dict[str, object]:
         """All that is known."""

@@ -8,8 +8,9 @@ from bg_switch_tools.dashboard.board import Board
 from bg_switch_tools.dashboard.fleet_agent import local_agent
 from bg_switch_tools.fleet.fleet_file import FleetFile, WrongFleetFile, read_whole_fleet_file
 from bg_switch_tools.switch.arguments import numbered_port, port_of
+from bg_switch_tools.switch.installed_names import named
 
-USAGE = "bin/dashboard [PORT] [--fleet FLEET.json] [--agent-state PATH] --listen PORT [--log FILE] [--read-only]"
+USAGE = "bin/dashboard [PORT] [--fleet FLEET.json] [--agent-state PATH] --listen PORT [--log FILE] [--plan PLAN] [--read-only]"
 ABOUT = """Shows the switch at a control port as a web page at http://127.0.0.1:LISTEN/, a fleet at http://127.0.0.1:LISTEN/fleet, their
 metrics at /metrics, and their state as JSON at /api/state and /api/events, /api/fleet and /api/fleet/events. PORT, --fleet or
 both say what is shown. It listens on 127.0.0.1 alone."""
@@ -27,7 +28,7 @@ def listened_port(text: str) -> int:
 
 
 def parser() -> argparse.ArgumentParser:
-    made = argparse.ArgumentParser(prog="dashboard", usage=USAGE, description=ABOUT, epilog=END,
+    made = argparse.ArgumentParser(prog="dashboard", usage=named(USAGE), description=ABOUT, epilog=named(END),
                                    formatter_class=argparse.RawDescriptionHelpFormatter)
     made.add_argument("port", type=port_of, nargs="?", metavar="PORT", help="the control port of the switch")
     made.add_argument("--fleet", default="", metavar="FLEET.json", help="the fleet file of the fleet, which needs no machine")
@@ -35,6 +36,7 @@ def parser() -> argparse.ArgumentParser:
                       help="where the agent of this machine keeps its files, if that is not the folder of the fleet file")
     made.add_argument("--listen", type=listened_port, required=True, metavar="PORT", help="the port of the page")
     made.add_argument("--log", default="", metavar="FILE", help="the access log of the switch, BG_SWITCH_ACCESS_LOG")
+    made.add_argument("--plan", default="", metavar="PLAN", help="the plan of the switch's controller, which is shown too")
     made.add_argument("--read-only", action="store_true", help="the page has no buttons, and no line can be sent through it")
     return made
 
@@ -45,6 +47,8 @@ def judge(made: argparse.ArgumentParser, given: argparse.Namespace) -> None:
         made.error("name what is shown: the control port of a switch, a fleet file with --fleet, or both")
     if given.port is None and given.log:
         made.error("--log is the access log of a switch: name its control port too")
+    if given.port is None and given.plan:
+        made.error("--plan is that of the controller of a switch: name its control port too")
     if given.agent_state and (given.port is None or not given.fleet):
         made.error("--agent-state is of the agent of a switch: name its control port and the fleet file too")
 
@@ -69,7 +73,7 @@ def main(words: Sequence[str]) -> int:
               "/usr/bin/python3", file=sys.stderr)
         return 1
     try:
-        board = None if given.port is None else Board(given.port, given.log, given.read_only)
+        board = None if given.port is None else Board(given.port, given.log, given.read_only, given.plan)
         file = fleet_file(given.fleet)
         agent = local_agent(file, given.agent_state) if file and board else None
         server.run(board, file, agent, given.listen)

@@ -3,8 +3,10 @@ from collections.abc import Iterator, Mapping
 
 from prometheus_client.core import HistogramMetricFamily, Metric
 
+from bg_switch_tools.controller.controller_life import Life
 from bg_switch_tools.dashboard.alarms import without_endpoint
 from bg_switch_tools.dashboard.board import Board
+from bg_switch_tools.dashboard.local_controller import ControllerView
 from bg_switch_tools.dashboard.metric_families import by_label, counter, gauge, gauges
 from bg_switch_tools.dashboard.totals import Labels, Totals
 from bg_switch_tools.switch.reports import PHASES, SERVICES, Report
@@ -78,11 +80,19 @@ def _of_requests(totals: Totals) -> Iterator[Metric]:
     yield _histogram("bg_switch_http_response_duration_seconds", "From the dial of an endpoint to its response.", totals, True)
 
 
+def _of_controller(view: ControllerView) -> Iterator[Metric]:
+    if view.life.life != Life.UNKNOWN:
+        yield gauge("bg_controller_up", "Whether a controller runs the plan, and does not hang.", not view.life.is_wrong)
+    yield gauge("bg_controller_revisions_held_back", "Revisions of the plan that the controller holds back.", len(view.held))
+
+
 def _of_board(board: Board) -> Iterator[Metric]:
     totals = board.totals
     yield gauge("bg_switch_up", "Whether the switch answers at its control port.", not board.fault)
     if board.report and not board.fault:
         yield from _of_report(board.report)
+    if board.controller:
+        yield from _of_controller(board.controller)
     yield counter("bg_switch_rollout_events", "Changes, by the reason of the event of Argo Rollouts.", ["reason"],
                   [([reason], count) for reason, count in totals.events.items()])
     yield from _of_requests(totals)

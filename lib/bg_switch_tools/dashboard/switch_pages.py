@@ -7,6 +7,7 @@ from aiohttp import web
 
 from bg_switch_tools.dashboard import guard
 from bg_switch_tools.dashboard.board import Board
+from bg_switch_tools.dashboard.local_controller import LocalController
 from bg_switch_tools.dashboard.looks import take_fault, while_it_runs
 from bg_switch_tools.dashboard.page_commands import NewestHasChanged, WrongPageCommand, read_page_command, send_page_command
 from bg_switch_tools.dashboard.streams import Listeners
@@ -28,6 +29,7 @@ class SwitchPages:
     def __init__(self, board: Board, has_fleet: bool = False) -> None:
         self.board = board
         self.follower = Follower(board.log_path, BACKLOG) if board.log_path else None
+        self.controller = LocalController(board.plan) if board.plan else None
         self.token = secrets.token_urlsafe(32)
         self.page = page("index.html", "" if board.is_read_only else self.token, FLEET if has_fleet else None)
         self.listeners = Listeners()
@@ -46,7 +48,10 @@ class SwitchPages:
         while True:
             try:
                 is_counted = not (self.follower and self.follower.is_behind)
-                self.take(*await asyncio.to_thread(self.look), is_counted)
+                seen = await asyncio.to_thread(self.look)
+                if self.controller:
+                    self.board.take_controller(await asyncio.to_thread(self.controller.look))
+                self.take(*seen, is_counted)
             except Exception as error:  # none is expected; without the looks that follow, the page would show what is long past
                 take_fault(self.board, error, self.tell)
             with contextlib.suppress(TimeoutError):

@@ -7,6 +7,7 @@ from bg_switch_tools import VERSION
 from bg_switch_tools.fleet.conditions import CONDITION_SYNTAX
 from bg_switch_tools.fleet.exit_statuses import listed
 from bg_switch_tools.switch.arguments import seconds_of
+from bg_switch_tools.switch.installed_names import named
 from bg_switch_tools.switch.json_values import NAME
 from bg_switch_tools.switch.lines import REFUSALS
 
@@ -130,7 +131,8 @@ ARGUMENTS: dict[str, Callable[[argparse.ArgumentParser], None]] = {
 
 def parser() -> argparse.ArgumentParser:
     """The parser of bin/fleet."""
-    made = argparse.ArgumentParser(prog="fleet", description=DESCRIPTION, epilog=END, allow_abbrev=False,
+    name = named("bin/fleet").removeprefix("bin/")
+    made = argparse.ArgumentParser(prog=name, description=DESCRIPTION, epilog=named(END), allow_abbrev=False,
                                    formatter_class=argparse.RawDescriptionHelpFormatter)
     made.add_argument("--version", action="version", version=f"fleet {VERSION}")
     made.add_argument("file", metavar="FLEET.json", help="the fleet file of this machine, or of a person")
@@ -138,7 +140,7 @@ def parser() -> argparse.ArgumentParser:
     for command in FLEET_COMMANDS:
         meaning = f"{command.meaning[0].upper()}{command.meaning[1:]}."
         one = commands.add_parser(command.name, help=command.meaning, description=f"{meaning} {command.more}".strip(), allow_abbrev=False,
-                                  epilog="fleet --help has the exit statuses.")
+                                  epilog=f"{name} --help has the exit statuses.")
         if command.name in ARGUMENTS:
             ARGUMENTS[command.name](one)
     return made

@@ -18,7 +18,7 @@ from bg_switch_tools.fleet.fleet_file import FleetFile, WrongFleetFile, read_who
 from bg_switch_tools.fleet.person import Person, Refused, tell
 from bg_switch_tools.fleet.person_plans import CannotRead
 from bg_switch_tools.fleet.record import ABORTED, Unreadable
-from bg_switch_tools.fleet.status import FleetStatus, status_of
+from bg_switch_tools.fleet.status import status_of
 from bg_switch_tools.fleet.status_text import draw, in_one_line
 from bg_switch_tools.fleet.store import Snapshot, Store, StoreFault
 from bg_switch_tools.fleet.wait import wait_for

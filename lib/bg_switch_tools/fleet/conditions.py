@@ -5,7 +5,7 @@ from collections.abc import Sequence
 from typing import Protocol
 
 from bg_switch_tools.fleet.leader import votes_of
-from bg_switch_tools.fleet.record import DEPLOYING, FOLLOWS, PLAN, PROMOTING, READY, STAGES, SUCCESSFUL, Record, Unreadable, View
+from bg_switch_tools.fleet.record import DEPLOYING, PLAN, PROMOTING, READY, STAGES, SUCCESSFUL, Record, Unreadable, View
 from bg_switch_tools.fleet.status_text import attempt_title
 from bg_switch_tools.fleet.store import Snapshot
 from bg_switch_tools.operator.conditions import HOLDS, MAY_COME, Outlook, WrongCondition
@@ -73,7 +73,7 @@ class Settled:
         if plan is None or record is None:
             return _not_begun(view)
         reports = [view.machine(host) for host in view.members]
-        follow = all(report.state == FOLLOWS for report in reports if report)
+        follow = all(report.follows(record) for report in reports if report)
         is_over = not record.is_running and record.id == view.changed(PLAN)
         return HOLDS if is_over and follow and reports.count(None) <= plan.max_missing else MAY_COME
 

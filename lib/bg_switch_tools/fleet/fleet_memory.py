@@ -1,6 +1,6 @@
 """What the controller of a machine of a fleet knows of the rounds before: the record of the fleet says what a switch is opened with."""
 from bg_switch_tools.controller.log import Log
-from bg_switch_tools.controller.memory import Memory
+from bg_switch_tools.controller.memory import Memory, Revisions
 from bg_switch_tools.controller.plan import Plan, PlannedRevision
 from bg_switch_tools.controller.state_file import State
 from bg_switch_tools.fleet.machine import Machine
@@ -14,8 +14,25 @@ class FleetMemory(Memory):
         self.machine = machine
         super().__init__(path, plan, log)
 
+    def kept_before(self, plan_path: str) -> dict[str, PlannedRevision]:
+        """None: the record of the fleet says which ports a name has."""
+        return {}
+
+    def keep_ports(self, revision: PlannedRevision) -> None:
+        """Keeps none."""
+
+    def noted(self, plan: Plan) -> Revisions:
+        return self.revisions(plan)
+
+    def live(self, plan: Plan, name: str) -> PlannedRevision | None:
+        return self.known(plan, name)
+
     def is_of(self, plan: Plan, state: State) -> bool:
         return True
+
+    def why_not_opened(self, plan: Plan) -> str:
+        """Nothing prevents it: the record of the fleet says what the switch is opened with."""
+        return ""
 
     def to_open(self, plan: Plan) -> tuple[PlannedRevision, str]:
         return self.machine.opening(plan)

@@ -4,7 +4,7 @@ from typing import NamedTuple
 
 from bg_switch_tools.controller.plan import PlannedRevision
 from bg_switch_tools.fleet.fleet_plan import FleetPlan
-from bg_switch_tools.fleet.record import (ABORT, ABORTED, ATTEMPT, DEPLOYING, FAILED, FOLLOWS, LEADER, MACHINES, MEMBERS, ORDER,
+from bg_switch_tools.fleet.record import (ABORT, ABORTED, ATTEMPT, DEPLOYING, FAILED, LEADER, MACHINES, MEMBERS, ORDER,
                                           PASSED, PLAN, PROMOTE, PROMOTING, READY, SUCCESSFUL, PersonOrder, Record, View)
 from bg_switch_tools.fleet.store import Compare, Snapshot
 
@@ -204,7 +204,7 @@ def awaited_of(snapshot: Snapshot) -> list[str]:
         return [f"{host}: a report" for host in away] or ([] if _live_revision(view, plan) else
                                                           ["a plan that names the stable revision of each member"])
     if not record.is_running:
-        return [f"{host}: {_told(view, host)}" for host in view.members if not _follows(view, host)]
+        return [f"{host}: {_told(view, host)}" for host in view.members if not _follows(view, record, host)]
     votes = votes_of(view, record)
     found = [f"{host}: {_told(view, host)}" for host in votes.awaited]
     if len(votes.missing) > plan.max_missing:
@@ -217,9 +217,9 @@ def awaited_of(snapshot: Snapshot) -> list[str]:
     return found
 
 
-def _follows(view: View, host: str) -> bool:
+def _follows(view: View, record: Record, host: str) -> bool:
     report = view.machine(host)
-    return report is not None and report.state == FOLLOWS
+    return report is not None and report.follows(record)
 
 
 def _told(view: View, host: str) -> str:

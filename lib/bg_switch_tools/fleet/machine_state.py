@@ -7,7 +7,7 @@ from bg_switch_tools.controller.state_file import write_whole
 from bg_switch_tools.fleet.fleet_plan import read_fleet_plan
 from bg_switch_tools.fleet.next_line import Joined
 from bg_switch_tools.fleet.record import VERSION, Record, Unreadable, read_record
-from bg_switch_tools.switch.json_values import JsonObject, Judge, decoded
+from bg_switch_tools.switch.json_values import Judge, decoded
 
 SUFFIX = ".fleet"
 KEYS = ("version", "cluster", "plan", "record", "joined")

@@ -80,6 +80,11 @@ class MachineReport:
     newest: str = ""
     available: int = 0
 
+    def follows(self, record: Record) -> bool:
+        """Whether the machine follows an attempt that is over. The report of a machine that has gone stands until its lease ends, and
+        may be one of a revision that was stable before."""
+        return self.state == FOLLOWS and self.stable == record.fleet_stable.name
+
     def text(self) -> str:
         return json.dumps({"version": VERSION, **vars(self)})
 

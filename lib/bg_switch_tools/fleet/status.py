@@ -67,7 +67,7 @@ def _members(view: View, plan: FleetPlan | None, record: Record | None) -> tuple
     if plan is None or record is None:
         return tuple(MemberStatus(host, report) for host, report in reports.items())
     if not record.is_running:
-        return tuple(MemberStatus(host, report, host not in record.missing, "" if report and report.state == FOLLOWS else FOLLOWS)
+        return tuple(MemberStatus(host, report, host not in record.missing, "" if report and report.follows(record) else FOLLOWS)
                      for host, report in reports.items())
     votes = votes_of(view, record)
     too_many = [host for host in votes.missing if host not in record.missing] if len(votes.missing) > plan.max_missing else []

@@ -75,7 +75,8 @@ def reason_of(error: Exception) -> str:
         return f"its certificate is not accepted: {error.verify_message}"
     if isinstance(error, ssl.SSLError):
         return f"TLS fails: {(error.reason or str(error)).lower().replace('_', ' ')}"
-    if isinstance(error, http.client.RemoteDisconnected):
+    if isinstance(error, (ConnectionResetError, BrokenPipeError)):
+        # (an end of the stream too; a peer that closes with unread bytes resets, so which of these comes is left to chance)
         return "it closes the connection without an answer"
     if isinstance(error, http.client.IncompleteRead):
         return "its answer is cut"

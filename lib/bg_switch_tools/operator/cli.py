@@ -3,9 +3,10 @@ import argparse
 import json
 import os
 import sys
-from collections.abc import Iterable, Sequence
+from collections.abc import Callable, Iterable, Sequence
 
-from bg_switch_tools.controller.announced_deploy import AnnouncedDeploy
+from bg_switch_tools.controller.announced_deploy import AnnouncedDeploy, Announcement, held_back
+from bg_switch_tools.controller.controller_life import ControllerLife, Life, life_of
 from bg_switch_tools.controller.plan_reader import WrongPlan
 from bg_switch_tools.operator.commands import COMMAND_NAMES, examples, help_lines
 from bg_switch_tools.operator.conditions import CONDITION_SYNTAX, Conditions, WrongCondition
@@ -15,6 +16,7 @@ from bg_switch_tools.operator.wait import TOO_LATE, WaitLimits, nothing_comes, w
 from bg_switch_tools.operator.watch import dated, watch
 from bg_switch_tools.switch.arguments import port_of, seconds_of
 from bg_switch_tools.switch.connection import Unreachable, ask, words_of
+from bg_switch_tools.switch.installed_names import named
 from bg_switch_tools.switch.lines import with_meaning
 from bg_switch_tools.switch.report_text import in_one_line
 from bg_switch_tools.switch.reports import NoReport, Report, as_json, read_report
@@ -28,17 +30,21 @@ END = f"""
 Conditions of wait: {CONDITION_SYNTAX}.
 
 Exit status: 0 if every line was carried out; 1 if one was refused or faulty, at which it stops; 2 if the switch gave no answer in
-time, or the words are wrong; 3 of `status` if no endpoint of the active revision is available, so that clients are answered 503.
+time, or the words are wrong; of `status`, 3 if no endpoint of the active revision is available, so that clients are answered 503,
+with --plan 5 if no controller runs this plan or it hangs, and 4 if a revision of the plan is held back: its deploy was refused, its
+name has other ports, or its start fails.
 docs/LINES.md has each line and its replies.
 """
 INTERRUPTED = 130
 DARK = 3  # the exit status of `status` where live traffic has no endpoint
+NO_CONTROLLER = 5  # the exit status of `status` where no controller runs the plan, or it hangs
+HELD_BACK = 4  # the exit status of `status` where the controller holds a revision of its plan back
 
 
 def parser() -> argparse.ArgumentParser:
     made = argparse.ArgumentParser(
-        prog="operator", usage="bin/operator PORT [LINE | COMMAND] [options]", description=ABOUT,
-        epilog="\n".join(["lines and commands, with an example each:", *examples()]) + "\n" + END,
+        prog="operator", usage=named("bin/operator PORT [LINE | COMMAND] [options]"), description=named(ABOUT),
+        epilog=named("\n".join(["lines and commands, with an example each:", *examples()]) + "\n" + END),
         formatter_class=argparse.RawDescriptionHelpFormatter)
     made.add_argument("port", type=port_of, nargs="?", metavar="PORT", help="the control port of the switch, on 127.0.0.1")
     made.add_argument("words", nargs="*", metavar="WORD", help="the words of one line or command")
@@ -51,7 +57,8 @@ def parser() -> argparse.ArgumentParser:
                       help="a deploy of the revision that is running or stable already counts as carried out")
     made.add_argument("--yes", action="store_true", help="`shutdown` does not ask, and a `tick` more than a day ahead is sent")
     made.add_argument("--plan", metavar="PLAN",
-                      help="`wait` first waits until the controller has deployed the last revision of this plan")
+                      help="`wait` first waits until the controller has deployed the last revision of this plan; `status` tells whether "
+                      "the controller runs, and what it holds back")
     return made
 
 
@@ -102,31 +109,63 @@ class Operator:
 
     def status(self) -> int:
         """Shows the state in one line. The exit status is 0 where it is steady or an attempt runs, `DARK` where no endpoint of
-        the active revision is available, and else 1."""
-        report = read_report(ask(self.port, b"report", self.wait))
+        the active revision is available, `NO_CONTROLLER` where no controller acts by the plan, `HELD_BACK` where it holds a
+        revision of the plan back, and else 1."""
+        try:
+            report = read_report(ask(self.port, b"report", self.wait))
+        except (Unreachable, NoReport) as reason:
+            if self.is_json:
+                self.show_json({"phase": None, "reason": str(reason)})
+            raise
+        held = held_back(self.plan) if self.plan else []
+        controller = life_of(self.plan) if self.plan else ControllerLife(Life.UP)
         if self.is_json:
-            self.show_json({"phase": None} if report is None else as_json(report))
+            told: dict[str, object] = {"phase": None} if report is None else as_json(report)
+            told |= {"controller": controller.life.value, "held_back": [each.as_json() for each in held]} if self.plan else {}
+            self.show_json(told)
         else:
             print(in_one_line(report))
+        for text in [*([controller.text] if controller.text else []), *(each.text() for each in held)]:
+            self.tell(text)
         if report is not None and report.service("active").available == 0:
             self.tell(f"no endpoint of {report.service('active').title()}, which is active, is available")
             return DARK
+        if controller.is_wrong:
+            return NO_CONTROLLER
+        if held:
+            return HELD_BACK
         return 1 if report is None or report.phase == "aborted" else 0
+
+    def telling(self, announced: Callable[[], Announcement]) -> Callable[[], Announcement]:
+        """The same, which also tells at once why a deploy that is announced is not carried out yet."""
+        told = ""
+
+        def look() -> Announcement:
+            nonlocal told
+            coming = announced()
+            if coming.trouble and coming.trouble != told:
+                told = coming.trouble
+                self.tell(told)
+            return coming
+        return look
 
     def wait_for(self, texts: Sequence[str]) -> int:
         """Waits for conditions. Each change meanwhile is told on standard error."""
         before: list[Report] = []
+        conditions = Conditions(texts)
         try:
-            announced = AnnouncedDeploy(self.plan).name if self.plan else nothing_comes
+            announced = self.telling(AnnouncedDeploy(self.plan, conditions.revisions).look) if self.plan else nothing_comes
         except WrongPlan as wrong:
             self.tell(f"{self.plan} is not a plan: {wrong}")
             return TOO_LATE
+        if self.plan and (controller := life_of(self.plan)).is_wrong:
+            self.tell(controller.text)
 
         def see(report: Report) -> None:
             for change in dated(before[-1], report) if before else []:
                 self.tell(change)
             before[:] = [report]
-        waited = wait_for(self.port, Conditions(texts), WaitLimits(self.timeout, self.wait), see, announced)
+        waited = wait_for(self.port, conditions, WaitLimits(self.timeout, self.wait), see, announced)
         if self.is_json:
             report = as_json(waited.report) if waited.report else None
             self.show_json({"status": waited.status, "reason": waited.reason or None, "report": report})
@@ -193,8 +232,8 @@ def judge_words(made: argparse.ArgumentParser, given: argparse.Namespace) -> Non
         made.error("--idempotent is only for deploy")
     if given.yes and command not in ("", "shutdown", "tick"):
         made.error("--yes is only for shutdown and tick")
-    if given.plan is not None and command != "wait":
-        made.error("--plan is only for wait")
+    if given.plan is not None and command not in ("wait", "status"):
+        made.error("--plan is only for wait and status")
 
 
 def run(given: argparse.Namespace) -> int:

@@ -141,8 +141,8 @@ def read_condition(text: str) -> Condition:
     key, sign, value = text.partition("=")
     if key == "phase" and sign:
         if value not in PHASES:
-            near = difflib.get_close_matches(value, PHASES, 1, 0.0)[0]
-            raise WrongCondition(f"{text}: a phase is needed after phase=, one of {', '.join(PHASES)}; the nearest is {near}")
+            near = "".join(f"; the nearest is {phase}" for phase in difflib.get_close_matches(value, PHASES, 1))
+            raise WrongCondition(f"{text}: a phase is needed after phase=, one of {', '.join(PHASES)}{near}")
         return PhaseIs(value)
     opened = re.fullmatch(r"open\((.*)\)", key)
     name = opened[1] if opened else value
@@ -166,6 +166,7 @@ class Conditions:
         """`WrongCondition` where a text is none."""
         self.texts = list(texts)
         self.conditions = [read_condition(text) for text in texts]
+        self.revisions = {each.name for each in self.conditions if isinstance(each, ServiceIs)}  # whose deploy is awaited
         self.newest = [each.name for each in self.conditions if isinstance(each, ServiceIs) and each.service == "newest"]
         self.seen = SeenRevisions()
 

@@ -41,6 +41,18 @@ def send_line(port: int, line: bytes, wait: float, is_idempotent: bool, is_sure:
     return Reply(text, lines, was_carried_out(lines[0]), meaning_of(lines[0]), None, report)
 
 
+def send_line_for(port: int, name: str, line: bytes, wait: float) -> Reply:
+    """Sends a line for the newest revision, if that is the one of this name by a report on the same connection."""
+    text = line.decode("utf-8", "replace")
+    with Connection(port, wait) as connection:
+        report = read_report(connection.answer(b"report"))
+        if report is None or report.newest.name != name:
+            newest = "no book is open" if report is None else f"{report.newest.title()} is the newest one, and not {name}"
+            return Reply(text, [], False, f"not sent: {newest}", f"not sent: {newest}")
+        lines = sent(connection, line, wait)
+    return Reply(text, lines, was_carried_out(lines[0]), meaning_of(lines[0]))
+
+
 def _tick(port: int, line: bytes, wait: float) -> Reply:
     """Sends a tick, unless its moment lies more than a day ahead: no later tick could ever take it back."""
     text, told = line.decode("utf-8", "replace"), words_of(line)[1:]

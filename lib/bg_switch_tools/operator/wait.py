@@ -3,6 +3,7 @@ import time
 from collections.abc import Callable
 from typing import NamedTuple
 
+from bg_switch_tools.controller.announced_deploy import Announcement
 from bg_switch_tools.operator.conditions import Conditions
 from bg_switch_tools.switch.connection import Unreachable, ask
 from bg_switch_tools.switch.report_text import in_one_line
@@ -25,15 +26,15 @@ class WaitResult(NamedTuple):
     report: Report | None
 
 
-def nothing_comes() -> str | None:
+def nothing_comes() -> Announcement:
     """What a wait that knows of no plan takes for announced."""
-    return None
+    return Announcement()
 
 
 def wait_for(port: int, conditions: Conditions, limits: WaitLimits, see: Callable[[Report], None],
-             announced: Callable[[], str | None] = nothing_comes) -> WaitResult:
+             announced: Callable[[], Announcement] = nothing_comes) -> WaitResult:
     """Waits for conditions, as long as the limits say. `see` is given each report. `announced` gives the revision whose
-    deploy a plan announces: up to that deploy the wait goes on.
+    deploy a plan announces: up to that deploy the wait goes on, unless the deploy was refused.
 
     A switch that does not answer in time, or has no book yet, is asked again.
     """
@@ -49,11 +50,16 @@ def wait_for(port: int, conditions: Conditions, limits: WaitLimits, see: Callabl
             report, state = None, str(error)
         if report is not None:
             see(report)
-            outlook = conditions.outlook(report, coming)
+            outlook = conditions.outlook(report, coming.name)
             if outlook.holds or outlook.never:
                 return WaitResult(REACHED if outlook.holds else NEVER, outlook.never, report)
+        # what was overtaken may have been deployed by hand all the same
+        is_overtaken = coming.overtaken and (report is None or report.newest.name not in conditions.revisions)
+        if why := coming.refusal or (coming.overtaken if is_overtaken else ""):
+            return WaitResult(NEVER, f"{' '.join(conditions.texts)} cannot hold by the plan: {why}", report)
         if time.monotonic() + PAUSE >= deadline:
             break
         time.sleep(PAUSE)
-    state += f"; the controller has not deployed {coming} by the plan yet" if coming else ""
+    state += f"; the controller has not deployed {coming.name} by the plan yet" if coming.name else ""
+    state += "".join(f"; {why}" for why in (coming.trouble, coming.absence) if why)
     return WaitResult(TOO_LATE, f"{' '.join(conditions.texts)} does not hold after {limits.whole:g} seconds: {state}", report)

@@ -136,7 +136,7 @@ def _numbers_of(types: tuple[type, ...]) -> Callable[[Sequence[object]], tuple[f
 
 
 def _values(told: Mapping[str, object]) -> tuple[object, ...]:
-    """The values of the members of a line. `NoEntry` where one is missing or wrong: what `_fault` says, found in less time."""
+    """The values of the members of a line. `NoLogEntry` where one is missing or wrong: what `_fault` says, found in less time."""
     try:
         values = (*REQUIRED(told), *map(told.get, OPTIONAL))
     except KeyError:
@@ -160,7 +160,7 @@ def _object(line: bytes) -> dict[str, object]:
 
 
 def read_line(line: bytes) -> LogEntry | LostLines:
-    """The values of a line, without its end. `NoEntry` where it is none of an access log; further members are passed over."""
+    """The values of a line, without its end. `NoLogEntry` where it is none of an access log; further members are passed over."""
     told = _object(line)
     lost = told.get("lost")
     if type(lost) is int and 0 <= lost < GREATEST:

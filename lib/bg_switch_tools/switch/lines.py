@@ -13,7 +13,7 @@ LINES = (
     Line("open NAME PORT..", "opens the book with revision 1, which has one port for each replica", "open web-v1 9101 9102"),
     Line("deploy NAME PORT..", "deploys a new revision, or the one of this name again (undo)",
          "deploy web-v2 9201 9202"),
-    Line("available R N", "says that N endpoints of revision R can take requests: the first N, or others with --redispatch", "available 2 2"),
+    Line("available R N", "says that N endpoints of revision R can take requests: the first N, or the first N that are not down", "available 2 2"),
     Line("tick M", "says that the time is M seconds from the start", "tick 30"),
     Line("verdict pre RESULT", "ends the analysis before the switch: successful, failed or error", "verdict pre successful"),
     Line("verdict post RESULT", "ends the analysis after the switch: successful, failed or error", "verdict post failed"),
@@ -78,6 +78,7 @@ HINTS = {
     "HistoryFull": "upgrade to a second switch (docs/OPERATING.md)",
     "NotOpen": "open NAME PORT.. opens one",
     "OutOfMemory": "nothing has changed",
+    "PortsDiffer": "deploy these ports by a new name",
     "UnknownWord": "help lists the lines",
 }
 

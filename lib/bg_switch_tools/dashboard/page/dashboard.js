@@ -1,4 +1,4 @@
-// Keeps the page as the events of the dashboard tell it, and sends the orders of its buttons.
+// Keeps the page as the events of the dashboard tell it, and sends the commands of its buttons.
 
 import {byId, chip, clock, element, keepColours, milliseconds, percent, rate, setText, span, titleOf} from "./parts.js";
 import {DurationsChart, RequestsChart} from "./charts.js";
@@ -7,10 +7,10 @@ import {listen, prepareScheme, showLink} from "./frame.js";
 const TOKEN = document.querySelector("meta[name=token]").content;
 const SETTLES = 0.7;  // seconds until the last line of a slot has come
 const MINUTES = [1, 3, 10];
-const TOLD = 20000;  // milliseconds for which the reply to an order is shown
+const TOLD = 20000;  // milliseconds for which the reply to a command is shown
 const MANY_ERRORS = 0.01;  // a share that is shown in red
 const MOST_HAPPENED = 200, MOST_FAILED = 50;
-const ORDERS = [
+const COMMANDS = [
   {line: "promote", title: "Promote", kind: "main"},
   {line: "promote full", title: "Promote full", kind: ""},
   {line: "retry", title: "Retry", kind: ""},
@@ -30,7 +30,7 @@ let state = null;
 let slots = new Map();
 let minutes = 10;
 let telling = 0;  // the timer of the reply that is shown
-let asked = null;  // the order of the question that is open
+let asked = null;  // what is sent if the question that is open is confirmed
 
 const charts = [new RequestsChart("requests", "Requests a second"), new DurationsChart("durations", "Duration in milliseconds")];
 
@@ -80,11 +80,12 @@ function show(hasHappened, hasFailed) {
   if (hasFailed) showFailed();
 }
 
-// What is wrong with a switch that answers, and with the dashboard's own looks; empty where nothing is.
+// What is wrong with a switch that answers, with its controller, and with the dashboard's own looks; empty where nothing is.
 function alarm() {
   if (!state) return "";
   const fault = state.fault ? [`The dashboard could not look at the switch: ${state.fault}. What is shown may be from before.`] : [];
-  return [...state.alarms.map((each) => each.text), ...fault].join(" ");
+  const faults = state.controller ? state.controller.faults : [];
+  return [...state.alarms.map((each) => each.text), ...faults, ...fault].join(" ");
 }
 
 // What is to be said of a dashboard or a switch that gives no answer; empty where both do.
@@ -98,7 +99,7 @@ function silence(isSilent) {
 function showAnswers(isSilent = false) {
   const silent = silence(isSilent);
   showLink(silent, alarm(), state && state.read_only ? "live, read only" : "live");
-  if (silent) showOrders(false);
+  if (silent) showCommands(false);
 }
 
 function newest() {
@@ -123,21 +124,21 @@ function showAttempt() {
       {class: step.state, "data-step": step.name, "aria-current": step.state === "current" ? "step" : false},
       span("dot", ""), span("step-title", step.title), span("unseen", `, ${step.state}`))));
   }
-  showOrders(state.switch.answers);
+  showCommands(state.switch.answers);
 }
 
-function showOrders(mayOrder) {
+function showCommands(maySend) {
   const box = byId("orders");
   box.hidden = Boolean(state && state.read_only);
   if (!state || state.read_only) return;
   if (!box.children.length) {
-    box.append(...ORDERS.map((order) => {
-      const button = element("button", {type: "button", class: order.kind, "data-order": order.line, text: order.title});
-      button.addEventListener("click", () => ask(order));
+    box.append(...COMMANDS.map((command) => {
+      const button = element("button", {type: "button", class: command.kind, "data-order": command.line, text: command.title});
+      button.addEventListener("click", () => ask(command));
       return button;
     }));
   }
-  for (const button of box.children) button.disabled = !mayOrder || !state.orders[button.dataset.order];
+  for (const button of box.children) button.disabled = !maySend || !state.orders[button.dataset.order];
 }
 
 function showServices() {
@@ -241,7 +242,7 @@ function showFailed() {
   byId("failed").querySelector("tbody").replaceChildren(...[...state.failed].reverse().map(failedRow));
 }
 
-// Orders
+// Commands
 
 function question(line) {
   const {active, stable} = state.report, name = newest().name;
@@ -255,13 +256,13 @@ function question(line) {
   }[line];
 }
 
-function ask(order) {
-  const [title, text] = question(order.line);
-  asked = {order: order.line, revision: newest().number};
+function ask(command) {
+  const [title, text] = question(command.line);
+  asked = {order: command.line, revision: newest().number};
   setText("question-title", title);
   setText("question-text", text);
-  setText("confirm", order.title);
-  byId("confirm").className = order.kind || "main";
+  setText("confirm", command.title);
+  byId("confirm").className = command.kind || "main";
   byId("question").showModal();
   byId("cancel").focus();
 }
@@ -273,17 +274,18 @@ function tell(text, kind) {
   telling = setTimeout(() => setText("reply", ""), TOLD);
 }
 
-async function send(order) {
-  tell(`${order.order}: sent`, "");
+async function send(command) {
+  const line = command.order;
+  tell(`${line}: sent`, "");
   try {
     const headers = {"Content-Type": "application/json", "X-Token": TOKEN};
-    const answer = await fetch("api/order", {method: "POST", headers, body: JSON.stringify(order)});
+    const answer = await fetch("api/order", {method: "POST", headers, body: JSON.stringify(command)});
     const told = await answer.json();
-    if (!answer.ok) tell(`${order.order}: ${told.fault}`, "bad");
-    else if (told.carried_out) tell(`${order.order}: carried out`, "good");
-    else tell(`${order.order}: ${told.reply}: ${told.meaning}`, "bad");
+    if (!answer.ok) tell(`${line}: ${told.fault}`, "bad");
+    else if (told.carried_out) tell(`${line}: carried out`, "good");
+    else tell(`${line}: ${told.reply}: ${told.meaning}`, "bad");
   } catch (error) {
-    tell(`${order.order}: the dashboard gives no answer`, "bad");
+    tell(`${line}: the dashboard gives no answer`, "bad");
   }
 }
 

@@ -34,8 +34,8 @@ export function setText(id, text) {
 }
 
 export function clock(seconds) {
-  const form = {hour: "2-digit", minute: "2-digit", second: "2-digit", hour12: false};
-  return new Date(seconds * 1000).toLocaleTimeString([], form);
+  const options = {hour: "2-digit", minute: "2-digit", second: "2-digit", hour12: false};
+  return new Date(seconds * 1000).toLocaleTimeString([], options);
 }
 
 // A time, with its day where that is not today.
