@@ -318,7 +318,8 @@ def examples() -> None:
     try:
         assert running.stdout is not None
         plan = next(line for line in running.stdout if line.startswith("the plan is ")).split()[-1]
-        stable = ["bgctl", "wait", "stable=media-v2", "--control", "18082", "--timeout", "60"]
+        # with the plan, the wait knows that media-v2 is still to be deployed
+        stable = ["bgctl", "wait", "stable=media-v2", "--plan", plan, "--timeout", "60"]
         check("controller/run.sh", told(stable)[1], 0)
         released, status = told([str(folder / "ci" / "release.sh"), "18082", plan, "media-v2", "19201", "19202"])
         check("ci/release.sh", (status, "steady: active media-v2" in released), (0, True))

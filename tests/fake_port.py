@@ -1,9 +1,10 @@
 """A control port that a thread answers at, as the switch does: one connection after the other."""
-import random
 import socket
 import threading
 from collections.abc import Callable, Iterable, Sequence
 from types import TracebackType
+
+from support.reserved import reserved
 
 REPORT = ("moment 0", "phase steady", "active 1", "preview 1", "stable 1", "newest 1",
           "revision 1 web-v1 desired 2 available 2 open 0 deadline none", "end")
@@ -18,15 +19,8 @@ PORTS = range(10_000, 20_000)
 
 
 def free_port() -> int:
-    """A port that nothing listens at."""
-    while True:
-        port = random.choice(PORTS)
-        with socket.socket() as one:
-            try:
-                one.bind(("127.0.0.1", port))
-            except OSError:
-                continue
-        return port
+    """A port that nothing listens at, and that no other test takes while this process runs."""
+    return reserved(PORTS)
 
 
 class FakePort:

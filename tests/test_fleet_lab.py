@@ -73,15 +73,17 @@ class Base(unittest.TestCase):
         self.assertTrue(comes(lambda: lab.send(host, f"open web-1 {first} {second}").printed == "ok 0\n"))
         self.assertEqual(lab.send(host, "available 1 2").printed, "ok 0\n")
 
-    def is_seen(self, lab: Lab, host: str, active: str) -> bool:
-        return comes(lambda: lab.looks()[host].active == active)
+    def check_seen(self, lab: Lab, host: str, active: str) -> None:
+        """The looks at a switch come to show this active revision."""
+        has_come = comes(lambda: lab.looks()[host].active == active)
+        self.assertTrue(has_come, f"{host}: {lab.looks()}")
 
     def play(self) -> None:
         with tempfile.TemporaryDirectory() as folder:
             with lab_in(folder, self.network()) as lab:
                 self.open_all(lab)
                 for host in HOSTS:
-                    self.assertTrue(self.is_seen(lab, host, "web-1"), host)
+                    self.check_seen(lab, host, "web-1")
                 lab.start_clients()
                 lab.etcd.put("plan", "first")
                 self.check_deploy(lab)
@@ -110,15 +112,15 @@ class Base(unittest.TestCase):
         first, second = lab.ports_of(2)
         for line in (f"deploy web-2 {first} {second}", "available 2 2", "verdict pre successful", "promote"):
             self.assertRegex(lab.send("a", line).printed, r"^ok \d\n$")
-        self.assertTrue(self.is_seen(lab, "a", "web-2"))
-        self.assertTrue(self.is_seen(lab, "b", "web-1"))
+        self.check_seen(lab, "a", "web-2")
+        self.check_seen(lab, "b", "web-1")
 
     def check_killed_switch(self, lab: Lab) -> None:
         lab.kill("switch", "b")
         self.assertTrue(comes(lambda: not lab.looks()["b"].is_up))
         lab.restart("switch", "b")
         self.open(lab, "b")
-        self.assertTrue(self.is_seen(lab, "b", "web-1"))
+        self.check_seen(lab, "b", "web-1")
 
     def check_etcd(self, lab: Lab) -> None:
         lab.kill("etcd", "c")

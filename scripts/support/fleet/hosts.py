@@ -6,7 +6,6 @@ each host and etcd, and are what is cut: bytes stop, and connections stay open, 
 import contextlib
 import ctypes
 import os
-import random
 import selectors
 import shutil
 import socket
@@ -15,11 +14,12 @@ import threading
 from collections.abc import Iterator, Sequence
 from typing import NamedTuple, Protocol
 
+from support.reserved import reserved, reserved_block
+
 LOOPBACK = "127.0.0.1"
 # Below the ports that the system gives to connections by itself, and below those of the other scripts. Single addresses and blocks
-# have ranges of their own, so that none that was found free is taken by the other kind.
-FIRST_PORT, LAST_PORT = 10_000, 14_000
-FIRST_OF_BLOCKS, LAST_OF_BLOCKS = 14_000, 20_000
+# have ranges of their own, so that single ones leave room for blocks.
+SINGLE_PORTS, BLOCKS = range(10_000, 14_000), range(14_000, 20_000)
 PIECE = 65536
 
 
@@ -193,26 +193,13 @@ class Relay:
 
 
 def free_addresses(count: int) -> list[Address]:
-    """Addresses of loopback that nothing listens at."""
-    sockets, found = list[socket.socket](), list[Address]()
-    while len(found) < count:
-        sockets.append(socket.socket())
-        with contextlib.suppress(OSError):
-            sockets[-1].bind((LOOPBACK, random.randrange(FIRST_PORT, LAST_PORT)))
-            found.append(Address(*sockets[-1].getsockname()))
-    for one in sockets:
-        one.close()
-    return found
+    """Addresses of loopback that nothing listens at, reserved for this process."""
+    return [Address(LOOPBACK, reserved(SINGLE_PORTS)) for _ in range(count)]
 
 
 def free_block(count: int) -> int:
-    """The first of so many ports of loopback, one after the other, that nothing listens at."""
-    while True:
-        first = random.randrange(FIRST_OF_BLOCKS, LAST_OF_BLOCKS - count)
-        with contextlib.ExitStack() as stack, contextlib.suppress(OSError):
-            for port in range(first, first + count):
-                stack.enter_context(socket.socket()).bind((LOOPBACK, port))
-            return first
+    """The first of so many ports of loopback, one after the other, that nothing listens at, reserved for this process."""
+    return reserved_block(BLOCKS, count)
 
 
 class OneHost:
